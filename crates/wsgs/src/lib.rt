@@ -38,3 +38,31 @@ pub struct Ticked {
     pub outputs: [u8; 32],
     pub first_pass: u32,
 }
+
+// What a number field of an event record reads as: one to ten decimal digits, or nothing.
+pub enum Field {
+    Number(u64),
+    Bad,
+}
+
+// The operations of the event program.
+pub enum Operation {
+    Start,
+    Pipe,
+    Book,
+    Release,
+    Arrive,
+    Tick,
+}
+
+// What the first field of an event record names.
+pub enum Named {
+    Known(Operation),
+    Unknown,
+}
+
+// What an event record says: an operation with the numbers of its three other fields, or nothing readable.
+pub enum Reading {
+    Asks(Operation, u64, u64, u64),
+    Unreadable,
+}
