@@ -3,3 +3,4 @@ pub mod Places
 pub mod BitLaws
 pub mod TrailingLaws
 pub mod Scan
+pub mod MaskLaws

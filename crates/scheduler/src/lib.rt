@@ -1,2 +1,4 @@
 // The ticks of both forms.
+mod charges;
+mod masks;
 mod search;
