@@ -4,3 +4,5 @@ pub mod BitLaws
 pub mod TrailingLaws
 pub mod Scan
 pub mod MaskLaws
+pub mod Listed
+pub mod Marked
