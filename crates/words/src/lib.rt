@@ -30,8 +30,8 @@ fn clear_first(run: &mut [u32], count: usize)
     requires { ⌜ count ≤ length (now run) ⌝ }
     ensures { λ _. ⌜ now (run .exit) ≡ cleared count (now (run .entry)) ⌝ }
 {
-    for i in 0..count {
-        run[i] = 0;
+    for at in 0..count {
+        run[at] = 0;
     }
 }
 

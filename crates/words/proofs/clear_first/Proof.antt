@@ -1,4 +1,4 @@
--- `words::clear_first` meets its contract. The loop's invariant: the first i words are cleared. Assumes nothing.
+-- `words::clear_first` meets its contract. The loop's invariant: the first words, up to at, are cleared. Assumes nothing.
 use Prim.Native.Nat.{ℕ, _≤_, _-_}
 use mathlib.Core.Path.{_≡_, refl, ap, _∙_}
 use native.Mathlib.Numerals.{add-one}
@@ -11,10 +11,10 @@ use Rattle.words.proofs.clear_first.Statement.{statement}
 use Rattle.words.proofs.clear_first.Tie as tie
 
 abbrev Inv-loop : tie.InvT-loop
-Inv-loop run₀ count i₀ run i = (i ≤ count) × (run ≡ cleared i run₀) × (length run ≡ length run₀)
+Inv-loop run₀ count at₀ run at = (at ≤ count) × (run ≡ cleared at run₀) × (length run ≡ length run₀)
 
 abbrev μ-loop : tie.MeasureT-loop
-μ-loop run₀ count i₀ run i = count - i
+μ-loop run₀ count at₀ run at = count - at
 
 loop-holds : tie.Need-loop-holds Inv-loop μ-loop
 loop-holds c = (search needs, refl, refl)
@@ -25,8 +25,8 @@ mul-run c = search needs
 slice-write-run : tie.Need-slice-write-run Inv-loop μ-loop
 slice-write-run c = search needs
 
-add-i : tie.Need-add-i Inv-loop μ-loop
-add-i c = search needs
+add-at : tie.Need-add-at Inv-loop μ-loop
+add-at c = search needs
 
 loop-less : tie.Need-loop-less Inv-loop μ-loop
 loop-less c = search needs
@@ -35,7 +35,7 @@ loop-again : tie.Need-loop-again Inv-loop μ-loop
 loop-again c =
     let l = c .before in (
       omega arith,
-      rw (l .loop .inv .1, add-one (l .loop .i)) (clear-more (l .before .args .run .now) (l .loop .i) (omega arith)),
+      rw (l .loop .inv .1, add-one (l .loop .at)) (clear-more (l .before .args .run .now) (l .loop .at) (omega arith)),
       simp length-set (l .loop .inv .2),
     )
 
@@ -45,7 +45,7 @@ same-length c = search needs
 returns : tie.Need-returns Inv-loop μ-loop
 returns c =
     let s = c .before .before .args in
-    let e : c .before .loop .i ≡ s .count = omega arith in
+    let e : c .before .loop .at ≡ s .count = omega arith in
     c .before .loop .inv .1 ∙ ap (λ (k : ℕ). cleared k (s .run .now)) e
 
 pub clear-first-spec : {M : Type 1} → statement M
@@ -57,7 +57,7 @@ clear-first-spec =
     loop-holds
     mul-run
     slice-write-run
-    add-i
+    add-at
     loop-less
     loop-again
     same-length
