@@ -6,3 +6,4 @@ pub mod Scan
 pub mod MaskLaws
 pub mod Listed
 pub mod Marked
+pub mod Spent
