@@ -7,3 +7,5 @@ pub mod MaskLaws
 pub mod Listed
 pub mod Marked
 pub mod Spent
+pub mod Held
+pub mod Choice

@@ -2,3 +2,4 @@
 mod charges;
 mod masks;
 mod search;
+mod turns;
