@@ -9,3 +9,4 @@ pub mod Marked
 pub mod Spent
 pub mod Held
 pub mod Choice
+pub mod PassLaws

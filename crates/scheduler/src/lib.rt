@@ -1,5 +1,6 @@
 // The ticks of both forms.
 mod charges;
 mod masks;
+mod passes;
 mod search;
 mod turns;
