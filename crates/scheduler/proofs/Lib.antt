@@ -10,3 +10,5 @@ pub mod Spent
 pub mod Held
 pub mod Choice
 pub mod PassLaws
+pub mod Asked
+pub mod SlotLaws

@@ -1,5 +1,6 @@
 // The ticks of both forms.
 mod charges;
+pub mod direct;
 mod masks;
 mod passes;
 mod search;
