@@ -13,5 +13,7 @@ pub mod Ledger
 pub mod Seen
 pub mod Claims
 pub mod Edges
+pub mod Examples
+pub mod Faults
 pub mod Text
 pub mod Program

@@ -1,0 +1,2 @@
+-- One computed theorem for each seed.
+pub mod Seeds

@@ -1,0 +1,1 @@
+// The definitions of crates/wsgs against the second program: theorems alone, see proofs/Seeds.antt.

@@ -1,0 +1,80 @@
+-- What both forms show of a whole list of calls of one form that opens with an accepted start: that its answers follow the nine steps, and
+-- so give no output twice and are maximal. Each list has a trace, which each form reads in its own way. Assumes nothing.
+use mathlib.Core.Path.{_≡_, sym, _∙_}
+use mathlib.Core.Bool.{Bool, true, false}
+use mathlib.Core.List.{List}
+use mathlib.Core.Logic.{_≢_}
+use Prim.Native.Nat.{ℕ, _*_, _≤_}
+use native.Mathlib.Omega.{arith}
+use native.Mathlib.Decide.{decLe}
+use lib.Dec.{T, leb}
+use Rattle.wsgs.specs.Basics.{pick, Port}
+use Rattle.wsgs.specs.Steps.{Matching, nobody, nine-steps}
+use Rattle.wsgs.specs.Switch.{Switch, Form, direct, pipelined, Call}
+use Rattle.wsgs.specs.Ledger.{Ledger, ledger-of, answered, has-turns, tick-two}
+use Rattle.wsgs.specs.Seen.{Seen, seen, steps-answer, early-answer}
+use Rattle.wsgs.specs.Claims.{all-of-form, opens, Same, PipelinedBegins, NoOutputTwice, MatchingMaximal}
+use Rattle.wsgs.proofs.Steps.{once, maximal}
+use Rattle.wsgs.proofs.Share.{Fair}
+use Rattle.wsgs.proofs.Trace.{trace-of}
+use Rattle.wsgs.proofs.Direct.FollowsSteps as DirectForm
+use Rattle.wsgs.proofs.Pipelined.FollowsSteps as PipelinedForm
+
+-- what both forms show of every list of calls
+pub fair : (m : Form) (cs : List Call) (s : Switch) → T (all-of-form m cs) → T (opens cs s) → Fair (ledger-of cs s) (seen cs s)
+fair direct cs s o t = let w = trace-of direct cs s o t in DirectForm.fair (ledger-of cs s) (seen cs s) (w .0) (w .1)
+fair pipelined cs s o t = let w = trace-of pipelined cs s o t in PipelinedForm.fair (ledger-of cs s) (seen cs s) (w .0) (w .1)
+
+-- the first 2n slots of the pipelined form
+pub begins : PipelinedBegins
+begins cs s o t = let w = trace-of pipelined cs s o t in PipelinedForm.begins (ledger-of cs s) (seen cs s) (w .0) (w .1)
+
+-- a matching gives no output to two inputs
+abbrev Once : ℕ → Matching → Type 0
+Once n a = (i x : ℕ) → Port n i → Port n x → i ≢ x → 1 ≤ a .output i → a .output i ≢ a .output x
+
+-- one that agrees with such a matching on every input is one too
+once-like : (n : ℕ) (a b : Matching) → ((i : ℕ) → Port n i → Same i a b) → Once n b → Once n a
+once-like n a b same h i x pi px d k e = h i x pi px d (omega (arith, same i pi .output)) (sym (same i pi .output) ∙ e ∙ same x px .output)
+
+-- the answer of an early slot is one
+early-once : (l : Ledger) (h : Seen) (k : ℕ) → Once (l .ports) (early-answer l h k)
+unfolding early-answer
+early-once l h k = go (leb k (l .ports))
+  where
+    go : (b : Bool) → Once (l .ports) (pick b nobody (nine-steps (l .ports) (λ i j. 0) (λ i j. 0) (λ i j. h .second (tick-two l k i) i j)))
+    go true = λ i x pi px d g e. omega arith
+    go false = once (l .ports) _ _ _
+
+-- so is that of a slot with turns
+late-once : (m : Form) (cs : List Call) (s : Switch) (o : T (all-of-form m cs)) (t : T (opens cs s)) (k : ℕ) → T (answered (ledger-of cs s) k)
+    → T (has-turns (ledger-of cs s) k) → Once (ledger-of cs s .ports) (ledger-of cs s .answer k)
+unfolding steps-answer
+late-once m cs s o t k a b =
+    let l = ledger-of cs s in
+    once-like (l .ports) (l .answer k) (steps-answer l (seen cs s) k) (λ i pi. fair m cs s o t .follows k i a b pi) (once (l .ports) _ _ _)
+
+-- so no answered slot gives an output to two inputs
+pub once-answered : NoOutputTwice
+unfolding has-turns
+once-answered direct cs s o t k i x a =
+    let w = trace-of direct cs s o t in
+    late-once direct cs s o t k a (rw (w .1 .form) tt) i x
+once-answered pipelined cs s o t k i x a = go (decLe k (2 * l .ports)) i x
+  where
+    l : Ledger
+    l = ledger-of cs s
+
+    go : Dec (k ≤ 2 * l .ports) → Once (l .ports) (l .answer k)
+    go (yes b) = once-like (l .ports) (l .answer k) (early-answer l (seen cs s) k) (λ i. begins cs s o t k i a b) (early-once l (seen cs s) k)
+    go (no b) =
+        let w = trace-of pipelined cs s o t in
+        late-once pipelined cs s o t k a (PipelinedForm.late-turns l (seen cs s) (w .0) (w .1) k (omega arith))
+
+-- and the matching of one with turns of both passes is maximal
+pub maximal-answered : MatchingMaximal
+unfolding steps-answer
+maximal-answered m cs s o t k i j a b pi pj e d =
+    let l = ledger-of cs s in
+    let same : (x : ℕ) → Port (l .ports) x → Same x (l .answer k) (steps-answer l (seen cs s) k) = λ x px. fair m cs s o t .follows k x a b px in
+    maximal (l .ports) _ _ _ i j pi pj (sym (same i pi .output) ∙ e) (λ x px z. d x px (same x px .output ∙ z))
