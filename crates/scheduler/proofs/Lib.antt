@@ -2,7 +2,7 @@
 pub mod Places
 pub mod BitLaws
 pub mod TrailingLaws
-pub mod Scan
+pub mod Ready
 pub mod MaskLaws
 pub mod Listed
 pub mod Marked

@@ -14,7 +14,7 @@ use Rattle.wsgs.specs.Steps.{marked}
 use Rattle.wsgs.proofs.Laws.Tests.{updated-at, updated-other}
 
 -- the highest bit and the word below it
-marked-suc : (n : ℕ) (p : ℕ → Bool) → marked (suc n) p ≡ bit (p (suc n)) * 2 ^ n + marked n p
+pub marked-suc : (n : ℕ) (p : ℕ → Bool) → marked (suc n) p ≡ bit (p (suc n)) * 2 ^ n + marked n p
 unfolding marked sum
 marked-suc n p =
     let e : suc n - 1 ≡ n = omega arith in

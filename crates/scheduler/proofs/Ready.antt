@@ -1,0 +1,143 @@
+-- The columns of a row in which the words of two runs are above 0 as the bits of a word, one column after the other; and the lowest bit that
+-- this word has in common with the free outputs, as the lowest open output. Assumes nothing.
+use mathlib.Core.Path.{_≡_, refl, sym, _∙_, ap, ap₂}
+use mathlib.Core.Bool.{Bool, true, false, _&&_}
+use mathlib.Core.List.{List, [], _∷_}
+use mathlib.Core.Logic.{_≢_}
+use Prim.Native.Nat.{ℕ, zero, suc, _+_, _-_, _*_, _/_, _%_, _^_, _≤_, _<_}
+use native.Mathlib.Decide.{ℕ-discrete}
+use native.Mathlib.Numerals.{add-one}
+use native.Mathlib.Omega.{arith}
+use lib.Bits.{bitAnd, bitOr, and-shr, and-mod, or-shifted-r}
+use lib.Count.{trailingZeros}
+use lib.Dec.{eqb, ltb}
+use lib.ListN.{getD}
+use lib.Pow.{pow-lt}
+use mir.Val.{boolByte}
+use Rattle.wsgs.specs.Basics.{bit, least, lowest}
+use Rattle.wsgs.specs.Words.{place, word}
+use Rattle.wsgs.specs.Steps.{marked}
+use Rattle.scheduler.specs.Masks.{is-open, ready-mask}
+use Rattle.scheduler.proofs.BitLaws.{bits, mask-bit}
+use Rattle.scheduler.proofs.Marked.{marked-suc, marked-lt, marked-none, marked-bit}
+use Rattle.scheduler.proofs.TrailingLaws.{below-unset, lowest-set}
+
+-- the first of the m numbers from k on that passes the test
+least-found : (p : ℕ → Bool) (k m v : ℕ) → k ≤ v → v < k + m → p v ≡ true → ((y : ℕ) → k ≤ y → y < v → p y ≡ false) → v ≡ least p k m
+unfolding least
+least-found p k zero v a b t f = absurd (omega arith)
+least-found p k (suc m) v a b t f =
+    go (ℕ-discrete v k) (λ d. least-found p (suc k) m v (omega arith) (omega arith) t (λ y u w. f y (omega arith) w))
+  where
+    go : Dec (v ≡ k) → (v ≢ k → v ≡ least p (suc k) m) → v ≡ elim (p k) [ true ↦ k | false ↦ least p (suc k) m ]
+    go (yes e) r = rw (rw e at t) e
+    go (no d) r = rw (f k (omega arith) (omega arith)) (r d)
+
+-- none of them does
+least-absent : (p : ℕ → Bool) (k m : ℕ) → ((y : ℕ) → k ≤ y → y < k + m → p y ≡ false) → 0 ≡ least p k m
+unfolding least
+least-absent p k zero f = refl
+least-absent p k (suc m) f = rw (f k (omega arith) (omega arith), least) (least-absent p (suc k) m (λ y u w. f y (omega arith) (omega arith)))
+
+-- the test of column k, from 0, in the row that begins at a place: both words are above 0
+abbrev ready : List ℕ → List ℕ → ℕ → ℕ → Bool
+ready one two row k = ltb 0 (getD one (row + k) 0) && ltb 0 (getD two (row + k) 0)
+
+-- m powers of 2 from the k-th on, as a table, and one of them
+unfoldable pub powers : ℕ → ℕ → List ℕ
+powers k zero = []
+powers k (suc m) = 2 ^ k ∷ powers (suc k) m
+
+pub power-at : (k m j : ℕ) → j < m → getD (powers k m) j 0 ≡ 2 ^ (k + j)
+unfolding powers
+power-at k zero j h = absurd (omega arith)
+power-at k (suc m) zero h = ap (λ z. 2 ^ z) (omega arith)
+power-at k (suc m) (suc j) h = power-at (suc k) m j (omega arith) ∙ ap (λ z. 2 ^ z) (omega arith)
+
+-- no column has been looked at
+pub ready-start : (one two : List ℕ) (row : ℕ) → 0 ≡ ready-mask one two row 0
+unfolding ready-mask marked
+ready-start one two row = refl
+
+-- one column more, by an or with its bit
+mark-next : (n : ℕ) (p : ℕ → Bool) → bitOr (marked n p) (bit (p (suc n)) * 2 ^ n) ≡ marked (suc n) p
+mark-next n p = or-shifted-r (bit (p (suc n))) n (marked n p) (marked-lt n p) ∙ sym (marked-suc n p)
+
+-- both tests as bits
+and-bits : (a b : Bool) → bitAnd (boolByte a) (boolByte b) ≡ bit (a && b)
+and-bits true true = refl
+and-bits true false = refl
+and-bits false true = refl
+and-bits false false = refl
+
+-- such a bit at a column fits a word
+pub column-fits : (a b : Bool) (n v : ℕ) → v ≡ 2 ^ n → n < 32 → bitAnd (boolByte a) (boolByte b) * v < 2 ^ 32
+column-fits a b n v e h = rw (and-bits a b, e) (go (a && b))
+  where
+    go : (b : Bool) → bit b * 2 ^ n < 2 ^ 32
+    go true = omega (arith, pow-lt h)
+    go false = omega arith
+
+-- so the word of one column more
+pub ready-next : (one two : List ℕ) (row n w v : ℕ) → w ≡ ready-mask one two row n → v ≡ 2 ^ n
+    → bitOr w (bitAnd (boolByte (ltb 0 (getD one (row + n) 0))) (boolByte (ltb 0 (getD two (row + n) 0))) * v) ≡ ready-mask one two row (n + 1)
+unfolding ready-mask
+ready-next one two row n w v e f =
+    let d : suc n - 1 ≡ n = omega arith in
+    let p : ℕ → Bool = λ j. ready one two row (j - 1) in
+    rw (e, f, add-one n, and-bits (ltb 0 (getD one (row + n) 0)) (ltb 0 (getD two (row + n) 0)))
+    (ap (λ z. bitOr (marked n p) (bit (ready one two row z) * 2 ^ n)) (sym d) ∙ mark-next n p)
+
+-- its bits
+ready-bit : (one two : List ℕ) (row n k : ℕ) → k < n → bits (ready-mask one two row n) k ≡ ready one two row k
+unfolding ready-mask bits
+ready-bit one two row n k h =
+    let d : suc k - 1 ≡ k = omega arith in
+    ap (λ v. eqb v 1) (marked-bit n (λ j. ready one two row (j - 1)) k h) ∙ rw d (go (ready one two row k))
+  where
+    go : (b : Bool) → eqb (bit b) 1 ≡ b
+    go true = refl
+    go false = refl
+
+-- the bits that two words have in common
+common-bit : (a b k : ℕ) → bits (bitAnd a b) k ≡ (bits a k && bits b k)
+unfolding bits
+common-bit a b k =
+    ap (λ v. eqb v 1) (ap (λ x. x % 2) (and-shr a b k) ∙ and-mod (a / 2 ^ k) (b / 2 ^ k) 1)
+    ∙ go (a / 2 ^ k % 2) (b / 2 ^ k % 2) (omega arith) (omega arith)
+  where
+    go : (x y : ℕ) → x < 2 → y < 2 → eqb (bitAnd x y) 1 ≡ (eqb x 1 && eqb y 1)
+    go zero zero h l = refl
+    go zero (suc zero) h l = refl
+    go (suc zero) zero h l = refl
+    go (suc zero) (suc zero) h l = refl
+    go (suc (suc x)) y h l = absurd (omega arith)
+    go zero (suc (suc y)) h l = absurd (omega arith)
+    go (suc zero) (suc (suc y)) h l = absurd (omega arith)
+
+-- the free outputs that are ready for input i, and the lowest of them
+module _ (n : ℕ) (few : n ≤ 32) (free : ℕ) (one two : List ℕ) (i w : ℕ) (is : w ≡ bitAnd free (ready-mask one two ((i - 1) * n) n)) where
+  abbrev opens : ℕ → Bool
+  opens = is-open n free one two i
+
+  -- what is open to the input, by columns from 0
+  open-column : (k : ℕ) → k < n → opens (suc k) ≡ bits w k
+  unfolding is-open word place
+  open-column k h =
+      let e : suc k - 1 ≡ k = omega arith in
+      rw (mask-bit free k, e, is, common-bit free (ready-mask one two ((i - 1) * n) n) k, ready-bit one two ((i - 1) * n) n k h)
+
+  -- nothing below the lowest bit is open
+  closed : (y : ℕ) → 1 ≤ y → y < suc (trailingZeros 32 w) → y ≤ n → opens y ≡ false
+  closed zero u l v = absurd (omega arith)
+  closed (suc k) u l v = open-column k (omega arith) ∙ below-unset 32 w k (omega arith)
+
+  -- the lowest bit is a column
+  pub open-found : trailingZeros 32 w < n → suc (trailingZeros 32 w) ≡ lowest opens n
+  open-found h =
+      least-found opens 1 n (suc (trailingZeros 32 w)) (omega arith) (omega arith)
+      (open-column (trailingZeros 32 w) h ∙ lowest-set 32 w (omega arith)) (λ y u v. closed y u v (omega arith))
+
+  -- there is none
+  pub open-none : n ≤ trailingZeros 32 w → 0 ≡ lowest opens n
+  open-none h = least-absent opens 1 n (λ y u v. closed y u (omega arith) (omega arith))
