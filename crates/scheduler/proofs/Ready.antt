@@ -54,6 +54,10 @@ power-at k zero j h = absurd (omega arith)
 power-at k (suc m) zero h = ap (λ z. 2 ^ z) (omega arith)
 power-at k (suc m) (suc j) h = power-at (suc k) m j (omega arith) ∙ ap (λ z. 2 ^ z) (omega arith)
 
+-- of the table of all bits of a word
+pub column-bit : (table : List ℕ) (n : ℕ) → table ≡ powers 0 32 → n < 32 → getD table n 0 ≡ 2 ^ n
+column-bit table n e h = ap (λ t. getD t n 0) e ∙ power-at 0 32 n h ∙ ap (λ z. 2 ^ z) (omega arith)
+
 -- no column has been looked at
 pub ready-start : (one two : List ℕ) (row : ℕ) → 0 ≡ ready-mask one two row 0
 unfolding ready-mask marked

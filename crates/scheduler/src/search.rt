@@ -43,14 +43,6 @@ const BITS: [u32; 32] = [
     2147483648,
 ];
 
-// The bit of a column.
-fn bit_of(column: usize) -> u32
-    requires { ⌜ column < 32 ⌝ }
-    ensures { λ r. ⌜ r ≡ 2 ^ column ⌝ }
-{
-    BITS[column]
-}
-
 // The outputs whose words in both runs are above 0, in the row that begins at a place: column k from 0 as bit k. It reads the whole row, with no
 // branch and no shift, so that the compiler can use vector instructions.
 fn ready_outputs(ports: usize, row: usize, one: &[u32], two: &[u32]) -> u32
@@ -59,10 +51,11 @@ fn ready_outputs(ports: usize, row: usize, one: &[u32], two: &[u32]) -> u32
     requires { ⌜ row + ports ≤ length (now two) ⌝ }
     ensures { λ r. ⌜ r ≡ ready-mask (now (one .entry)) (now (two .entry)) row ports ⌝ }
 {
+    let bits = BITS;
     let mut ready = 0u32;
     for column in 0..ports {
         let both = (one[row + column] > 0) as u32 & (two[row + column] > 0) as u32;
-        ready |= both * bit_of(column);
+        ready |= both * bits[column];
     }
     ready
 }
