@@ -1,1 +1,2 @@
 // The ticks of both forms.
+mod flight;

@@ -1,0 +1,3 @@
+-- Laws behind the proofs of the ticks.
+pub mod FlightLaws
+pub mod FlightMasks
