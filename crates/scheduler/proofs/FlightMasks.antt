@@ -4,19 +4,20 @@ use mathlib.Core.Bool.{Bool, true, false, not, _||_}
 use mathlib.Core.List.{List}
 use mathlib.Core.Logic.{_≢_}
 use Prim.Native.Nat.{ℕ, zero, suc, _+_, _-_, _*_, _/_, _%_, _^_, _≤_, _<_}
-use native.Mathlib.Nat.{div-self, div-eq-of-lt, pow-suc, mul-mod-left, mod-lt, zero-div, one-mul}
+use native.Mathlib.Nat.{div-self, div-eq-of-lt, pow-suc, mul-mod-left, mod-lt, zero-div}
 use native.Mathlib.Numerals.{add-one}
 use native.Mathlib.Decide.{ℕ-discrete, decLt}
 use native.Mathlib.Omega.{arith}
 use borrow.Author.Tests.{eq-eqb, ne-eqb, eqb-true}
 use lib.Bits.{bitOr, bitXor, or-lt, or-shr, or-mod, xor-shr, xor-mod}
 use lib.Dec.{eqb, lit<}
-use lib.Pow.{pow-pos, pow-lt, pow-add, shl-exact, shl-shr, shr-shr}
+use lib.Pow.{pow-pos, pow-lt, pow-add, shl-shr, shr-shr}
 use lib.ListN.{getD}
 use Rattle.wsgs.specs.Basics.{some-of}
 use Rattle.wsgs.specs.Steps.{given}
 use Rattle.wsgs.specs.Pipelined.{output-in, flight-place, in-flight, reserved, standing}
 use Rattle.scheduler.specs.Masks.{in-mask}
+use Rattle.scheduler.proofs.BitLaws.{bits, one-shl}
 
 -- bit k of 2 ^ j
 power-bit : (j k : ℕ) → eqb (2 ^ j / 2 ^ k % 2) 1 ≡ eqb j k
@@ -46,19 +47,15 @@ xor-digit zero q = refl
 xor-digit (suc zero) q = refl
 xor-digit (suc (suc y)) q = absurd (omega arith)
 
--- output j stands in the word
-unfoldable pub marks : ℕ → ℕ → Bool
-marks w j = eqb (w / 2 ^ j % 2) 1
-
 -- no output stands in 0
-pub marks-none : (j : ℕ) → marks 0 j ≡ false
-unfolding marks
-marks-none j = rw (zero-div (2 ^ j))
+bits-none : (j : ℕ) → bits 0 j ≡ false
+unfolding bits
+bits-none j = rw (zero-div (2 ^ j))
 
 -- one more
-pub marks-more : (w o j : ℕ) → marks (bitOr w (2 ^ o)) j ≡ (eqb o j || marks w j)
-unfolding marks
-marks-more w o j =
+bits-more : (w o j : ℕ) → bits (bitOr w (2 ^ o)) j ≡ (eqb o j || bits w j)
+unfolding bits
+bits-more w o j =
     ap (λ x. eqb (x % 2) 1) (or-shr w (2 ^ o) j)
     ∙ ap (λ x. eqb x 1) (or-mod (w / 2 ^ j) (2 ^ o / 2 ^ j) 1)
     ∙ or-digit (w / 2 ^ j % 2) (2 ^ o / 2 ^ j % 2) (mod-lt (w / 2 ^ j) (omega arith)) (mod-lt (2 ^ o / 2 ^ j) (omega arith))
@@ -67,29 +64,29 @@ marks-more w o j =
 -- the outputs that the inputs 1..column have for slot s stand in the word w
 pub record Gathered (n s : ℕ) (flight : List ℕ) (column w : ℕ) : Type 0 where
   pub small : w < 2 ^ 33
-  pub stand : (j : ℕ) → marks w j ≡ given (reserved n flight s) column j
+  pub stand : (j : ℕ) → bits w j ≡ given (reserved n flight s) column j
 
 module _ (n s : ℕ) (flight : List ℕ) where
   pub gathered-none : Gathered n s flight 0 0
   unfolding some-of
-  gathered-none = record { small = lit< tt; stand = marks-none }
+  gathered-none = record { small = lit< tt; stand = bits-none }
 
   -- those of one input more, whose word in flight is read as o
   pub gathered-more : (column w o row : ℕ) → row ≡ s % (2 * n) * n → o ≡ output-in n (getD flight (row + column) 0) → o ≤ 32
       → Gathered n s flight column w → Gathered n s flight (column + 1) (bitOr w ((1 * 2 ^ o) % 2 ^ 64))
   unfolding some-of in-flight flight-place
   gathered-more column w o row place read low g =
-      rw (shl-exact {a = 1} 1 o 64 (omega arith) (omega arith), one-mul (2 ^ o))
+      rw (one-shl 64 o (omega arith))
       (record {
         small = or-lt 33 w (2 ^ o) (g .small) (pow-lt {i = o} {j = 33} (omega arith));
         stand = λ j.
-            rw (add-one column, marks-more w o j, g .stand j, read, place)
+            rw (add-one column, bits-more w o j, g .stand j, read, place)
             (ap (λ x. eqb (output-in n (getD flight (s % (2 * n) * n + x) 0)) j || given (reserved n flight s) column j) (omega arith));
       })
 
 -- those of a mask that do not stand in it
-unmarked : (all w j : ℕ) → 1 ≤ j → in-mask all j ≡ true → in-mask (bitXor all (w / 2 ^ 1)) j ≡ not (marks w j)
-unfolding in-mask marks
+unmarked : (all w j : ℕ) → 1 ≤ j → in-mask all j ≡ true → in-mask (bitXor all (w / 2 ^ 1)) j ≡ not (bits w j)
+unfolding in-mask bits
 unmarked all w j h e =
     let k = j - 1 in
     let up : 1 + k ≡ j = omega arith in

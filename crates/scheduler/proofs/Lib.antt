@@ -1,3 +1,8 @@
--- Laws behind the proofs of the ticks.
+-- Laws that the functions' proofs cite.
+pub mod Places
+pub mod BitLaws
+pub mod TrailingLaws
+pub mod Scan
+pub mod MaskLaws
 pub mod FlightLaws
 pub mod FlightMasks

@@ -1,12 +1,13 @@
 // The rows in flight: 2N rows of N words, row (s mod 2N) for slot s. A word is 0 for none, j for output j by pass two, and 100 + j by pass one;
 // any other is read as 0.
 ghost use mathlib.Core.Path.{_≡_};
-ghost use mathlib.Core.Bool.{true, not};
+ghost use mathlib.Core.Bool.{not};
 ghost use Prim.Native.Nat.{ℕ, _*_, _%_, _≤_};
 ghost use lib.ListN.{length};
 ghost use Rattle.wsgs.specs.Basics.{Port};
 ghost use Rattle.wsgs.specs.Pipelined.{by-first, output-in, standing};
 ghost use Rattle.scheduler.specs.Masks.{in-mask};
+use crate::masks::all_free;
 use wsgs::Output;
 
 // Where the row of a slot begins.
@@ -39,13 +40,6 @@ pub fn output_of(ports: usize, word: u32) -> Output
         return Output(word as u64);
     }
     Output(0)
-}
-
-fn all_free(ports: usize) -> u32
-    requires { ⌜ ports ≤ 32 ⌝ }
-    ensures { λ r. ⌜ ((j : ℕ) → Port ports j → in-mask r j ≡ true) ⌝ }
-{
-    ((1u64 << ports) - 1) as u32
 }
 
 // The outputs that are free for a slot: those that do not stand in its row. The row is gathered with bit j for output j, and bit 0 for none.

@@ -1,2 +1,5 @@
 // The ticks of both forms.
+mod charges;
 mod flight;
+mod masks;
+mod search;

@@ -7,7 +7,7 @@ use Rattle.scheduler.proofs.flight.free_for.Statement.{statement}
 use Rattle.scheduler.proofs.flight.free_for.Tie as tie
 use Rattle.scheduler.proofs.flight.free_for.Reads as reads
 use Rattle.scheduler.proofs.flight.free_for.Lts as lts
-use Rattle.scheduler.proofs.flight.all_free.Reads as all-free-reads
+use Rattle.scheduler.proofs.masks.all_free.Reads as all-free-reads
 use Rattle.scheduler.proofs.flight.output_of.Reads as output-of-reads
 use Rattle.scheduler.proofs.flight.row_of.Reads as row-of-reads
 
