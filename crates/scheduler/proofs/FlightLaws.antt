@@ -10,13 +10,13 @@ use Rattle.wsgs.specs.Basics.{pick, between}
 use Rattle.wsgs.specs.Pipelined.{by-first, output-in}
 use Rattle.wsgs.proofs.Laws.Tests.{in-range}
 
--- the row of slot s lies within the 2n rows, which are few
-module _ (n s : ℕ) (some : 1 ≤ n) where
-  pub row-within : s % (2 * n) * n + n ≤ 2 * n * n
-  row-within = rw (← suc-mul (s % (2 * n)) n) (mul-le-mul-right n (mod-lt s (omega arith)))
+-- 2n rows are few words
+pub rows-few : (n : ℕ) → n ≤ 32 → 2 * n * n ≤ 2048
+rows-few n few = omega (arith, mul-le-mul-left (2 * n) few)
 
-  pub row-below : n ≤ 32 → s % (2 * n) * n + n ≤ 2048
-  row-below few = omega (arith, row-within, mul-le-mul-left (2 * n) few)
+-- the row of slot s lies within them
+pub row-within : (n s : ℕ) → 1 ≤ n → s % (2 * n) * n + n ≤ 2 * n * n
+row-within n s some = rw (← suc-mul (s % (2 * n)) n) (mul-le-mul-right n (mod-lt s (omega arith)))
 
 -- o is the output that a word in flight v is read as, 0 for none
 abbrev pub Reads : ℕ → ℕ → ℕ → Type 0

@@ -6,3 +6,4 @@ pub mod Scan
 pub mod MaskLaws
 pub mod FlightLaws
 pub mod FlightMasks
+pub mod PipelinedTurns

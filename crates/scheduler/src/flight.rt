@@ -2,21 +2,33 @@
 // any other is read as 0.
 ghost use mathlib.Core.Path.{_≡_};
 ghost use mathlib.Core.Bool.{not};
-ghost use Prim.Native.Nat.{ℕ, _*_, _%_, _≤_};
+ghost use Prim.Native.Nat.{ℕ, _+_, _*_, _%_, _≤_, _<_};
 ghost use lib.ListN.{length};
 ghost use Rattle.wsgs.specs.Basics.{Port};
-ghost use Rattle.wsgs.specs.Pipelined.{by-first, output-in, standing};
+ghost use Rattle.wsgs.specs.Pipelined.{by-first, output-in, flight-place, standing};
 ghost use Rattle.scheduler.specs.Masks.{in-mask};
 use crate::masks::all_free;
+use wsgs::Input;
 use wsgs::Output;
 
 // Where the row of a slot begins.
 pub fn row_of(ports: usize, slot: u64) -> usize
     requires { ⌜ 1 ≤ ports ⌝ }
     requires { ⌜ ports ≤ 32 ⌝ }
-    ensures { λ r. ⌜ r ≡ slot % (2 * ports) * ports ⌝ }
+    ensures is { λ r. ⌜ r ≡ slot % (2 * ports) * ports ⌝ }
+    ensures within { λ r. ⌜ r + ports ≤ 2 * ports * ports ⌝ }
 {
     (slot % (2 * ports as u64)) as usize * ports
+}
+
+// Where the word of an input for a slot stands.
+pub fn place_for(ports: usize, slot: u64, input: Input) -> usize
+    requires { ⌜ ports ≤ 32 ⌝ }
+    requires { ⌜ Port ports (input .0) ⌝ }
+    ensures is { λ r. ⌜ r ≡ flight-place ports slot (input .0) ⌝ }
+    ensures within { λ r. ⌜ r < 2 * ports * ports ⌝ }
+{
+    row_of(ports, slot) + (input.0 - 1) as usize
 }
 
 // Whether a word in flight stands for an output by pass one.

@@ -3,3 +3,4 @@ mod charges;
 mod flight;
 mod masks;
 mod search;
+mod turns;

@@ -1,7 +1,6 @@
 use Prim.Native.Nat.{_≤_, _<_, _-_, _^_}
 use native.Mathlib.Omega.{arith}
 use borrow.Author.Needs.{needs}
-use Rattle.scheduler.proofs.FlightLaws.{row-within, row-below}
 use Rattle.scheduler.proofs.FlightMasks.{Gathered, gathered-none, gathered-more, gathered-free}
 use Rattle.scheduler.proofs.flight.free_for.Statement.{statement}
 use Rattle.scheduler.proofs.flight.free_for.Tie as tie
@@ -27,15 +26,15 @@ loop-holds c = (search needs, gathered-none _ _ _)
 
 -- src/flight.rt:60:47
 add-output-of : tie.Need-add-output-of Inv-loop μ-loop
-add-output-of c = omega (arith, row-below (c .before .before .before .before .args .ports) (c .before .before .before .before .args .slot) (omega arith) (omega arith))
+add-output-of c = search needs
 
 -- src/flight.rt:60:40
 mul-output-of : tie.Need-mul-output-of Inv-loop μ-loop
-mul-output-of c = omega (arith, row-below (c .before .before .before .before .args .ports) (c .before .before .before .before .args .slot) (omega arith) (omega arith))
+mul-output-of c = search needs
 
 -- src/flight.rt:60:40
 shared-slice-read-output-of : tie.Need-shared-slice-read-output-of Inv-loop μ-loop
-shared-slice-read-output-of c = let a = c .before .before .before .before .before .args in omega (arith, row-within (a .ports) (a .slot) (omega arith))
+shared-slice-read-output-of c = search needs
 
 -- src/flight.rt:60:23
 output-of-requires : tie.Need-output-of-requires Inv-loop μ-loop
@@ -58,7 +57,7 @@ loop-again : tie.Need-loop-again Inv-loop μ-loop
 loop-again c =
     let o = c .before in
     let l = o .before .before .before in
-    (omega arith, gathered-more _ _ _ _ _ _ _ (l .before .row-of .ensures) (o .output-of .ensures .0) (omega arith) (l .loop .inv .1))
+    (omega arith, gathered-more _ _ _ _ _ _ _ (l .before .row-of .ensures .0) (o .output-of .ensures .0) (omega arith) (l .loop .inv .1))
 
 -- src/flight.rt:62:5
 all-free-requires : tie.Need-all-free-requires Inv-loop μ-loop
