@@ -1,13 +1,13 @@
 use native.Mathlib.Omega.{arith}
 use borrow.Author.Needs.{needs}
 use Rattle.scheduler.proofs.PipelinedTurns.{Open, choice-open, turn-two-none, turn-two-served}
-use Rattle.scheduler.proofs.turns.turn_two.Statement.{statement}
-use Rattle.scheduler.proofs.turns.turn_two.Tie as tie
-use Rattle.scheduler.proofs.turns.turn_two.Reads as reads
-use Rattle.scheduler.proofs.turns.turn_two.Lts as lts
+use Rattle.scheduler.proofs.pipeline_turns.turn_two.Statement.{statement}
+use Rattle.scheduler.proofs.pipeline_turns.turn_two.Tie as tie
+use Rattle.scheduler.proofs.pipeline_turns.turn_two.Reads as reads
+use Rattle.scheduler.proofs.pipeline_turns.turn_two.Lts as lts
 use Rattle.scheduler.proofs.charges.take_packet.Reads as take-packet-reads
 use Rattle.scheduler.proofs.flight.place_for.Reads as place-for-reads
-use Rattle.scheduler.proofs.turns.choose.Reads as choose-reads
+use Rattle.scheduler.proofs.pipeline_turns.choose.Reads as choose-reads
 
 -- src/turns.rt:60:9
 choose-requires : tie.Need-choose-requires

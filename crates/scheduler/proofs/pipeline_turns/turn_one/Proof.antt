@@ -1,14 +1,14 @@
 use native.Mathlib.Omega.{arith}
 use borrow.Author.Needs.{needs}
 use Rattle.scheduler.proofs.PipelinedTurns.{Open, choice-open, turn-one-none, turn-one-served}
-use Rattle.scheduler.proofs.turns.turn_one.Statement.{statement}
-use Rattle.scheduler.proofs.turns.turn_one.Tie as tie
-use Rattle.scheduler.proofs.turns.turn_one.Reads as reads
-use Rattle.scheduler.proofs.turns.turn_one.Lts as lts
+use Rattle.scheduler.proofs.pipeline_turns.turn_one.Statement.{statement}
+use Rattle.scheduler.proofs.pipeline_turns.turn_one.Tie as tie
+use Rattle.scheduler.proofs.pipeline_turns.turn_one.Reads as reads
+use Rattle.scheduler.proofs.pipeline_turns.turn_one.Lts as lts
 use Rattle.scheduler.proofs.charges.spend_credit.Reads as spend-credit-reads
 use Rattle.scheduler.proofs.charges.take_packet.Reads as take-packet-reads
 use Rattle.scheduler.proofs.flight.place_for.Reads as place-for-reads
-use Rattle.scheduler.proofs.turns.choose.Reads as choose-reads
+use Rattle.scheduler.proofs.pipeline_turns.choose.Reads as choose-reads
 
 -- src/turns.rt:43:9
 choose-requires : tie.Need-choose-requires

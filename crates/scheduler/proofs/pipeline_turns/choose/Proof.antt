@@ -1,9 +1,9 @@
 use borrow.Author.Needs.{needs}
 use Rattle.scheduler.proofs.PipelinedTurns.{choice-held, choice-free}
-use Rattle.scheduler.proofs.turns.choose.Statement.{statement}
-use Rattle.scheduler.proofs.turns.choose.Tie as tie
-use Rattle.scheduler.proofs.turns.choose.Reads as reads
-use Rattle.scheduler.proofs.turns.choose.Lts as lts
+use Rattle.scheduler.proofs.pipeline_turns.choose.Statement.{statement}
+use Rattle.scheduler.proofs.pipeline_turns.choose.Tie as tie
+use Rattle.scheduler.proofs.pipeline_turns.choose.Reads as reads
+use Rattle.scheduler.proofs.pipeline_turns.choose.Lts as lts
 use Rattle.scheduler.proofs.flight.free_for.Reads as free-for-reads
 use Rattle.scheduler.proofs.flight.output_of.Reads as output-of-reads
 use Rattle.scheduler.proofs.flight.place_for.Reads as place-for-reads
