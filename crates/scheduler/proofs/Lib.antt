@@ -4,6 +4,11 @@ pub mod BitLaws
 pub mod TrailingLaws
 pub mod Scan
 pub mod MaskLaws
+pub mod Listed
+pub mod Marked
+pub mod Spent
+pub mod Held
+pub mod Choice
 pub mod FlightLaws
 pub mod FlightMasks
 pub mod PipelinedTurns

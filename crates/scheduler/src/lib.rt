@@ -3,4 +3,5 @@ mod charges;
 mod flight;
 mod masks;
 mod search;
+mod turns;
 mod pipeline_turns;
