@@ -7,7 +7,7 @@ ghost use lib.ListN.{length};
 ghost use Rattle.wsgs.specs.Basics.{Port};
 ghost use Rattle.wsgs.specs.Pipelined.{by-first, output-in, flight-place, standing};
 ghost use Rattle.scheduler.specs.Masks.{in-mask};
-use crate::masks::all_free;
+use super::masks::all_free;
 use wsgs::Input;
 use wsgs::Output;
 

@@ -2,6 +2,6 @@
 mod charges;
 mod flight;
 mod masks;
+mod pipeline_turns;
 mod search;
 mod turns;
-mod pipeline_turns;

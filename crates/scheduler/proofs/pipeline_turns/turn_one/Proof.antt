@@ -1,100 +1,132 @@
+use Prim.Native.Nat.{_≤_}
 use native.Mathlib.Omega.{arith}
 use borrow.Author.Needs.{needs}
-use Rattle.scheduler.proofs.PipelinedTurns.{Open, choice-open, turn-one-none, turn-one-served}
+use Rattle.scheduler.proofs.Choice.{chosen}
+use Rattle.scheduler.proofs.PipelinedTurns.{turn-one-held, turn-one-some, turn-one-none}
 use Rattle.scheduler.proofs.pipeline_turns.turn_one.Statement.{statement}
 use Rattle.scheduler.proofs.pipeline_turns.turn_one.Tie as tie
 use Rattle.scheduler.proofs.pipeline_turns.turn_one.Reads as reads
 use Rattle.scheduler.proofs.pipeline_turns.turn_one.Lts as lts
-use Rattle.scheduler.proofs.charges.spend_credit.Reads as spend-credit-reads
-use Rattle.scheduler.proofs.charges.take_packet.Reads as take-packet-reads
+use Rattle.scheduler.proofs.flight.free_for.Reads as free-for-reads
+use Rattle.scheduler.proofs.flight.output_of.Reads as output-of-reads
 use Rattle.scheduler.proofs.flight.place_for.Reads as place-for-reads
-use Rattle.scheduler.proofs.pipeline_turns.choose.Reads as choose-reads
+use Rattle.scheduler.proofs.turns.first_turn.Reads as first-turn-reads
 
--- src/turns.rt:43:9
-choose-requires : tie.Need-choose-requires
-choose-requires c κs = search needs
+-- the calls, from the last on
+abbrev turned : tie.After-struct-known2 → tie.After-first-turn
+turned c = c .before .before .before .before .before
 
-abbrev start : tie.After-choose → tie.Start
-start c = c .before .before .before .before .before .before .before
+abbrev freed : tie.After-first-turn → tie.After-free-for
+freed c = c .before .before .before
 
-found : (c : tie.Then1) → let a = start (c .before .before) .args in Open (a .ports) (a .slot) (a .flight .now) (a .credits .now) (a .queues .now) (a .input .0) (c .before .before .choose .result .0)
-found c = choice-open _ _ _ _ _ _ _ (c .before .before .choose .ensures) (c .if1 .taken)
+abbrev read : tie.After-free-for → tie.After-output-of
+read c = c .before .before .before .before
 
--- src/turns.rt:45:9
-abbrev paid : tie.After-struct-known2 → tie.After-take-packet
-paid c = c .before .before .before .before
-
-spend-credit-requires : tie.Need-spend-credit-requires
-spend-credit-requires c κs = omega (arith, found (c .before))
-
--- src/turns.rt:46:9
-take-packet-requires : tie.Need-take-packet-requires
-take-packet-requires c κs = omega (arith, found (c .before .before .before .before .before))
-
--- src/turns.rt:47:13
+-- src/pipeline_turns.rt:32:9
 place-for-requires : tie.Need-place-for-requires
 place-for-requires c κs = search needs
 
--- src/turns.rt:48:28
+-- src/pipeline_turns.rt:33:25
+mul-output-of : tie.Need-mul-output-of
+mul-output-of c = search needs
+
+-- src/pipeline_turns.rt:33:25
+slice-read-output-of : tie.Need-slice-read-output-of
+slice-read-output-of c = search needs
+
+-- src/pipeline_turns.rt:33:8
+output-of-requires : tie.Need-output-of-requires
+output-of-requires c κs = search needs
+
+-- src/pipeline_turns.rt:34:9
+returns : tie.Need-returns
+returns c =
+    let o = c .before .before in
+    turn-one-held _ _ _ _ _ _ _ _ (o .before .before .place-for .ensures .0) (o .output-of .ensures .0) (c .if1 .taken)
+
+-- src/pipeline_turns.rt:36:9
+free-for-requires : tie.Need-free-for-requires
+free-for-requires c κs = search needs
+
+-- src/pipeline_turns.rt:37:9
+first-turn-requires : tie.Need-first-turn-requires
+first-turn-requires c κs = search needs
+
+-- the output that is taken is a port
+small : (c : tie.Then2) → turned (c .before) .first-turn .result .0 ≤ 32
+small c =
+    let t = turned (c .before) in
+    let p = chosen _ _ _ _ _ _ (t .first-turn .ensures .0) (c .if2 .taken) .port in
+    omega (arith, read (freed t) .before .before .before .before .before .before .pre .0)
+
 cast-flight : tie.Need-cast-flight
-cast-flight c = omega (arith, found (paid c .before .before .before .before .before .before))
+cast-flight c = omega (arith, small (c .before))
 
--- src/turns.rt:48:22
+-- src/pipeline_turns.rt:39:22
 add-flight : tie.Need-add-flight
-add-flight c = omega (arith, found (paid c .before .before .before .before .before .before))
+add-flight c = omega (arith, small (c .before))
 
--- src/turns.rt:48:9
+-- src/pipeline_turns.rt:39:9
 mul-flight : tie.Need-mul-flight
 mul-flight c = search needs
 
--- src/turns.rt:48:9
+-- src/pipeline_turns.rt:39:9
 slice-write-flight : tie.Need-slice-write-flight
 slice-write-flight c = search needs
 
--- src/turns.rt:35:1
+-- src/pipeline_turns.rt:17:1
 same-length : tie.Need-same-length
 same-length c = search needs
 
--- src/turns.rt:35:1
+-- src/pipeline_turns.rt:17:1
 same-length-2 : tie.Need-same-length-2
 same-length-2 c = search needs
 
--- src/turns.rt:35:1
+-- src/pipeline_turns.rt:17:1
 same-length-3 : tie.Need-same-length-3
 same-length-3 c = search needs
 
--- src/turns.rt:35:1
-returns : tie.Need-returns
-returns c =
-    let p = paid c in
-    let t = p .before .before .before .before .before .before in
-    turn-one-served _ _ _ _ _ _ _ (t .before .before .choose .ensures) _ _ _ (t .if1 .taken) (p .before .before .before .before .spend-credit .ensures)
-    (p .take-packet .ensures) (c .before .place-for .ensures .0)
+-- src/pipeline_turns.rt:17:1
+returns-2 : tie.Need-returns-2
+returns-2 c =
+    let t = turned (c .before .before) in
+    let f = freed t in
+    let o = read f in
+    turn-one-some _ _ _ _ _ _ _ _ (o .before .before .place-for .ensures .0) (o .output-of .ensures .0) (f .before .before .if1 .left) _ _ (f .free-for .ensures)
+    (t .first-turn .ensures .0) _ _ (t .first-turn .ensures .1 .0) (t .first-turn .ensures .1 .1) (c .before .if2 .taken)
 
--- src/turns.rt:35:1
+-- src/pipeline_turns.rt:17:1
 same-length-4 : tie.Need-same-length-4
 same-length-4 c = search needs
 
--- src/turns.rt:35:1
+-- src/pipeline_turns.rt:17:1
 same-length-5 : tie.Need-same-length-5
 same-length-5 c = search needs
 
--- src/turns.rt:35:1
+-- src/pipeline_turns.rt:17:1
 same-length-6 : tie.Need-same-length-6
 same-length-6 c = search needs
 
--- src/turns.rt:35:1
-returns-2 : tie.Need-returns-2
-returns-2 c = turn-one-none _ _ _ _ _ _ _ (c .before .before .choose .ensures) (c .if1 .left)
+-- src/pipeline_turns.rt:17:1
+returns-3 : tie.Need-returns-3
+returns-3 c =
+    let t = turned (c .before) in
+    let f = freed t in
+    let o = read f in
+    turn-one-none _ _ _ _ _ _ _ _ (o .before .before .place-for .ensures .0) (o .output-of .ensures .0) (f .before .before .if1 .left) _ _ (f .free-for .ensures)
+    (t .first-turn .ensures .0) _ _ (t .first-turn .ensures .1 .0) (t .first-turn .ensures .1 .1) (c .if2 .left)
 
 pub turn-one-spec : {M : Type 1} → statement M
 turn-one-spec =
     tie.close
     (tie.spec
-    choose-requires
-    spend-credit-requires
-    take-packet-requires
     place-for-requires
+    mul-output-of
+    slice-read-output-of
+    output-of-requires
+    returns
+    free-for-requires
+    first-turn-requires
     cast-flight
     add-flight
     mul-flight
@@ -102,8 +134,8 @@ turn-one-spec =
     same-length
     same-length-2
     same-length-3
-    returns
+    returns-2
     same-length-4
     same-length-5
     same-length-6
-    returns-2)
+    returns-3)

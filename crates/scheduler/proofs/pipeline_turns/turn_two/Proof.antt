@@ -1,87 +1,126 @@
+use Prim.Native.Nat.{_≤_}
 use native.Mathlib.Omega.{arith}
 use borrow.Author.Needs.{needs}
-use Rattle.scheduler.proofs.PipelinedTurns.{Open, choice-open, turn-two-none, turn-two-served}
+use Rattle.scheduler.proofs.Choice.{chosen}
+use Rattle.scheduler.proofs.PipelinedTurns.{turn-two-held, turn-two-some, turn-two-none}
 use Rattle.scheduler.proofs.pipeline_turns.turn_two.Statement.{statement}
 use Rattle.scheduler.proofs.pipeline_turns.turn_two.Tie as tie
 use Rattle.scheduler.proofs.pipeline_turns.turn_two.Reads as reads
 use Rattle.scheduler.proofs.pipeline_turns.turn_two.Lts as lts
-use Rattle.scheduler.proofs.charges.take_packet.Reads as take-packet-reads
+use Rattle.scheduler.proofs.flight.free_for.Reads as free-for-reads
+use Rattle.scheduler.proofs.flight.output_of.Reads as output-of-reads
 use Rattle.scheduler.proofs.flight.place_for.Reads as place-for-reads
-use Rattle.scheduler.proofs.pipeline_turns.choose.Reads as choose-reads
+use Rattle.scheduler.proofs.turns.second_turn.Reads as second-turn-reads
 
--- src/turns.rt:60:9
-choose-requires : tie.Need-choose-requires
-choose-requires c κs = search needs
+-- src/pipeline_turns.rt:51:9
+-- the calls, from the last on
+abbrev turned : tie.After-struct-known2 → tie.After-second-turn
+turned c = c .before .before .before
 
-abbrev start : tie.After-choose → tie.Start
-start c = c .before .before .before .before .before
+abbrev freed : tie.After-second-turn → tie.After-free-for
+freed c = c .before .before
 
-found : (c : tie.Then1) → let a = start (c .before .before) .args in Open (a .ports) (a .slot) (a .flight .now) (a .queues .now) (a .queues .now) (a .input .0) (c .before .before .choose .result .0)
-found c = choice-open _ _ _ _ _ _ _ (c .before .before .choose .ensures) (c .if1 .taken)
+abbrev read : tie.After-free-for → tie.After-output-of
+read c = c .before .before .before .before
 
-abbrev paid : tie.After-struct-known2 → tie.After-take-packet
-paid c = c .before .before .before .before
-
--- src/turns.rt:62:9
-take-packet-requires : tie.Need-take-packet-requires
-take-packet-requires c κs = omega (arith, found (c .before))
-
--- src/turns.rt:63:13
 place-for-requires : tie.Need-place-for-requires
 place-for-requires c κs = search needs
 
--- src/turns.rt:64:22
-cast-flight : tie.Need-cast-flight
-cast-flight c = omega (arith, found (paid c .before .before))
+-- src/pipeline_turns.rt:52:25
+mul-output-of : tie.Need-mul-output-of
+mul-output-of c = search needs
 
--- src/turns.rt:64:9
+-- src/pipeline_turns.rt:52:25
+slice-read-output-of : tie.Need-slice-read-output-of
+slice-read-output-of c = search needs
+
+-- src/pipeline_turns.rt:52:8
+output-of-requires : tie.Need-output-of-requires
+output-of-requires c κs = search needs
+
+-- src/pipeline_turns.rt:53:9
+returns : tie.Need-returns
+returns c = λ cr.
+    let o = c .before .before in
+    turn-two-held _ _ _ cr _ _ _ _ (o .before .before .place-for .ensures .0) (o .output-of .ensures .0) (c .if1 .taken)
+
+-- src/pipeline_turns.rt:55:9
+free-for-requires : tie.Need-free-for-requires
+free-for-requires c κs = search needs
+
+-- src/pipeline_turns.rt:56:9
+second-turn-requires : tie.Need-second-turn-requires
+second-turn-requires c κs = search needs
+
+-- the output that is taken is a port
+small : (c : tie.Then2) → turned (c .before) .second-turn .result .0 ≤ 32
+small c =
+    let t = turned (c .before) in
+    let p = chosen _ _ _ _ _ _ (t .second-turn .ensures .0) (c .if2 .taken) .port in
+    omega (arith, read (freed t) .before .before .before .before .before .pre .0)
+
+cast-flight : tie.Need-cast-flight
+cast-flight c = omega (arith, small (c .before))
+
+-- src/pipeline_turns.rt:58:9
 mul-flight : tie.Need-mul-flight
 mul-flight c = search needs
 
--- src/turns.rt:64:9
+-- src/pipeline_turns.rt:58:9
 slice-write-flight : tie.Need-slice-write-flight
 slice-write-flight c = search needs
 
--- src/turns.rt:53:1
+-- src/pipeline_turns.rt:44:1
 same-length : tie.Need-same-length
 same-length c = search needs
 
--- src/turns.rt:53:1
+-- src/pipeline_turns.rt:44:1
 same-length-2 : tie.Need-same-length-2
 same-length-2 c = search needs
 
--- src/turns.rt:53:1
-returns : tie.Need-returns
-returns c = λ cr.
-    let p = paid c in
-    let t = p .before .before in
-    turn-two-served _ _ _ cr _ _ _ (t .before .before .choose .ensures) _ _ (t .if1 .taken) (p .take-packet .ensures) (c .before .place-for .ensures .0)
+-- src/pipeline_turns.rt:44:1
+returns-2 : tie.Need-returns-2
+returns-2 c = λ cr.
+    let t = turned (c .before .before) in
+    let f = freed t in
+    let o = read f in
+    turn-two-some _ _ _ cr _ _ _ _ (o .before .before .place-for .ensures .0) (o .output-of .ensures .0) (f .before .before .if1 .left) _ _ (f .free-for .ensures)
+    (t .second-turn .ensures .0) _ (t .second-turn .ensures .1) (c .before .if2 .taken)
 
--- src/turns.rt:53:1
+-- src/pipeline_turns.rt:44:1
 same-length-3 : tie.Need-same-length-3
 same-length-3 c = search needs
 
--- src/turns.rt:53:1
+-- src/pipeline_turns.rt:44:1
 same-length-4 : tie.Need-same-length-4
 same-length-4 c = search needs
 
--- src/turns.rt:53:1
-returns-2 : tie.Need-returns-2
-returns-2 c = λ cr. turn-two-none _ _ _ cr _ _ _ (c .before .before .choose .ensures) (c .if1 .left)
+-- src/pipeline_turns.rt:44:1
+returns-3 : tie.Need-returns-3
+returns-3 c = λ cr.
+    let t = turned (c .before) in
+    let f = freed t in
+    let o = read f in
+    turn-two-none _ _ _ cr _ _ _ _ (o .before .before .place-for .ensures .0) (o .output-of .ensures .0) (f .before .before .if1 .left) _ _ (f .free-for .ensures)
+    (t .second-turn .ensures .0) _ (t .second-turn .ensures .1) (c .if2 .left)
 
 pub turn-two-spec : {M : Type 1} → statement M
 turn-two-spec =
     tie.close
     (tie.spec
-    choose-requires
-    take-packet-requires
     place-for-requires
+    mul-output-of
+    slice-read-output-of
+    output-of-requires
+    returns
+    free-for-requires
+    second-turn-requires
     cast-flight
     mul-flight
     slice-write-flight
     same-length
     same-length-2
-    returns
+    returns-2
     same-length-3
     same-length-4
-    returns-2)
+    returns-3)
