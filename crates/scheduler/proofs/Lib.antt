@@ -12,3 +12,4 @@ pub mod Choice
 pub mod FlightLaws
 pub mod FlightMasks
 pub mod PipelinedTurns
+pub mod PipelinedRows

@@ -3,14 +3,16 @@
 use mathlib.Core.Path.{_≡_, refl, sym, _∙_, ap}
 use mathlib.Core.Bool.{Bool, true, false, not, _&&_, and-self}
 use mathlib.Core.List.{List}
-use Prim.Native.Nat.{ℕ, _+_, _≤_}
+use Prim.Native.Nat.{ℕ, suc, _+_, _*_, _≤_, _<_}
+use native.Mathlib.Numerals.{add-one}
 use native.Mathlib.Omega.{arith}
 use lib.Dec.{eqb, ltb}
 use lib.ListN.{getD, set}
-use borrow.Author.Tests.{eq-eqb, ne-eqb, lt-ltb, le-ltb}
+use borrow.Author.Tests.{eq-eqb, ne-eqb, lt-ltb, le-ltb, le-leb, lt-leb}
 use Rattle.wsgs.specs.Basics.{pick, Port, lowest}
 use Rattle.wsgs.specs.Words.{word, less-one}
-use Rattle.wsgs.specs.Pipelined.{Turning, output-in, flight-place, in-flight, reserved, standing, turn-one, turn-two}
+use Rattle.wsgs.specs.Frames.{first-of-frame}
+use Rattle.wsgs.specs.Pipelined.{Turning, loaded, reloaded, output-in, flight-place, in-flight, reserved, standing, turn-one, turn-two, slot-one, slot-two, pass-one-turn, turns-of, turns}
 use Rattle.wsgs.proofs.Laws.Lowest.{lowest-ext}
 use Rattle.scheduler.specs.Masks.{in-mask, is-open}
 use Rattle.scheduler.specs.Charges.{charged}
@@ -87,3 +89,39 @@ module _ (n s i : ℕ) (c q f : List ℕ) where
 
         pub turn-two-none : r ≤ 0 → turning-of c q′ f ≡ turn-two n s i w
         turn-two-none h = rw (turn-two-is, held, eq-eqb o 0 (omega arith), opens q q e, le-ltb 0 r h, eq, charged-none n q i r h)
+
+-- where slot s is the first of a frame, an input's row of credits is set from the frame copy
+module _ (n k : ℕ) (copy c q f : List ℕ) (s i : ℕ) where
+  pub reloads : (b : Bool) (c′ : List ℕ) → b ≡ first-of-frame k s → b ≡ true → c′ ≡ loaded n copy i c → turning-of c′ q f ≡ reloaded n k copy s i (turning-of c q f)
+  unfolding reloaded
+  reloads b c′ e t l = rw (← e, t, l)
+
+  pub keeps : (b : Bool) → b ≡ first-of-frame k s → b ≡ false → turning-of c q f ≡ reloaded n k copy s i (turning-of c q f)
+  unfolding reloaded
+  keeps b e t = rw (← e, t)
+
+-- AN INPUT'S TURNS at time k. Each is due from a slot on, and changes nothing before.
+module _ (n f : ℕ) (copy : List ℕ) (k i : ℕ) (w₀ w₁ w₂ : Turning) where
+  pub one-due : 2 * n + 1 ≤ slot-one n k i → w₁ ≡ reloaded n f copy (slot-one n k i) i w₀ → w₂ ≡ turn-one n (slot-one n k i) i w₁
+      → w₂ ≡ pass-one-turn n f copy k i w₀
+  unfolding pass-one-turn
+  one-due h e d = d ∙ rw (le-leb (2 * n + 1) (slot-one n k i) h, pass-one-turn) (ap (turn-one n (slot-one n k i) i) e)
+
+  pub two-due : n + 1 ≤ slot-two n k i → w₁ ≡ pass-one-turn n f copy k i w₀ → w₂ ≡ turn-two n (slot-two n k i) i w₁ → w₂ ≡ turns-of n f copy k i w₀
+  unfolding turns-of
+  two-due h e d = d ∙ rw (le-leb (n + 1) (slot-two n k i) h, turns-of) (ap (turn-two n (slot-two n k i) i) e)
+
+module _ (n f : ℕ) (copy : List ℕ) (k i : ℕ) (w₀ : Turning) where
+  pub one-early : slot-one n k i < 2 * n + 1 → w₀ ≡ pass-one-turn n f copy k i w₀
+  unfolding pass-one-turn
+  one-early h = rw (lt-leb (2 * n + 1) (slot-one n k i) h, pass-one-turn)
+
+  pub two-early : (w₁ : Turning) → slot-two n k i < n + 1 → w₁ ≡ pass-one-turn n f copy k i w₀ → w₁ ≡ turns-of n f copy k i w₀
+  unfolding turns-of
+  two-early w₁ h e = e ∙ rw (lt-leb (n + 1) (slot-two n k i) h, turns-of)
+
+-- those of one input more
+pub turns-more : (n f : ℕ) (copy : List ℕ) (k x : ℕ) (w₀ w₁ w₂ : Turning) → w₁ ≡ turns n f copy k w₀ x → w₂ ≡ turns-of n f copy k (x + 1) w₁
+    → w₂ ≡ turns n f copy k w₀ (x + 1)
+unfolding turns
+turns-more n f copy k x w₀ w₁ w₂ e d = d ∙ rw (add-one x) (ap (turns-of n f copy k (suc x)) e)

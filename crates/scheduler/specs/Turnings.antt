@@ -1,8 +1,17 @@
--- The runs that the turns of a pipelined tick change, put together from lists. Assumes nothing.
+-- The runs that the turns of a pipelined tick change, put together from lists; and that those lent to it are long enough. Assumes nothing.
 use mathlib.Core.List.{List}
-use Prim.Native.Nat.{ℕ}
+use Prim.Native.Nat.{ℕ, _*_, _≤_}
+use lib.ListN.{length}
 use Rattle.wsgs.specs.Pipelined.{Turning}
 
 -- the credits, the queues and the rows in flight
 abbrev pub turning-of : (credits queues flight : List ℕ) → Turning
 turning-of c q f = record { credits = c; queues = q; flight = f }
+
+-- the ports are few, and the frame copy, the credits, the queues and the rows in flight hold their words
+pub record Lent (n : ℕ) (a c q f : List ℕ) : Type 0 where
+  pub ports : n ≤ 32
+  pub copy : n * n ≤ length a
+  pub credits : n * n ≤ length c
+  pub queues : n * n ≤ length q
+  pub flight : 2 * n * n ≤ length f
