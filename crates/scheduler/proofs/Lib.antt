@@ -11,5 +11,7 @@ pub mod Held
 pub mod Choice
 pub mod FlightLaws
 pub mod FlightMasks
+pub mod FlightPairs
 pub mod PipelinedTurns
 pub mod PipelinedRows
+pub mod PipelinedTick

@@ -5,11 +5,14 @@ ghost use mathlib.Core.Bool.{not};
 ghost use Prim.Native.Nat.{ℕ, _+_, _*_, _%_, _≤_, _<_};
 ghost use lib.ListN.{length};
 ghost use Rattle.wsgs.specs.Basics.{Port};
-ghost use Rattle.wsgs.specs.Pipelined.{by-first, output-in, flight-place, standing};
+ghost use Rattle.wsgs.specs.Pipelined.{by-first, output-in, flight-place, standing, handed-out, row-cleared};
 ghost use Rattle.scheduler.specs.Masks.{in-mask};
+ghost use Rattle.scheduler.specs.Turnings.{answering};
 use super::masks::all_free;
+use words::clear_words;
 use wsgs::Input;
 use wsgs::Output;
+use wsgs::Ticked;
 
 // Where the row of a slot begins.
 pub fn row_of(ports: usize, slot: u64) -> usize
@@ -67,4 +70,40 @@ pub fn free_for(ports: usize, slot: u64, flight: &[u32]) -> u32
         taken |= 1 << output_of(ports, flight[row + column]).0;
     }
     all_free(ports) ^ (taken >> 1) as u32
+}
+
+// The answer of the tick at a time: the pairs that the row of the next slot hands out.
+pub fn hand_out(ports: usize, time: u32, flight: &[u32]) -> Ticked
+    requires { ⌜ 1 ≤ ports ⌝ }
+    requires { ⌜ ports ≤ 32 ⌝ }
+    requires { ⌜ 2 * ports * ports ≤ length (now flight) ⌝ }
+    ensures { λ r. ⌜ r ≡ answering time (handed-out ports (now (flight .entry)) (time + 1)) ⌝ }
+{
+    let row = row_of(ports, time as u64 + 1);
+    let mut outputs = [0u8; 32];
+    let mut first_pass = 0u32;
+    for column in 0..ports {
+        let word = flight[row + column];
+        outputs[column] = output_of(ports, word).0 as u8;
+        if is_by_first(ports, word) {
+            first_pass |= 1 << column;
+        }
+    }
+    Ticked {
+        refusal: 0,
+        slot: time,
+        outputs,
+        first_pass,
+    }
+}
+
+// The row of a slot is set to 0.
+pub fn clear_row(ports: usize, slot: u64, flight: &mut [u32])
+    requires { ⌜ 1 ≤ ports ⌝ }
+    requires { ⌜ ports ≤ 32 ⌝ }
+    requires { ⌜ 2 * ports * ports ≤ length (now flight) ⌝ }
+    ensures { λ _. ⌜ now (flight .exit) ≡ row-cleared ports (now (flight .entry)) slot ⌝ }
+{
+    let row = row_of(ports, slot);
+    clear_words(&mut flight[row..], ports);
 }

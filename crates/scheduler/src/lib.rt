@@ -3,5 +3,6 @@ mod charges;
 mod flight;
 mod masks;
 mod pipeline_turns;
+pub mod pipelined;
 mod search;
 mod turns;

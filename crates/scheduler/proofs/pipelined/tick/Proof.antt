@@ -1,0 +1,72 @@
+use borrow.Author.Needs.{needs}
+use Rattle.scheduler.proofs.pipelined.tick.Statement.{statement}
+use Rattle.scheduler.proofs.pipelined.tick.Tie as tie
+use Rattle.scheduler.proofs.pipelined.tick.Reads as reads
+use Rattle.scheduler.proofs.pipelined.tick.Lts as lts
+use Rattle.scheduler.proofs.pipelined.run_tick.Reads as run-tick-reads
+use Rattle.scheduler.proofs.pipelined.tick_refusal.Reads as tick-refusal-reads
+
+-- src/pipelined.rt:137:9
+tick-refusal-requires : tie.Need-tick-refusal-requires
+tick-refusal-requires c κs = search needs
+
+-- src/pipelined.rt:139:9
+same-length : tie.Need-same-length
+same-length c = search needs
+
+-- src/pipelined.rt:139:9
+same-length-2 : tie.Need-same-length-2
+same-length-2 c = search needs
+
+-- src/pipelined.rt:139:9
+same-length-3 : tie.Need-same-length-3
+same-length-3 c = search needs
+
+-- src/pipelined.rt:139:9
+same-length-4 : tie.Need-same-length-4
+same-length-4 c = search needs
+
+-- src/pipelined.rt:139:9
+returns : tie.Need-returns
+returns c = ?
+
+-- src/pipelined.rt:146:5
+run-tick-requires : tie.Need-run-tick-requires
+run-tick-requires c κs = ?
+
+-- src/pipelined.rt:121:1
+same-length-5 : tie.Need-same-length-5
+same-length-5 c = search needs
+
+-- src/pipelined.rt:121:1
+same-length-6 : tie.Need-same-length-6
+same-length-6 c = search needs
+
+-- src/pipelined.rt:121:1
+same-length-7 : tie.Need-same-length-7
+same-length-7 c = search needs
+
+-- src/pipelined.rt:121:1
+same-length-8 : tie.Need-same-length-8
+same-length-8 c = search needs
+
+-- src/pipelined.rt:121:1
+returns-2 : tie.Need-returns-2
+returns-2 c = ?
+
+pub tick-spec : {M : Type 1} → statement M
+tick-spec =
+    tie.close
+    (tie.spec
+    tick-refusal-requires
+    same-length
+    same-length-2
+    same-length-3
+    same-length-4
+    returns
+    run-tick-requires
+    same-length-5
+    same-length-6
+    same-length-7
+    same-length-8
+    returns-2)
