@@ -12,11 +12,11 @@ use lib.Dec.{eqb}
 use lib.ListN.{set, replicate}
 use Rattle.wsgs.specs.Basics.{pick, Port, some-of, updated}
 use Rattle.wsgs.specs.Words.{less-one}
-use Rattle.wsgs.specs.Steps.{given, listed}
-use Rattle.wsgs.specs.Direct.{spent}
+use Rattle.wsgs.specs.Steps.{given}
 use Rattle.wsgs.proofs.Laws.Tests.{updated-at, updated-other, eqb-sym}
 use Rattle.wsgs.proofs.Laws.Lowest.{some-ext, some-short}
 use Rattle.scheduler.specs.Masks.{in-mask}
+use Rattle.scheduler.specs.Passes.{Held}
 use Rattle.scheduler.proofs.Listed.{listed-set, listed-none}
 use Rattle.scheduler.proofs.Spent.{spent-none, spent-more}
 
@@ -44,13 +44,6 @@ given-more f n k v j p e h =
 pub given-short : (f : ℕ → ℕ) (x n j : ℕ) → x ≤ n → 1 ≤ j → ((i : ℕ) → x < i → f i ≡ 0) → given f x j ≡ given f n j
 given-short f x n j l h z =
     some-short (λ i. eqb (f i) j) (λ i. eqb (f i) j) x n l (λ i p. refl) (λ i p u. rw (z i u) (ne-eqb 0 j (omega arith)))
-
--- the outputs f that the inputs hold, as the mask of the free outputs, as the listed outputs, and as the packets taken from the queues
-pub record Held (n : ℕ) (start : List ℕ) (f : ℕ → ℕ) (free : ℕ) (outputs queues : List ℕ) : Type 0 where
-  pub bound : (i : ℕ) → f i ≤ n
-  pub mask : (j : ℕ) → Port n j → in-mask free j ≡ not (given f n j)
-  pub list : outputs ≡ listed 32 f
-  pub cost : queues ≡ spent n start f n
 
 -- at first none
 pub held-none : (n free : ℕ) (queues : List ℕ) → ((j : ℕ) → Port n j → in-mask free j ≡ true) → Held n queues (λ i. 0) free (replicate 32 0) queues

@@ -9,6 +9,9 @@ pub mod Marked
 pub mod Spent
 pub mod Held
 pub mod Choice
+pub mod PassLaws
+pub mod Asked
+pub mod SlotLaws
 pub mod FlightLaws
 pub mod FlightMasks
 pub mod FlightPairs

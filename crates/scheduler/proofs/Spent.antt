@@ -4,17 +4,19 @@ use mathlib.Core.Path.{_≡_, refl, sym, _∙_, ap, ap₂}
 use mathlib.Core.Bool.{Bool, true, false}
 use mathlib.Core.List.{List}
 use mathlib.Core.Logic.{_≢_}
-use Prim.Native.Nat.{ℕ, zero, suc, _-_, _≤_}
+use Prim.Native.Nat.{ℕ, zero, suc, _-_, _*_, _≤_}
 use native.Mathlib.Decide.{ℕ-discrete}
 use native.Mathlib.Omega.{arith}
 use borrow.Author.Tests.{lt-ltb}
 use lib.Dec.{ltb}
-use lib.ListN.{getD, set}
+use lib.ListN.{length, getD, set}
 use lib.Seq.{set-comm, getD-set-other}
 use Rattle.wsgs.specs.Basics.{pick, Port, updated}
 use Rattle.wsgs.specs.Words.{place, word, put, less-one}
 use Rattle.wsgs.specs.Direct.{spent}
-use Rattle.wsgs.proofs.Laws.Tests.{updated-at, updated-other}
+use Rattle.wsgs.proofs.Laws.Tests.{bit-ne, updated-at, updated-other}
+use Rattle.wsgs.proofs.Laws.Words.{less-length}
+use Rattle.wsgs.proofs.Direct.Tick.{all-spent}
 
 -- a word that falls by 1
 abbrev fall : List ℕ → ℕ → List ℕ
@@ -44,6 +46,16 @@ module _ (n : ℕ) (m : List ℕ) where
   spent-ext f g (suc x) h =
       ap₂ (λ o b. pick (ltb 0 o) (less-one n b (suc x) o) b) (h (suc x) (omega arith)) (spent-ext f g x (λ i p. h i (omega arith)))
 
+  -- its length
+  pub spent-length : (f : ℕ → ℕ) (x : ℕ) → length (spent n m f x) ≡ length m
+  unfolding spent
+  spent-length f zero = refl
+  spent-length f (suc x) = go (ltb 0 (f (suc x))) ∙ spent-length f x
+    where
+      go : (b : Bool) → length (pick b (less-one n (spent n m f x) (suc x) (f (suc x))) (spent n m f x)) ≡ length (spent n m f x)
+      go true = less-length n (spent n m f x) (suc x) (f (suc x))
+      go false = refl
+
   -- no outputs cost nothing
   pub spent-none : (x : ℕ) → spent n m (λ i. 0) x ≡ m
   unfolding spent
@@ -71,3 +83,8 @@ module _ (n : ℕ) (m : List ℕ) where
           ∙ rw (lt-ltb 0 v h, d, e)
       go (no d) r =
           ap₂ step (r d) (updated-other f k (suc x) v d) ∙ later (ltb 0 (f (suc x))) (spent n m f x) (f (suc x))
+
+  -- the row of an input without output is as it was
+  pub spent-row : n * n ≤ length m → (f : ℕ → ℕ) → ((i : ℕ) → f i ≤ n) → (k j : ℕ) → Port n k → Port n j → f k ≡ 0 → word n (spent n m f n) k j ≡ word n m k j
+  spent-row long f bound k j pk pj e =
+      all-spent n m long f (λ i p. bound i) k j pk pj ∙ rw (e, bit-ne 0 j (omega arith)) (omega arith)

@@ -1,4 +1,5 @@
 use borrow.Author.Needs.{needs}
+use Rattle.scheduler.proofs.PipelinedTick.{ticked-left}
 use Rattle.scheduler.proofs.pipelined.run_tick.Statement.{statement}
 use Rattle.scheduler.proofs.pipelined.run_tick.Tie as tie
 use Rattle.scheduler.proofs.pipelined.run_tick.Reads as reads
@@ -62,7 +63,12 @@ same-length-4 c = search needs
 
 -- src/pipelined.rt:91:1
 returns : tie.Need-returns
-returns c = ?
+returns c =
+    let e = c .before .before in
+    let h = e .before .before in
+    let t = h .before .before .before .before .before .before .before .before in
+    let b = t .before .before .before .before .before .before .before in
+    ticked-left _ _ _ _ _ _ _ _ _ _ (b .copy-bookings .ensures _ _ _) (t .all-turns .ensures) (h .hand-out .ensures) (e .clear-row .ensures)
 
 pub run-tick-spec : {M : Type 1} → statement M
 run-tick-spec =

@@ -1,4 +1,8 @@
+use mathlib.Core.Path.{sym, _∙_}
+use native.Mathlib.Omega.{arith}
 use borrow.Author.Needs.{needs}
+use Rattle.wsgs.specs.Answers.{pipelined-runs-of}
+use Rattle.scheduler.proofs.PipelinedTick.{Accepted, accepted-found, tick-ran, tick-refused}
 use Rattle.scheduler.proofs.pipelined.tick.Statement.{statement}
 use Rattle.scheduler.proofs.pipelined.tick.Tie as tie
 use Rattle.scheduler.proofs.pipelined.tick.Reads as reads
@@ -7,6 +11,11 @@ use Rattle.scheduler.proofs.pipelined.run_tick.Reads as run-tick-reads
 use Rattle.scheduler.proofs.pipelined.tick_refusal.Reads as tick-refusal-reads
 
 -- src/pipelined.rt:137:9
+-- what an accepted tick found
+found : (c : tie.Else1) → let a = c .before .before .before .before .before .before .before .before .before .before .before .args in
+    Accepted (a .ports) (a .frame) (a .slot) (pipelined-runs-of (a .bookings .now) (a .credits .now) (a .queues .now) (a .copy .now) (a .flight .now))
+found c = accepted-found _ _ _ _ (sym (c .before .tick-refusal .ensures) ∙ omega arith)
+
 tick-refusal-requires : tie.Need-tick-refusal-requires
 tick-refusal-requires c κs = search needs
 
@@ -28,11 +37,13 @@ same-length-4 c = search needs
 
 -- src/pipelined.rt:139:9
 returns : tie.Need-returns
-returns c = ?
+returns c = tick-refused _ _ _ _ _ (c .before .tick-refusal .ensures) (c .if1 .taken)
 
 -- src/pipelined.rt:146:5
 run-tick-requires : tie.Need-run-tick-requires
-run-tick-requires c κs = ?
+run-tick-requires c κs =
+    let a = found (c .before .before .before .before) in
+    (a .some-port, (a .lent, (a .bookings, (a .some-slot, a .slots-left))))
 
 -- src/pipelined.rt:121:1
 same-length-5 : tie.Need-same-length-5
@@ -52,7 +63,10 @@ same-length-8 c = search needs
 
 -- src/pipelined.rt:121:1
 returns-2 : tie.Need-returns-2
-returns-2 c = ?
+returns-2 c =
+    let k = c .before .before .before .before .before .before .before .before in
+    let e = k .before .before .before .before .before in
+    rw (tick-ran _ _ _ _ _ (e .before .tick-refusal .ensures) (e .if1 .left)) (k .run-tick .ensures)
 
 pub tick-spec : {M : Type 1} → statement M
 tick-spec =
