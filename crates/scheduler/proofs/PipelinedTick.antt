@@ -8,10 +8,10 @@ use borrow.Author.Tests.{eq-eqb, ne-eqb, le-leb, lt-leb, lt-ltb, le-ltb}
 use lib.Dec.{leb, leb→le, ltb→lt}
 use lib.ListN.{length, replicate}
 use Rattle.wsgs.specs.declared.Ticked.{Ticked}
-use Rattle.wsgs.specs.Basics.{pick, between}
+use Rattle.wsgs.specs.Basics.{between}
 use Rattle.wsgs.specs.Words.{copied}
 use Rattle.wsgs.specs.Frames.{first-of-frame}
-use Rattle.wsgs.specs.Questions.{first-no, clock-can-advance, Outcome}
+use Rattle.wsgs.specs.Questions.{clock-can-advance, Outcome}
 use Rattle.wsgs.specs.Steps.{outputs-of, pass-word-of}
 use Rattle.wsgs.specs.Answers.{clock-of, ticked-of}
 use Rattle.wsgs.specs.Pipelined.{Runs, turning, runs-suffice, questions, tick-refusal, copied-at, turns, handed-out, row-cleared, ticked, tick}

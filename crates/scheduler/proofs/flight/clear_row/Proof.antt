@@ -1,42 +1,31 @@
+-- `flight::clear_row` meets its contract: the row is the front of the part that is cleared. Assumes nothing.
 use native.Mathlib.Omega.{arith}
 use borrow.Author.Needs.{needs}
 use Rattle.scheduler.proofs.PipelinedRows.{row-emptied}
 use Rattle.scheduler.proofs.flight.clear_row.Statement.{statement}
 use Rattle.scheduler.proofs.flight.clear_row.Tie as tie
-use Rattle.scheduler.proofs.flight.clear_row.Reads as reads
-use Rattle.scheduler.proofs.flight.clear_row.Lts as lts
-use Rattle.scheduler.proofs.flight.row_of.Reads as row-of-reads
-use Rattle.words.proofs.clear_words.Reads as clear-words-reads
 
--- src/flight.rt:107:9
 row-of-requires : tie.Need-row-of-requires
 row-of-requires c κs = search needs
 
--- src/flight.rt:108:17
 mul-clear-words : tie.Need-mul-clear-words
 mul-clear-words c = search needs
 
--- src/flight.rt:108:17
 sub-clear-words : tie.Need-sub-clear-words
 sub-clear-words c = search needs
 
--- src/flight.rt:108:17
 part-clear-words-start : tie.Need-part-clear-words-start
 part-clear-words-start c = search needs
 
--- src/flight.rt:108:17
 part-clear-words-end : tie.Need-part-clear-words-end
 part-clear-words-end c = search needs
 
--- src/flight.rt:108:5
 clear-words-requires : tie.Need-clear-words-requires
 clear-words-requires c κs = search needs
 
--- src/flight.rt:101:1
 same-length : tie.Need-same-length
 same-length c = search needs
 
--- src/flight.rt:101:1
 returns : tie.Need-returns
 returns c =
     let w = c .before .before in

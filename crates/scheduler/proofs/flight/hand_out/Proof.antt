@@ -1,3 +1,5 @@
+-- `flight::hand_out` meets its contract. The loop's invariant: the outputs and the pass-one word are those of the inputs so far.
+-- Assumes nothing.
 use Prim.Native.Nat.{_+_, _-_, _≤_}
 use mathlib.Core.Path.{sym, _∙_}
 use mathlib.Core.Logic.{⊎-elim}
@@ -6,11 +8,6 @@ use borrow.Author.Needs.{needs}
 use Rattle.scheduler.proofs.FlightPairs.{Handed, handed-none, handed-first, handed-other, handed-all}
 use Rattle.scheduler.proofs.flight.hand_out.Statement.{statement}
 use Rattle.scheduler.proofs.flight.hand_out.Tie as tie
-use Rattle.scheduler.proofs.flight.hand_out.Reads as reads
-use Rattle.scheduler.proofs.flight.hand_out.Lts as lts
-use Rattle.scheduler.proofs.flight.is_by_first.Reads as is-by-first-reads
-use Rattle.scheduler.proofs.flight.output_of.Reads as output-of-reads
-use Rattle.scheduler.proofs.flight.row_of.Reads as row-of-reads
 
 abbrev Inv-loop : tie.InvT-loop
 Inv-loop ports time flight row outputs₀ first-pass₀ column₀ outputs first-pass column = (column ≤ ports) × Handed ports (time + 1) flight column outputs first-pass
@@ -18,63 +15,48 @@ Inv-loop ports time flight row outputs₀ first-pass₀ column₀ outputs first-
 abbrev μ-loop : tie.MeasureT-loop
 μ-loop ports time flight row outputs₀ first-pass₀ column₀ outputs first-pass column = ports - column
 
--- src/flight.rt:82:29
 add-row-of : tie.Need-add-row-of Inv-loop μ-loop
 add-row-of c = search needs
 
--- src/flight.rt:82:9
 row-of-requires : tie.Need-row-of-requires Inv-loop μ-loop
 row-of-requires c κs = search needs
 
--- src/flight.rt:85:5
 loop-holds : tie.Need-loop-holds Inv-loop μ-loop
 loop-holds c = (search needs, handed-none _ _ _)
 
--- src/flight.rt:86:27
 add-word : tie.Need-add-word Inv-loop μ-loop
 add-word c = search needs
 
--- src/flight.rt:86:20
 mul-word : tie.Need-mul-word Inv-loop μ-loop
 mul-word c = search needs
 
--- src/flight.rt:86:20
 shared-slice-read-word : tie.Need-shared-slice-read-word Inv-loop μ-loop
 shared-slice-read-word c = search needs
 
--- src/flight.rt:87:27
 output-of-requires : tie.Need-output-of-requires Inv-loop μ-loop
 output-of-requires c κs = search needs
 
--- src/flight.rt:87:27
 cast-outputs : tie.Need-cast-outputs Inv-loop μ-loop
 cast-outputs c = search needs
 
--- src/flight.rt:87:9
 array-write-outputs : tie.Need-array-write-outputs Inv-loop μ-loop
 array-write-outputs c = search needs
 
--- src/flight.rt:88:12
 is-by-first-requires : tie.Need-is-by-first-requires Inv-loop μ-loop
 is-by-first-requires c κs = search needs
 
--- src/flight.rt:89:32
 cast-first-pass : tie.Need-cast-first-pass Inv-loop μ-loop
 cast-first-pass c = search needs
 
--- src/flight.rt:89:27
 shl-first-pass : tie.Need-shl-first-pass Inv-loop μ-loop
 shl-first-pass c = search needs
 
--- src/flight.rt:85:9
 add-column : tie.Need-add-column Inv-loop μ-loop
 add-column c = search needs
 
--- src/flight.rt:85:5
 loop-less : tie.Need-loop-less Inv-loop μ-loop
 loop-less c = search needs
 
--- src/flight.rt:85:5
 loop-again : tie.Need-loop-again Inv-loop μ-loop
 loop-again c =
     let f = c .before in
@@ -91,7 +73,6 @@ loop-again c =
           (c .if1 .came),
     )
 
--- src/flight.rt:76:1
 returns : tie.Need-returns Inv-loop μ-loop
 returns c = handed-all _ _ _ _ _ _ _ (omega arith) (c .before .loop .inv .1)
 

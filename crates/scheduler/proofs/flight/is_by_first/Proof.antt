@@ -1,19 +1,15 @@
+-- `flight::is_by_first` meets its contract, by the two tests. Assumes nothing.
 use borrow.Author.Needs.{needs}
 use borrow.Author.Tests.{le-leb, lt-leb}
 use Rattle.scheduler.proofs.flight.is_by_first.Statement.{statement}
 use Rattle.scheduler.proofs.flight.is_by_first.Tie as tie
-use Rattle.scheduler.proofs.flight.is_by_first.Reads as reads
-use Rattle.scheduler.proofs.flight.is_by_first.Lts as lts
 
--- src/flight.rt:22:37
 add-result : tie.Need-add-result
 add-result c = search needs
 
--- src/flight.rt:18:1
 returns : tie.Need-returns
 returns c = rw (le-leb 101 (c .before .args .word) (c .if1 .taken))
 
--- src/flight.rt:18:1
 returns-2 : tie.Need-returns-2
 returns-2 c = rw (lt-leb 101 (c .before .args .word) (c .if1 .left))
 

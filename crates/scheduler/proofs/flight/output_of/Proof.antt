@@ -1,4 +1,5 @@
-use mathlib.Core.Path.{_≡_, sym, _∙_}
+-- `flight::output_of` meets its contract: each return follows from the tests that led there. Assumes nothing.
+use mathlib.Core.Path.{sym, _∙_}
 use mathlib.Core.Logic.{⊎-elim}
 use native.Mathlib.Omega.{arith}
 use borrow.Author.Needs.{needs}
@@ -6,31 +7,22 @@ use borrow.Author.Tests.{leb-true, leb-false}
 use Rattle.scheduler.proofs.FlightLaws.{first-low, first-read, second-read, none-low, none-high}
 use Rattle.scheduler.proofs.flight.output_of.Statement.{statement}
 use Rattle.scheduler.proofs.flight.output_of.Tie as tie
-use Rattle.scheduler.proofs.flight.output_of.Reads as reads
-use Rattle.scheduler.proofs.flight.output_of.Lts as lts
-use Rattle.scheduler.proofs.flight.is_by_first.Reads as is-by-first-reads
 
--- src/flight.rt:30:8
 is-by-first-requires : tie.Need-is-by-first-requires
 is-by-first-requires c κs = search needs
 
--- src/flight.rt:31:24
 sub-t4 : tie.Need-sub-t4
 sub-t4 c = omega (arith, first-low (c .before .before .args .ports) (c .before .before .args .word) (sym (c .before .is-by-first .ensures) ∙ c .if1 .taken))
 
--- src/flight.rt:31:23
 cast-t5 : tie.Need-cast-t5
 cast-t5 c = search needs
 
--- src/flight.rt:31:9
 returns : tie.Need-returns
 returns c = first-read _ _ (sym (c .before .is-by-first .ensures) ∙ c .if1 .taken)
 
--- src/flight.rt:34:9
 returns-2 : tie.Need-returns-2
 returns-2 c = second-read _ _ (sym (c .before .before .before .is-by-first .ensures) ∙ c .before .before .if1 .left) (c .before .if2 .taken) (leb-true _ _ (c .if3 .taken))
 
--- src/flight.rt:26:1
 returns-3 : tie.Need-returns-3
 returns-3 c =
     let e = sym (c .before .before .is-by-first .ensures) ∙ c .before .if1 .left in

@@ -1,3 +1,5 @@
+-- `pipeline_turns::all_turns` meets its contract. The loop's invariant: the runs are those that the turns of the inputs so far leave, and their
+-- lengths are kept. Assumes nothing.
 use mathlib.Core.Path.{_≡_, refl, _∙_, ap}
 use Prim.Native.Nat.{_≤_, _-_}
 use native.Mathlib.Omega.{arith}
@@ -8,9 +10,6 @@ use Rattle.scheduler.specs.Turnings.{turning-of}
 use Rattle.scheduler.proofs.PipelinedTurns.{turns-more}
 use Rattle.scheduler.proofs.pipeline_turns.all_turns.Statement.{statement}
 use Rattle.scheduler.proofs.pipeline_turns.all_turns.Tie as tie
-use Rattle.scheduler.proofs.pipeline_turns.all_turns.Reads as reads
-use Rattle.scheduler.proofs.pipeline_turns.all_turns.Lts as lts
-use Rattle.scheduler.proofs.pipeline_turns.turns_of.Reads as turns-of-reads
 
 abbrev Inv-loop : tie.InvT-loop
 Inv-loop ports frame time copy credits₀ queues₀ flight₀ done₀ credits queues flight done =
@@ -23,28 +22,22 @@ Inv-loop ports frame time copy credits₀ queues₀ flight₀ done₀ credits qu
 abbrev μ-loop : tie.MeasureT-loop
 μ-loop ports frame time copy credits₀ queues₀ flight₀ done₀ credits queues flight done = ports - done
 
--- src/pipeline_turns.rt:162:5
 loop-holds : tie.Need-loop-holds Inv-loop μ-loop
 unfolding turns
 loop-holds c = (search needs, refl, refl, refl, refl)
 
--- src/pipeline_turns.rt:163:27
 add-t12 : tie.Need-add-t12 Inv-loop μ-loop
 add-t12 c = search needs
 
--- src/pipeline_turns.rt:164:9
 turns-of-requires : tie.Need-turns-of-requires Inv-loop μ-loop
 turns-of-requires c κs = search needs
 
--- src/pipeline_turns.rt:162:9
 add-done : tie.Need-add-done Inv-loop μ-loop
 add-done c = search needs
 
--- src/pipeline_turns.rt:162:5
 loop-less : tie.Need-loop-less Inv-loop μ-loop
 loop-less c = search needs
 
--- src/pipeline_turns.rt:162:5
 loop-again : tie.Need-loop-again Inv-loop μ-loop
 loop-again c =
     let t = c .before .before .before .before .before .before in
@@ -56,19 +49,15 @@ loop-again c =
       turns-more _ _ _ _ _ _ _ _ (l .loop .inv .4) (t .turns-of .ensures),
     )
 
--- src/pipeline_turns.rt:148:1
 same-length : tie.Need-same-length Inv-loop μ-loop
 same-length c = search needs
 
--- src/pipeline_turns.rt:148:1
 same-length-2 : tie.Need-same-length-2 Inv-loop μ-loop
 same-length-2 c = search needs
 
--- src/pipeline_turns.rt:148:1
 same-length-3 : tie.Need-same-length-3 Inv-loop μ-loop
 same-length-3 c = search needs
 
--- src/pipeline_turns.rt:148:1
 returns : tie.Need-returns Inv-loop μ-loop
 returns c = c .before .loop .inv .4 ∙ ap (turns _ _ _ _ _) (omega arith)
 

@@ -1,57 +1,42 @@
+-- `pipeline_turns::pass_one_turn` meets its contract: the turn is due or not. Assumes nothing.
 use borrow.Author.Needs.{needs}
 use Rattle.scheduler.proofs.PipelinedTurns.{one-due, one-early}
 use Rattle.scheduler.proofs.pipeline_turns.pass_one_turn.Statement.{statement}
 use Rattle.scheduler.proofs.pipeline_turns.pass_one_turn.Tie as tie
-use Rattle.scheduler.proofs.pipeline_turns.pass_one_turn.Reads as reads
-use Rattle.scheduler.proofs.pipeline_turns.pass_one_turn.Lts as lts
-use Rattle.scheduler.proofs.pipeline_turns.reload_row.Reads as reload-row-reads
-use Rattle.scheduler.proofs.pipeline_turns.turn_one.Reads as turn-one-reads
 
--- src/pipeline_turns.rt:116:23
 mul-slot : tie.Need-mul-slot
 mul-slot c = search needs
 
--- src/pipeline_turns.rt:116:16
 add-slot : tie.Need-add-slot
 add-slot c = search needs
 
--- src/pipeline_turns.rt:116:16
 add-slot-2 : tie.Need-add-slot-2
 add-slot-2 c = search needs
 
--- src/pipeline_turns.rt:116:16
 sub-slot : tie.Need-sub-slot
 sub-slot c = search needs
 
--- src/pipeline_turns.rt:117:8
 mul-if1 : tie.Need-mul-if1
 mul-if1 c = search needs
 
--- src/pipeline_turns.rt:117:8
 add-if1 : tie.Need-add-if1
 add-if1 c = search needs
 
--- src/pipeline_turns.rt:118:9
 reload-row-requires : tie.Need-reload-row-requires
 reload-row-requires c κs = search needs
 
--- src/pipeline_turns.rt:119:9
 turn-one-requires : tie.Need-turn-one-requires
 turn-one-requires c κs = search needs
 
--- src/pipeline_turns.rt:100:1
 same-length : tie.Need-same-length
 same-length c = search needs
 
--- src/pipeline_turns.rt:100:1
 same-length-2 : tie.Need-same-length-2
 same-length-2 c = search needs
 
--- src/pipeline_turns.rt:100:1
 same-length-3 : tie.Need-same-length-3
 same-length-3 c = search needs
 
--- src/pipeline_turns.rt:100:1
 returns : tie.Need-returns
 returns c =
     let t = c .before .before .before .before .before .before in
@@ -59,7 +44,6 @@ returns c =
     let h = r .before .before in
     one-due _ _ _ _ _ _ _ _ (h .if1 .taken) (r .reload-row .ensures _ _) (t .turn-one .ensures)
 
--- src/pipeline_turns.rt:100:1
 returns-2 : tie.Need-returns-2
 returns-2 c = one-early _ _ _ _ _ _ (c .if1 .left)
 

@@ -1,3 +1,4 @@
+-- `pipeline_turns::turn_one` meets its contract: the three ways that its tests leave are those of the definition. Assumes nothing.
 use Prim.Native.Nat.{_≤_}
 use native.Mathlib.Omega.{arith}
 use borrow.Author.Needs.{needs}
@@ -5,12 +6,6 @@ use Rattle.scheduler.proofs.Choice.{chosen}
 use Rattle.scheduler.proofs.PipelinedTurns.{turn-one-held, turn-one-some, turn-one-none}
 use Rattle.scheduler.proofs.pipeline_turns.turn_one.Statement.{statement}
 use Rattle.scheduler.proofs.pipeline_turns.turn_one.Tie as tie
-use Rattle.scheduler.proofs.pipeline_turns.turn_one.Reads as reads
-use Rattle.scheduler.proofs.pipeline_turns.turn_one.Lts as lts
-use Rattle.scheduler.proofs.flight.free_for.Reads as free-for-reads
-use Rattle.scheduler.proofs.flight.output_of.Reads as output-of-reads
-use Rattle.scheduler.proofs.flight.place_for.Reads as place-for-reads
-use Rattle.scheduler.proofs.turns.first_turn.Reads as first-turn-reads
 
 -- the calls, from the last on
 abbrev turned : tie.After-struct-known2 → tie.After-first-turn
@@ -22,33 +17,26 @@ freed c = c .before .before .before
 abbrev read : tie.After-free-for → tie.After-output-of
 read c = c .before .before .before .before
 
--- src/pipeline_turns.rt:32:9
 place-for-requires : tie.Need-place-for-requires
 place-for-requires c κs = search needs
 
--- src/pipeline_turns.rt:33:25
 mul-output-of : tie.Need-mul-output-of
 mul-output-of c = search needs
 
--- src/pipeline_turns.rt:33:25
 slice-read-output-of : tie.Need-slice-read-output-of
 slice-read-output-of c = search needs
 
--- src/pipeline_turns.rt:33:8
 output-of-requires : tie.Need-output-of-requires
 output-of-requires c κs = search needs
 
--- src/pipeline_turns.rt:34:9
 returns : tie.Need-returns
 returns c =
     let o = c .before .before in
     turn-one-held _ _ _ _ _ _ _ _ (o .before .before .place-for .ensures .0) (o .output-of .ensures .0) (c .if1 .taken)
 
--- src/pipeline_turns.rt:36:9
 free-for-requires : tie.Need-free-for-requires
 free-for-requires c κs = search needs
 
--- src/pipeline_turns.rt:37:9
 first-turn-requires : tie.Need-first-turn-requires
 first-turn-requires c κs = search needs
 
@@ -62,31 +50,24 @@ small c =
 cast-flight : tie.Need-cast-flight
 cast-flight c = omega (arith, small (c .before))
 
--- src/pipeline_turns.rt:39:22
 add-flight : tie.Need-add-flight
 add-flight c = omega (arith, small (c .before))
 
--- src/pipeline_turns.rt:39:9
 mul-flight : tie.Need-mul-flight
 mul-flight c = search needs
 
--- src/pipeline_turns.rt:39:9
 slice-write-flight : tie.Need-slice-write-flight
 slice-write-flight c = search needs
 
--- src/pipeline_turns.rt:17:1
 same-length : tie.Need-same-length
 same-length c = search needs
 
--- src/pipeline_turns.rt:17:1
 same-length-2 : tie.Need-same-length-2
 same-length-2 c = search needs
 
--- src/pipeline_turns.rt:17:1
 same-length-3 : tie.Need-same-length-3
 same-length-3 c = search needs
 
--- src/pipeline_turns.rt:17:1
 returns-2 : tie.Need-returns-2
 returns-2 c =
     let t = turned (c .before .before) in
@@ -95,19 +76,15 @@ returns-2 c =
     turn-one-some _ _ _ _ _ _ _ _ (o .before .before .place-for .ensures .0) (o .output-of .ensures .0) (f .before .before .if1 .left) _ _ (f .free-for .ensures)
     (t .first-turn .ensures .0) _ _ (t .first-turn .ensures .1 .0) (t .first-turn .ensures .1 .1) (c .before .if2 .taken)
 
--- src/pipeline_turns.rt:17:1
 same-length-4 : tie.Need-same-length-4
 same-length-4 c = search needs
 
--- src/pipeline_turns.rt:17:1
 same-length-5 : tie.Need-same-length-5
 same-length-5 c = search needs
 
--- src/pipeline_turns.rt:17:1
 same-length-6 : tie.Need-same-length-6
 same-length-6 c = search needs
 
--- src/pipeline_turns.rt:17:1
 returns-3 : tie.Need-returns-3
 returns-3 c =
     let t = turned (c .before) in

@@ -1,3 +1,4 @@
+-- `pipeline_turns::turn_two` meets its contract: the three ways that its tests leave are those of the definition. Assumes nothing.
 use Prim.Native.Nat.{_≤_}
 use native.Mathlib.Omega.{arith}
 use borrow.Author.Needs.{needs}
@@ -5,14 +6,7 @@ use Rattle.scheduler.proofs.Choice.{chosen}
 use Rattle.scheduler.proofs.PipelinedTurns.{turn-two-held, turn-two-some, turn-two-none}
 use Rattle.scheduler.proofs.pipeline_turns.turn_two.Statement.{statement}
 use Rattle.scheduler.proofs.pipeline_turns.turn_two.Tie as tie
-use Rattle.scheduler.proofs.pipeline_turns.turn_two.Reads as reads
-use Rattle.scheduler.proofs.pipeline_turns.turn_two.Lts as lts
-use Rattle.scheduler.proofs.flight.free_for.Reads as free-for-reads
-use Rattle.scheduler.proofs.flight.output_of.Reads as output-of-reads
-use Rattle.scheduler.proofs.flight.place_for.Reads as place-for-reads
-use Rattle.scheduler.proofs.turns.second_turn.Reads as second-turn-reads
 
--- src/pipeline_turns.rt:51:9
 -- the calls, from the last on
 abbrev turned : tie.After-struct-known2 → tie.After-second-turn
 turned c = c .before .before .before
@@ -26,29 +20,23 @@ read c = c .before .before .before .before
 place-for-requires : tie.Need-place-for-requires
 place-for-requires c κs = search needs
 
--- src/pipeline_turns.rt:52:25
 mul-output-of : tie.Need-mul-output-of
 mul-output-of c = search needs
 
--- src/pipeline_turns.rt:52:25
 slice-read-output-of : tie.Need-slice-read-output-of
 slice-read-output-of c = search needs
 
--- src/pipeline_turns.rt:52:8
 output-of-requires : tie.Need-output-of-requires
 output-of-requires c κs = search needs
 
--- src/pipeline_turns.rt:53:9
 returns : tie.Need-returns
 returns c = λ cr.
     let o = c .before .before in
     turn-two-held _ _ _ cr _ _ _ _ (o .before .before .place-for .ensures .0) (o .output-of .ensures .0) (c .if1 .taken)
 
--- src/pipeline_turns.rt:55:9
 free-for-requires : tie.Need-free-for-requires
 free-for-requires c κs = search needs
 
--- src/pipeline_turns.rt:56:9
 second-turn-requires : tie.Need-second-turn-requires
 second-turn-requires c κs = search needs
 
@@ -62,23 +50,18 @@ small c =
 cast-flight : tie.Need-cast-flight
 cast-flight c = omega (arith, small (c .before))
 
--- src/pipeline_turns.rt:58:9
 mul-flight : tie.Need-mul-flight
 mul-flight c = search needs
 
--- src/pipeline_turns.rt:58:9
 slice-write-flight : tie.Need-slice-write-flight
 slice-write-flight c = search needs
 
--- src/pipeline_turns.rt:44:1
 same-length : tie.Need-same-length
 same-length c = search needs
 
--- src/pipeline_turns.rt:44:1
 same-length-2 : tie.Need-same-length-2
 same-length-2 c = search needs
 
--- src/pipeline_turns.rt:44:1
 returns-2 : tie.Need-returns-2
 returns-2 c = λ cr.
     let t = turned (c .before .before) in
@@ -87,15 +70,12 @@ returns-2 c = λ cr.
     turn-two-some _ _ _ cr _ _ _ _ (o .before .before .place-for .ensures .0) (o .output-of .ensures .0) (f .before .before .if1 .left) _ _ (f .free-for .ensures)
     (t .second-turn .ensures .0) _ (t .second-turn .ensures .1) (c .before .if2 .taken)
 
--- src/pipeline_turns.rt:44:1
 same-length-3 : tie.Need-same-length-3
 same-length-3 c = search needs
 
--- src/pipeline_turns.rt:44:1
 same-length-4 : tie.Need-same-length-4
 same-length-4 c = search needs
 
--- src/pipeline_turns.rt:44:1
 returns-3 : tie.Need-returns-3
 returns-3 c = λ cr.
     let t = turned (c .before) in

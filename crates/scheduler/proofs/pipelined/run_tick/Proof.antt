@@ -1,67 +1,48 @@
+-- `pipelined::run_tick` meets its contract: what its four calls ensure are the definition's four steps. Assumes nothing.
 use borrow.Author.Needs.{needs}
 use Rattle.scheduler.proofs.PipelinedTick.{ticked-left}
 use Rattle.scheduler.proofs.pipelined.run_tick.Statement.{statement}
 use Rattle.scheduler.proofs.pipelined.run_tick.Tie as tie
-use Rattle.scheduler.proofs.pipelined.run_tick.Reads as reads
-use Rattle.scheduler.proofs.pipelined.run_tick.Lts as lts
-use Rattle.scheduler.proofs.flight.clear_row.Reads as clear-row-reads
-use Rattle.scheduler.proofs.flight.hand_out.Reads as hand-out-reads
-use Rattle.scheduler.proofs.pipeline_turns.all_turns.Reads as all-turns-reads
-use Rattle.scheduler.proofs.pipelined.copy_bookings.Reads as copy-bookings-reads
 
--- src/pipelined.rt:112:16
 add-time : tie.Need-add-time
 add-time c = search needs
 
--- src/pipelined.rt:113:33
 cast-copy-bookings : tie.Need-cast-copy-bookings
 cast-copy-bookings c = search needs
 
--- src/pipelined.rt:113:5
 copy-bookings-requires : tie.Need-copy-bookings-requires
 copy-bookings-requires c κs = search needs
 
--- src/pipelined.rt:114:29
 cast-all-turns : tie.Need-cast-all-turns
 cast-all-turns c = search needs
 
--- src/pipelined.rt:114:5
 all-turns-requires : tie.Need-all-turns-requires
 all-turns-requires c κs = search needs
 
--- src/pipelined.rt:115:9
 hand-out-requires : tie.Need-hand-out-requires
 hand-out-requires c κs = search needs
 
--- src/pipelined.rt:116:22
 cast-clear-row : tie.Need-cast-clear-row
 cast-clear-row c = search needs
 
--- src/pipelined.rt:116:22
 add-clear-row : tie.Need-add-clear-row
 add-clear-row c = search needs
 
--- src/pipelined.rt:116:5
 clear-row-requires : tie.Need-clear-row-requires
 clear-row-requires c κs = search needs
 
--- src/pipelined.rt:91:1
 same-length : tie.Need-same-length
 same-length c = search needs
 
--- src/pipelined.rt:91:1
 same-length-2 : tie.Need-same-length-2
 same-length-2 c = search needs
 
--- src/pipelined.rt:91:1
 same-length-3 : tie.Need-same-length-3
 same-length-3 c = search needs
 
--- src/pipelined.rt:91:1
 same-length-4 : tie.Need-same-length-4
 same-length-4 c = search needs
 
--- src/pipelined.rt:91:1
 returns : tie.Need-returns
 returns c =
     let e = c .before .before in

@@ -1,3 +1,4 @@
+-- `pipelined::tick` meets its contract: a refusal above 0 is answered alone, and 0 says that the work's requirements hold. Assumes nothing.
 use mathlib.Core.Path.{sym, _∙_}
 use native.Mathlib.Omega.{arith}
 use borrow.Author.Needs.{needs}
@@ -5,12 +6,7 @@ use Rattle.wsgs.specs.Answers.{pipelined-runs-of}
 use Rattle.scheduler.proofs.PipelinedTick.{Accepted, accepted-found, tick-ran, tick-refused}
 use Rattle.scheduler.proofs.pipelined.tick.Statement.{statement}
 use Rattle.scheduler.proofs.pipelined.tick.Tie as tie
-use Rattle.scheduler.proofs.pipelined.tick.Reads as reads
-use Rattle.scheduler.proofs.pipelined.tick.Lts as lts
-use Rattle.scheduler.proofs.pipelined.run_tick.Reads as run-tick-reads
-use Rattle.scheduler.proofs.pipelined.tick_refusal.Reads as tick-refusal-reads
 
--- src/pipelined.rt:137:9
 -- what an accepted tick found
 found : (c : tie.Else1) → let a = c .before .before .before .before .before .before .before .before .before .before .before .args in
     Accepted (a .ports) (a .frame) (a .slot) (pipelined-runs-of (a .bookings .now) (a .credits .now) (a .queues .now) (a .copy .now) (a .flight .now))
@@ -19,49 +15,38 @@ found c = accepted-found _ _ _ _ (sym (c .before .tick-refusal .ensures) ∙ ome
 tick-refusal-requires : tie.Need-tick-refusal-requires
 tick-refusal-requires c κs = search needs
 
--- src/pipelined.rt:139:9
 same-length : tie.Need-same-length
 same-length c = search needs
 
--- src/pipelined.rt:139:9
 same-length-2 : tie.Need-same-length-2
 same-length-2 c = search needs
 
--- src/pipelined.rt:139:9
 same-length-3 : tie.Need-same-length-3
 same-length-3 c = search needs
 
--- src/pipelined.rt:139:9
 same-length-4 : tie.Need-same-length-4
 same-length-4 c = search needs
 
--- src/pipelined.rt:139:9
 returns : tie.Need-returns
 returns c = tick-refused _ _ _ _ _ (c .before .tick-refusal .ensures) (c .if1 .taken)
 
--- src/pipelined.rt:146:5
 run-tick-requires : tie.Need-run-tick-requires
 run-tick-requires c κs =
     let a = found (c .before .before .before .before) in
     (a .some-port, (a .lent, (a .bookings, (a .some-slot, a .slots-left))))
 
--- src/pipelined.rt:121:1
 same-length-5 : tie.Need-same-length-5
 same-length-5 c = search needs
 
--- src/pipelined.rt:121:1
 same-length-6 : tie.Need-same-length-6
 same-length-6 c = search needs
 
--- src/pipelined.rt:121:1
 same-length-7 : tie.Need-same-length-7
 same-length-7 c = search needs
 
--- src/pipelined.rt:121:1
 same-length-8 : tie.Need-same-length-8
 same-length-8 c = search needs
 
--- src/pipelined.rt:121:1
 returns-2 : tie.Need-returns-2
 returns-2 c =
     let k = c .before .before .before .before .before .before .before .before in

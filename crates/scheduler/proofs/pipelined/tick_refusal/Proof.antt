@@ -1,18 +1,14 @@
+-- `pipelined::tick_refusal` meets its contract: each return follows from the test that led there and from those before it that failed.
+-- Assumes nothing.
 use borrow.Author.Needs.{needs}
 use borrow.Author.Tests.{not-true, not-false}
 use Rattle.scheduler.proofs.PipelinedTick.{few, no-1, no-2, no-3, no-4, no-7, no-none}
 use Rattle.scheduler.proofs.pipelined.tick_refusal.Statement.{statement}
 use Rattle.scheduler.proofs.pipelined.tick_refusal.Tie as tie
-use Rattle.scheduler.proofs.pipelined.tick_refusal.Reads as reads
-use Rattle.scheduler.proofs.pipelined.tick_refusal.Lts as lts
-use Rattle.scheduler.proofs.pipelined.is_between.Reads as is-between-reads
-use Rattle.scheduler.proofs.pipelined.runs_suffice.Reads as runs-suffice-reads
 
--- src/pipelined.rt:57:9
 is-between-requires : tie.Need-is-between-requires
 is-between-requires c κs = search needs
 
--- src/pipelined.rt:58:9
 returns : tie.Need-returns
 returns c = no-1 _ _ _ _ _ (c .before .is-between .ensures) (not-true _ (c .if1 .taken))
 
