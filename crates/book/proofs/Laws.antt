@@ -1,0 +1,3 @@
+-- Laws of places and of refusals.
+pub mod Places
+pub mod Refusals

@@ -1,0 +1,36 @@
+-- What the private functions of this crate ask and answer, in the terms of the shared definitions. Assumes nothing.
+use mathlib.Core.List.{List, [], _∷_}
+use Prim.Native.Nat.{ℕ, _*_, _≤_}
+use lib.ListN.{length}
+use Rattle.wsgs.specs.declared.Clock.{Clock}
+use Rattle.wsgs.specs.Questions.{Question, first-no, ports-in-range, frame-in-range, on-pair, on-sums}
+
+-- the first two questions of every call
+abbrev pub on-sizes : ℕ → ℕ → List Question
+on-sizes n f = ports-in-range n ∷ frame-in-range f ∷ []
+
+-- the refusal of sizes, of a pair, and of a booking whose amount is in range
+unfoldable pub sizes-refusal : ℕ → ℕ → ℕ
+unfolding first-no
+sizes-refusal n f = first-no (on-sizes n f)
+
+unfoldable pub pair-refusal : Clock → List ℕ → ℕ → ℕ → ℕ
+unfolding first-no
+pair-refusal c m i j = first-no (on-pair c m i j [])
+
+unfoldable pub sums-refusal : Clock → List ℕ → ℕ → ℕ → ℕ → ℕ
+unfolding first-no
+sums-refusal c a i j d = first-no (on-sums c a i j d)
+
+-- sizes in range
+pub record Sizes (n f : ℕ) : Type 0 where
+  pub some-port : 1 ≤ n
+  pub few-ports : n ≤ 32
+  pub some-slot : 1 ≤ f
+  pub few-slots : f ≤ 10000
+
+-- a run holds a matrix over the pairs of 1 to 32 ports
+pub record Holds (n : ℕ) (m : List ℕ) : Type 0 where
+  pub some : 1 ≤ n
+  pub few : n ≤ 32
+  pub long : n * n ≤ length m

@@ -1,0 +1,3 @@
+// The book and the arrivals of a switch: its start, booking by slots and by rate, release and arrival.
+mod pairs;
+mod questions;
