@@ -1,3 +1,4 @@
--- Laws of places and of refusals.
+-- Laws of places, of refusals and of sums.
 pub mod Places
 pub mod Refusals
+pub mod Sums

@@ -1,3 +1,4 @@
 // The book and the arrivals of a switch: its start, booking by slots and by rate, release and arrival.
+mod bookings;
 mod pairs;
 mod questions;
