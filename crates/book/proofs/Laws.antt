@@ -1,4 +1,5 @@
--- Laws of places, of refusals and of sums.
+-- Laws of admission, of places, of refusals and of sums.
+pub mod Admission
 pub mod Places
 pub mod Refusals
 pub mod Sums

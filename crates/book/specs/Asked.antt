@@ -34,3 +34,10 @@ pub record Holds (n : ℕ) (m : List ℕ) : Type 0 where
   pub some : 1 ≤ n
   pub few : n ≤ 32
   pub long : n * n ≤ length m
+
+-- a rate of a line, and the frame that it is booked in
+pub record Rated (f line rate : ℕ) : Type 0 where
+  pub frame : f ≤ 10000
+  pub some : 1 ≤ line
+  pub fast : line ≤ 100000000
+  pub part : rate ≤ line

@@ -4,8 +4,11 @@ ghost use Prim.Native.Nat.{_*_, _^_, _≤_, _<_};
 ghost use Rattle.wsgs.specs.Basics.{Port};
 ghost use Rattle.wsgs.specs.Words.{word, put, row-sum, column-sum};
 ghost use Rattle.book.specs.Asked.{Holds};
-use crate::pairs::{put_word, word_of};
-use wsgs::{BookedSlots, Input, Output};
+use crate::pairs::put_word;
+use crate::pairs::word_of;
+use wsgs::BookedSlots;
+use wsgs::Input;
+use wsgs::Output;
 
 // The slots that are booked for a pair.
 pub fn booked(ports: u64, bookings: &[u32], input: Input, output: Output) -> BookedSlots
@@ -19,7 +22,13 @@ pub fn booked(ports: u64, bookings: &[u32], input: Input, output: Output) -> Boo
 }
 
 // Writes the slots that are booked for a pair.
-pub fn set_booked(ports: u64, bookings: &mut [u32], input: Input, output: Output, slots: BookedSlots)
+pub fn set_booked(
+    ports: u64,
+    bookings: &mut [u32],
+    input: Input,
+    output: Output,
+    slots: BookedSlots,
+)
     requires { ⌜ Holds ports (now bookings) ⌝ }
     requires { ⌜ Port ports (input .0) ⌝ }
     requires { ⌜ Port ports (output .0) ⌝ }

@@ -1,4 +1,5 @@
 // The book and the arrivals of a switch: its start, booking by slots and by rate, release and arrival.
+mod admission;
 mod bookings;
 mod pairs;
 mod questions;
