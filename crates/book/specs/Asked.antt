@@ -3,13 +3,13 @@ use mathlib.Core.List.{List, [], _∷_}
 use Prim.Native.Nat.{ℕ, _*_, _≤_}
 use lib.ListN.{length}
 use Rattle.wsgs.specs.declared.Clock.{Clock}
-use Rattle.wsgs.specs.Questions.{Question, first-no, ports-in-range, frame-in-range, on-pair, on-sums}
+use Rattle.wsgs.specs.Questions.{Question, first-no, ports-in-range, frame-in-range, enough-booked, queue-can-take, on-pair, on-sums}
 
 -- the first two questions of every call
 abbrev pub on-sizes : ℕ → ℕ → List Question
 on-sizes n f = ports-in-range n ∷ frame-in-range f ∷ []
 
--- the refusal of sizes, of a pair, and of a booking whose amount is in range
+-- the refusal of sizes, and of a pair
 unfoldable pub sizes-refusal : ℕ → ℕ → ℕ
 unfolding first-no
 sizes-refusal n f = first-no (on-sizes n f)
@@ -18,9 +18,18 @@ unfoldable pub pair-refusal : Clock → List ℕ → ℕ → ℕ → ℕ
 unfolding first-no
 pair-refusal c m i j = first-no (on-pair c m i j [])
 
+-- the refusal of a booking, a release and an arrival whose amount is in range
 unfoldable pub sums-refusal : Clock → List ℕ → ℕ → ℕ → ℕ → ℕ
 unfolding first-no
 sums-refusal c a i j d = first-no (on-sums c a i j d)
+
+unfoldable pub held-refusal : Clock → List ℕ → ℕ → ℕ → ℕ → ℕ
+unfolding first-no
+held-refusal c a i j d = first-no (enough-booked (c .ports) a i j d ∷ [])
+
+unfoldable pub queue-refusal : Clock → List ℕ → ℕ → ℕ → ℕ → ℕ
+unfolding first-no
+queue-refusal c q i j d = first-no (queue-can-take (c .ports) q i j d ∷ [])
 
 -- sizes in range
 pub record Sizes (n f : ℕ) : Type 0 where

@@ -1,11 +1,11 @@
-// Admission: slots are booked where the sums of row and column leave room, and a rate is a number of slots.
+// Admission: slots are booked where the sums of row and column leave room, and taken off where they are booked. A rate is a number of slots.
 ghost use mathlib.Core.Path.{_≡_};
-ghost use Prim.Native.Nat.{_+_, _≤_};
+ghost use Prim.Native.Nat.{_+_, _-_, _≤_};
 ghost use Rattle.wsgs.specs.Words.{word, put};
 ghost use Rattle.wsgs.specs.Questions.{accepted};
 ghost use Rattle.wsgs.specs.Book.{rate-slots};
 ghost use Rattle.wsgs.specs.Claims.{Reached};
-ghost use Rattle.book.specs.Asked.{sums-refusal, Rated};
+ghost use Rattle.book.specs.Asked.{sums-refusal, held-refusal, Rated};
 use crate::bookings::booked;
 use crate::bookings::column_sum;
 use crate::bookings::row_sum;
@@ -43,6 +43,33 @@ pub fn admit(
         input,
         output,
         BookedSlots(held.0 + slots.0),
+    );
+    0
+}
+
+// Takes slots off a pair, where question 10 allows it.
+pub fn withdraw(
+    clock: Clock,
+    bookings: &mut [u32],
+    input: Input,
+    output: Output,
+    slots: BookedSlots,
+) -> u32
+    requires { ⌜ Reached clock (now bookings) (input .0) (output .0) ⌝ }
+    ensures { λ r. ⌜ r ≡ held-refusal clock (now (bookings .entry)) (input .0) (output .0) (slots .0) ⌝ }
+    ensures { λ r. ⌜ now (bookings .exit) ≡ accepted r (put (clock .ports) (now (bookings .entry)) (input .0) (output .0) (word (clock .ports) (now (bookings .entry)) (input .0) (output .0) - slots .0)) (now (bookings .entry)) ⌝ }
+{
+    let ports = clock.ports as u64;
+    let held = booked(ports, bookings, input, output);
+    if held.0 < slots.0 {
+        return 10;
+    }
+    set_booked(
+        ports,
+        bookings,
+        input,
+        output,
+        BookedSlots(held.0 - slots.0),
     );
     0
 }

@@ -1,20 +1,22 @@
 -- Laws of questions put in turn: the first that is answered no gives its number, and a refused call leaves what it found. They hold by
 -- cases on the answers. Assumes nothing.
-use mathlib.Core.Path.{_≡_, refl, sym, _∙_}
+use mathlib.Core.Path.{_≡_, refl, sym, _∙_, ap}
 use mathlib.Core.Bool.{Bool, true, false, not}
 use mathlib.Core.List.{List, [], _∷_, _++_}
 use mathlib.Core.Logic.{_≢_}
-use Prim.Native.Nat.{ℕ, _≤_}
+use Prim.Native.Nat.{ℕ, _+_, _-_, _≤_}
 use native.Mathlib.Omega.{arith}
 use borrow.Author.Tests.{ne-eqb, not-true, not-false}
 use lib.Dec.{T, leb→le}
 use lib.ListN.{length}
 use Rattle.wsgs.specs.declared.Clock.{Clock}
 use Rattle.wsgs.specs.Basics.{pick, between}
-use Rattle.wsgs.specs.Questions.{Question, first-no, long-enough, holds-pairs, pair-in-range, on-pair, accepted}
+use Rattle.wsgs.specs.Questions.{Question, first-no, long-enough, holds-pairs, pair-in-range, slots-in-range, packets-in-range, rate-in-range, enough-booked, queue-can-take, on-pair, on-sums, accepted}
+use Rattle.wsgs.specs.Words.{word, put}
+use Rattle.wsgs.specs.Book.{book-refusal, book-words, rate-slots, rate-refusal, rate-words, release-refusal, release-words, arrive-refusal, arrive-words}
 use Rattle.wsgs.specs.Claims.{Reached}
 use Rattle.wsgs.proofs.Laws.Tests.{both, in-range, between-port}
-use Rattle.book.specs.Asked.{Sizes, on-sizes, sizes-refusal, pair-refusal}
+use Rattle.book.specs.Asked.{Sizes, on-sizes, sizes-refusal, pair-refusal, sums-refusal, held-refusal, queue-refusal}
 
 -- where none is left the call is accepted
 pub none-left : 0 ≡ first-no []
@@ -72,9 +74,33 @@ some-no (q ∷ qs) rs r e h = go (q .yes) e (λ d. some-no qs rs r d h)
     go true e h = h e
     go false e h = e
 
--- a call that is refused leaves what it found
-pub kept {ℓ} : {X : Type ℓ} (r refusal : ℕ) (changed old : X) → r ≡ refusal → r ≢ 0 → (r ≡ refusal) × (old ≡ accepted refusal changed old)
-kept r refusal changed old e h = (e, rw (ne-eqb refusal 0 (λ d. h (e ∙ d))))
+-- A CALL ON A PAIR asks about the pair, then about its amount, then the rest. What it answers and leaves, by where it ends.
+pub record Decides (pair : ℕ) (amount : Question) (rest : ℕ) (changed m : List ℕ) (refusal : ℕ) (words : List ℕ) : Type 0 where
+  pub at-pair : (r : ℕ) → r ≡ pair → r ≢ 0 → (r ≡ refusal) × (m ≡ words)
+  pub at-amount : 0 ≡ pair → amount .yes ≡ false → (amount .number ≡ refusal) × (m ≡ words)
+  pub at-rest : 0 ≡ pair → amount .yes ≡ true → (r : ℕ) (w : List ℕ) → r ≡ rest → w ≡ accepted r changed m → (r ≡ refusal) × (w ≡ words)
+
+module _ (c : Clock) (m : List ℕ) (i j : ℕ) (amount : Question) (later : List Question) (changed : List ℕ) (numbered : 1 ≤ amount .number) where
+  abbrev refusal : ℕ
+  refusal = first-no (on-pair c m i j (amount ∷ later))
+
+  -- a refusal leaves what the call found
+  kept : (r : ℕ) → r ≡ refusal → r ≢ 0 → (r ≡ refusal) × (m ≡ accepted refusal changed m)
+  kept r e h = (e, rw (ne-eqb refusal 0 (λ d. h (e ∙ d))))
+
+  -- the questions on the pair have been passed
+  beyond : 0 ≡ pair-refusal c m i j → first-no (amount ∷ later) ≡ refusal
+  unfolding pair-refusal
+  beyond p = all-yes (on-pair c m i j []) (amount ∷ later) (omega arith) p
+
+  decides : Decides (pair-refusal c m i j) amount (first-no later) changed m refusal (accepted refusal changed m)
+  unfolding pair-refusal
+  decides =
+      record {
+        at-pair = λ r e h. kept r (some-no (on-pair c m i j []) (amount ∷ later) r e h) h;
+        at-amount = λ p e. kept (amount .number) (asked-no amount later e ∙ beyond p) (λ z. omega arith);
+        at-rest = λ p e r w f g. let q = f ∙ asked-yes amount later e ∙ beyond p in (q, g ∙ ap (λ k. accepted k changed m) q);
+      }
 
 -- a test in the code that is answered no, and one that is answered yes
 pub said-no : {a b : Bool} → a ≡ b → not a ≡ true → b ≡ false
@@ -131,3 +157,34 @@ pair-asked c m i j e =
       input = between-port (c .ports) i (p .0);
       output = between-port (c .ports) j (p .1);
     }
+
+-- so it is with the four
+module _ (c : Clock) (m : List ℕ) (i j d : ℕ) where
+  abbrev n : ℕ
+  n = c .ports
+
+  -- booking by slots
+  pub book-decides : Decides (pair-refusal c m i j) (slots-in-range (c .frame) d) (sums-refusal c m i j d) (put n m i j (word n m i j + d)) m
+      (book-refusal c m i j d) (book-words c m i j d)
+  unfolding book-refusal book-words sums-refusal
+  book-decides = decides c m i j (slots-in-range (c .frame) d) (on-sums c m i j d) _ (omega arith)
+
+  -- release
+  pub release-decides : Decides (pair-refusal c m i j) (slots-in-range (c .frame) d) (held-refusal c m i j d) (put n m i j (word n m i j - d)) m
+      (release-refusal c m i j d) (release-words c m i j d)
+  unfolding release-refusal release-words held-refusal
+  release-decides = decides c m i j (slots-in-range (c .frame) d) (enough-booked n m i j d ∷ []) _ (omega arith)
+
+  -- arrival
+  pub arrive-decides : Decides (pair-refusal c m i j) (packets-in-range d) (queue-refusal c m i j d) (put n m i j (word n m i j + d)) m
+      (arrive-refusal c m i j d) (arrive-words c m i j d)
+  unfolding arrive-refusal arrive-words queue-refusal
+  arrive-decides = decides c m i j (packets-in-range d) (queue-can-take n m i j d ∷ []) _ (omega arith)
+
+-- booking by rate
+pub rate-decides : (c : Clock) (m : List ℕ) (i j line rate : ℕ)
+    → let d = rate-slots (c .frame) line rate in
+    Decides (pair-refusal c m i j) (rate-in-range line rate) (sums-refusal c m i j d) (put (c .ports) m i j (word (c .ports) m i j + d)) m
+    (rate-refusal c m i j line rate) (rate-words c m i j line rate)
+unfolding rate-refusal rate-words sums-refusal
+rate-decides c m i j line rate = decides c m i j (rate-in-range line rate) (on-sums c m i j (rate-slots (c .frame) line rate)) _ (omega arith)
