@@ -1,5 +1,8 @@
 // The book and the arrivals of a switch: its start, booking by slots and by rate, release and arrival.
 ghost use mathlib.Core.Path.{_≡_};
+ghost use Rattle.wsgs.specs.Answers.{started-of, direct-runs-of, pipelined-runs-of};
+ghost use Rattle.wsgs.specs.Direct;
+ghost use Rattle.wsgs.specs.Pipelined;
 ghost use Rattle.wsgs.specs.Book.{book-refusal, book-words, rate-refusal, rate-words, release-refusal, release-words, arrive-refusal, arrive-words};
 
 mod admission;
@@ -7,6 +10,7 @@ mod bookings;
 mod pairs;
 mod questions;
 mod queues;
+mod starts;
 
 use admission::admit;
 use admission::rate_slots;
@@ -15,10 +19,77 @@ use questions::are_rates;
 use questions::is_between;
 use questions::pair_refusal;
 use queues::enqueue;
+use starts::direct_refusal;
+use starts::first_clock;
+use starts::pipelined_refusal;
+use words::clear_words;
 use wsgs::BookedSlots;
 use wsgs::Clock;
 use wsgs::Input;
 use wsgs::Output;
+use wsgs::Started;
+
+// Starts a direct switch.
+pub fn start_direct(
+    ports: u64,
+    frame: u64,
+    clock: Clock,
+    bookings: &mut [u32],
+    credits: &mut [u32],
+    queues: &mut [u32],
+) -> Started
+    ensures { λ r. ⌜ r ≡ started-of (Direct.start ports frame clock (direct-runs-of (now (bookings .entry)) (now (credits .entry)) (now (queues .entry)))) ⌝ }
+    ensures { λ _. ⌜ now (bookings .exit) ≡ Direct.start ports frame clock (direct-runs-of (now (bookings .entry)) (now (credits .entry)) (now (queues .entry))) .runs .bookings ⌝ }
+    ensures { λ _. ⌜ now (credits .exit) ≡ Direct.start ports frame clock (direct-runs-of (now (bookings .entry)) (now (credits .entry)) (now (queues .entry))) .runs .credits ⌝ }
+    ensures { λ _. ⌜ now (queues .exit) ≡ Direct.start ports frame clock (direct-runs-of (now (bookings .entry)) (now (credits .entry)) (now (queues .entry))) .runs .queues ⌝ }
+{
+    let refusal = direct_refusal(ports, frame, bookings, credits, queues);
+    if refusal != 0 {
+        return Started { refusal, clock };
+    }
+    let words = (ports * ports) as usize;
+    clear_words(bookings, words);
+    clear_words(credits, words);
+    clear_words(queues, words);
+    Started {
+        refusal: 0,
+        clock: first_clock(ports, frame),
+    }
+}
+
+// Starts a pipelined switch.
+pub fn start_pipelined(
+    ports: u64,
+    frame: u64,
+    clock: Clock,
+    bookings: &mut [u32],
+    credits: &mut [u32],
+    queues: &mut [u32],
+    copy: &mut [u32],
+    flight: &mut [u32],
+) -> Started
+    ensures { λ r. ⌜ r ≡ started-of (Pipelined.start ports frame clock (pipelined-runs-of (now (bookings .entry)) (now (credits .entry)) (now (queues .entry)) (now (copy .entry)) (now (flight .entry)))) ⌝ }
+    ensures { λ _. ⌜ now (bookings .exit) ≡ Pipelined.start ports frame clock (pipelined-runs-of (now (bookings .entry)) (now (credits .entry)) (now (queues .entry)) (now (copy .entry)) (now (flight .entry))) .runs .bookings ⌝ }
+    ensures { λ _. ⌜ now (credits .exit) ≡ Pipelined.start ports frame clock (pipelined-runs-of (now (bookings .entry)) (now (credits .entry)) (now (queues .entry)) (now (copy .entry)) (now (flight .entry))) .runs .credits ⌝ }
+    ensures { λ _. ⌜ now (queues .exit) ≡ Pipelined.start ports frame clock (pipelined-runs-of (now (bookings .entry)) (now (credits .entry)) (now (queues .entry)) (now (copy .entry)) (now (flight .entry))) .runs .queues ⌝ }
+    ensures { λ _. ⌜ now (copy .exit) ≡ Pipelined.start ports frame clock (pipelined-runs-of (now (bookings .entry)) (now (credits .entry)) (now (queues .entry)) (now (copy .entry)) (now (flight .entry))) .runs .copy ⌝ }
+    ensures { λ _. ⌜ now (flight .exit) ≡ Pipelined.start ports frame clock (pipelined-runs-of (now (bookings .entry)) (now (credits .entry)) (now (queues .entry)) (now (copy .entry)) (now (flight .entry))) .runs .flight ⌝ }
+{
+    let refusal = pipelined_refusal(ports, frame, bookings, credits, queues, copy, flight);
+    if refusal != 0 {
+        return Started { refusal, clock };
+    }
+    let words = (ports * ports) as usize;
+    clear_words(bookings, words);
+    clear_words(credits, words);
+    clear_words(queues, words);
+    clear_words(copy, words);
+    clear_words(flight, (2 * ports * ports) as usize);
+    Started {
+        refusal: 0,
+        clock: first_clock(ports, frame),
+    }
+}
 
 // Books slots of each frame for a pair.
 pub fn book(

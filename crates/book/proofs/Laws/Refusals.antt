@@ -50,11 +50,11 @@ all-yes (q ∷ qs) rs k e = go (q .yes) e (all-yes qs rs (k .1))
     go false e h = absurd (omega (arith, k .0))
 
 -- each is then answered yes
-abbrev Yes : List Question → Type 0
+abbrev pub Yes : List Question → Type 0
 Yes [] = Unit {0}
 Yes (q ∷ qs) = T (q .yes) × Yes qs
 
-answered : (qs : List Question) → Numbered qs → 0 ≡ first-no qs → Yes qs
+pub answered : (qs : List Question) → Numbered qs → 0 ≡ first-no qs → Yes qs
 unfolding first-no
 answered [] k e = tt
 answered (q ∷ qs) k e = go (q .yes) e (answered qs (k .1))
@@ -109,14 +109,17 @@ said-no e h = sym e ∙ not-true _ h
 pub said-yes : {a b : Bool} → a ≡ b → not a ≡ false → b ≡ true
 said-yes e h = sym e ∙ not-false _ h
 
--- what accepted sizes are
+-- sizes in range
+pub sizes-in : (n f : ℕ) → T (between 1 32 n) → T (between 1 10000 f) → Sizes n f
+sizes-in n f p q =
+    let a = in-range 1 32 n p in
+    let b = in-range 1 10000 f q in
+    record { some-port = a .0; few-ports = a .1; some-slot = b .0; few-slots = b .1 }
+
+-- accepted ones are
 pub sizes-asked : (n f : ℕ) → 0 ≡ sizes-refusal n f → Sizes n f
 unfolding sizes-refusal
-sizes-asked n f e =
-    let y = answered (on-sizes n f) (omega arith) e in
-    let a = in-range 1 32 n (y .0) in
-    let b = in-range 1 10000 f (y .1 .0) in
-    record { some-port = a .0; few-ports = a .1; some-slot = b .0; few-slots = b .1 }
+sizes-asked n f e = let y = answered (on-sizes n f) (omega arith) e in sizes-in n f (y .0) (y .1 .0)
 
 -- the questions on a pair: sizes that are refused; a run too short; numbers that are no ports; and none of these
 module _ (c : Clock) (m : List ℕ) (i j : ℕ) where
