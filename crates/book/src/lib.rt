@@ -19,10 +19,11 @@ use questions::are_rates;
 use questions::is_between;
 use questions::pair_refusal;
 use queues::enqueue;
+use starts::clear_ahead;
+use starts::clear_matrices;
 use starts::direct_refusal;
 use starts::first_clock;
 use starts::pipelined_refusal;
-use words::clear_words;
 use wsgs::BookedSlots;
 use wsgs::Clock;
 use wsgs::Input;
@@ -47,10 +48,7 @@ pub fn start_direct(
     if refusal != 0 {
         return Started { refusal, clock };
     }
-    let words = (ports * ports) as usize;
-    clear_words(bookings, words);
-    clear_words(credits, words);
-    clear_words(queues, words);
+    clear_matrices(ports, bookings, credits, queues);
     Started {
         refusal: 0,
         clock: first_clock(ports, frame),
@@ -79,12 +77,8 @@ pub fn start_pipelined(
     if refusal != 0 {
         return Started { refusal, clock };
     }
-    let words = (ports * ports) as usize;
-    clear_words(bookings, words);
-    clear_words(credits, words);
-    clear_words(queues, words);
-    clear_words(copy, words);
-    clear_words(flight, (2 * ports * ports) as usize);
+    clear_matrices(ports, bookings, credits, queues);
+    clear_ahead(ports, copy, flight);
     Started {
         refusal: 0,
         clock: first_clock(ports, frame),

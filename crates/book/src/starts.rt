@@ -1,12 +1,14 @@
 // What starts share: their questions, and the clock of a switch that has run no slot yet.
 ghost use mathlib.Core.Path.{_≡_};
-ghost use Prim.Native.Nat.{_≤_};
+ghost use Prim.Native.Nat.{_*_, _≤_};
 ghost use Rattle.wsgs.specs.Answers.{clock-of, direct-runs-of, pipelined-runs-of};
 ghost use Rattle.wsgs.specs.Direct;
 ghost use Rattle.wsgs.specs.Pipelined;
+ghost use Rattle.words.specs.Runs.{clear-words};
 ghost use Rattle.book.specs.Asked.{Sizes};
 use crate::questions::holds_pairs;
 use crate::questions::sizes_refusal;
+use words::clear_words;
 use wsgs::Clock;
 
 // The clock of sizes in range, before the first slot.
@@ -99,4 +101,27 @@ pub fn pipelined_refusal(
         return 4;
     }
     0
+}
+
+// Sets the words of all pairs to 0 in the runs that both forms have.
+pub fn clear_matrices(ports: u64, bookings: &mut [u32], credits: &mut [u32], queues: &mut [u32])
+    requires { ⌜ ports ≤ 32 ⌝ }
+    ensures { λ _. ⌜ now (bookings .exit) ≡ clear-words (ports * ports) (now (bookings .entry)) ⌝ }
+    ensures { λ _. ⌜ now (credits .exit) ≡ clear-words (ports * ports) (now (credits .entry)) ⌝ }
+    ensures { λ _. ⌜ now (queues .exit) ≡ clear-words (ports * ports) (now (queues .entry)) ⌝ }
+{
+    let words = (ports * ports) as usize;
+    clear_words(bookings, words);
+    clear_words(credits, words);
+    clear_words(queues, words);
+}
+
+// Sets to 0 what a pipelined switch has besides: the frame copy, and the rows in flight.
+pub fn clear_ahead(ports: u64, copy: &mut [u32], flight: &mut [u32])
+    requires { ⌜ ports ≤ 32 ⌝ }
+    ensures { λ _. ⌜ now (copy .exit) ≡ clear-words (ports * ports) (now (copy .entry)) ⌝ }
+    ensures { λ _. ⌜ now (flight .exit) ≡ clear-words (2 * ports * ports) (now (flight .entry)) ⌝ }
+{
+    clear_words(copy, (ports * ports) as usize);
+    clear_words(flight, (2 * ports * ports) as usize);
 }

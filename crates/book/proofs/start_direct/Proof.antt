@@ -1,10 +1,9 @@
 -- `book::start_direct` meets its contract: the start is refused and all stays, or every used word is set to 0. Assumes nothing.
 use mathlib.Core.Path.{_≡_, sym, _∙_}
-use native.Mathlib.Omega.{arith}
 use borrow.Author.Needs.{needs}
 use Rattle.wsgs.specs.Answers.{direct-runs-of}
 use Rattle.wsgs.specs.Direct
-use Rattle.book.proofs.Laws.Places.{square-small}
+use Rattle.book.specs.Asked.{Sizes}
 use Rattle.book.proofs.Laws.Starts.{direct-asked, direct-stays, direct-clears}
 use Rattle.book.proofs.start_direct.Statement.{statement}
 use Rattle.book.proofs.start_direct.Tie as tie
@@ -19,17 +18,12 @@ runs s = direct-runs-of (s .args .bookings .now) (s .args .credits .now) (s .arg
 passed : (c : tie.Else1) → let s = start (c .before) in 0 ≡ Direct.start-refusal (s .args .ports) (s .args .frame) (runs s)
 passed c = sym (c .if1 .left) ∙ c .before .direct-refusal .ensures
 
-abbrev third : tie.After-slice-known6 → tie.After-clear-words3
-third c = c .before .before
+-- so its sizes are in range
+sizes : (c : tie.Else1) → let s = start (c .before) in Sizes (s .args .ports) (s .args .frame)
+sizes c = direct-asked _ _ _ (passed c) .0
 
-abbrev second : tie.After-clear-words3 → tie.After-clear-words2
-second c = c .before .before .before .before
-
-abbrev first : tie.After-clear-words2 → tie.After-clear-words
-first c = c .before .before .before .before
-
-abbrev accepted : tie.After-slice-known6 → tie.Else1
-accepted c = first (second (third c)) .before .before
+abbrev asked : tie.After-clear-matrices → tie.Else1
+asked c = c .before .before .before .before
 
 direct-refusal-requires : tie.Need-direct-refusal-requires
 direct-refusal-requires c κs = search needs
@@ -46,20 +40,11 @@ same-length-3 c = search needs
 returns : tie.Need-returns
 returns c = direct-stays _ _ (runs (start (c .before))) _ _ (c .before .direct-refusal .ensures) (c .if1 .taken)
 
-mul-words : tie.Need-mul-words
-mul-words c = omega (arith, square-small (start (c .before) .args .ports) (direct-asked _ _ _ (passed c) .0 .few-ports))
-
-clear-words-requires : tie.Need-clear-words-requires
-clear-words-requires c κs = search needs
-
-clear-words-requires-2 : tie.Need-clear-words-requires-2
-clear-words-requires-2 c κs = search needs
-
-clear-words-requires-3 : tie.Need-clear-words-requires-3
-clear-words-requires-3 c κs = search needs
+clear-matrices-requires : tie.Need-clear-matrices-requires
+clear-matrices-requires c κs = sizes (c .before .before .before) .few-ports
 
 first-clock-requires : tie.Need-first-clock-requires
-first-clock-requires c κs = direct-asked _ _ _ (passed (accepted c)) .0
+first-clock-requires c κs = sizes (asked (c .before .before .before .before .before .before))
 
 same-length-4 : tie.Need-same-length-4
 same-length-4 c = search needs
@@ -72,11 +57,11 @@ same-length-6 c = search needs
 
 returns-2 : tie.Need-returns-2
 returns-2 c =
-    let w = third (c .before) in
-    let v = second w in
-    let u = first v in
-    let l = direct-clears _ _ (runs (start (u .before .before .before))) _ (passed (u .before .before)) _ (c .first-clock .ensures) in
-    (l .0, (u .clear-words .ensures ∙ l .1 .0, (v .clear-words2 .ensures ∙ l .1 .1 .0, w .clear-words3 .ensures ∙ l .1 .1 .1)))
+    let w = c .before .before .before .before .before .before .before in
+    let e = asked w in
+    let l = direct-clears _ _ (runs (start (e .before))) _ (passed e) _ (c .first-clock .ensures) in
+    let k = w .clear-matrices .ensures in
+    (l .0, (k .0 ∙ l .1 .0, (k .1 .0 ∙ l .1 .1 .0, k .1 .1 ∙ l .1 .1 .1)))
 
 pub start-direct-spec : {M : Type 1} → statement M
 start-direct-spec =
@@ -87,10 +72,7 @@ start-direct-spec =
     same-length-2
     same-length-3
     returns
-    mul-words
-    clear-words-requires
-    clear-words-requires-2
-    clear-words-requires-3
+    clear-matrices-requires
     first-clock-requires
     same-length-4
     same-length-5
