@@ -1,0 +1,53 @@
+// Printing names, numbers and words, and the clock that the cases begin with.
+use wsgs::Clock;
+
+// A clock that has run nine slots.
+pub fn clock(ports: u32, frame: u32) -> Clock {
+    Clock {
+        ports,
+        frame,
+        slot: 9,
+    }
+}
+
+// A word as a number to print.
+fn wide(word: u32) -> u64 {
+    word as u64
+}
+
+// Prints text.
+pub fn text(bytes: &[u8]) {
+    io::write_all(1, bytes);
+}
+
+// Prints a name and a number.
+pub fn number(name: &[u8], value: u64) {
+    text(name);
+    io::print_decimal(1, value);
+}
+
+// Prints the word at a place of a run, where it has one.
+pub fn word(run: &[u32], place: usize) {
+    if place < run.len() {
+        number(b" ", wide(run[place]));
+    }
+}
+
+// Prints a clock.
+pub fn clock_of(clock: Clock) {
+    number(b" clock ", clock.ports as u64);
+    number(b" ", clock.frame as u64);
+    number(b" ", clock.slot as u64);
+}
+
+// Prints a refusal and the first five words of a run: those of two ports, and one beyond.
+pub fn outcome(refusal: u32, run: &[u32]) {
+    number(b": refusal ", wide(refusal));
+    text(b" words");
+    word(run, 0);
+    word(run, 1);
+    word(run, 2);
+    word(run, 3);
+    word(run, 4);
+    text(b"\n");
+}
