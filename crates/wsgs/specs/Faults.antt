@@ -68,6 +68,10 @@ faults =
     ∷ calls some-switch (start direct 1 3 ∷ arrive 1 1 1 ∷ ticks direct 2) (ok ∷ ok ∷ pairs (1 ∷ []) 0 ∷ pairs [] 0 ∷ [])
     -- a row that was handed out is empty when its turn comes again
     ∷ calls some-switch (start pipelined 1 1 ∷ arrive 1 1 1 ∷ ticks pipelined 3) (ok ∷ ok ∷ pairs (1 ∷ []) 0 ∷ pairs [] 0 ∷ pairs [] 0 ∷ [])
+    -- of one packet the pass-one turn of a tick comes first
+    ∷ calls some-switch (start pipelined 1 2 ∷ book 1 1 1 ∷ arrive 1 1 1 ∷ ticks pipelined 2) (ok ∷ ok ∷ ok ∷ pairs [] 0 ∷ pairs (1 ∷ []) 1 ∷ [])
+    -- pass two has no mark
+    ∷ calls some-switch (start direct 2 3 ∷ book 1 1 1 ∷ arrive 1 1 1 ∷ arrive 2 2 1 ∷ ticks direct 1) (ok ∷ ok ∷ ok ∷ ok ∷ pairs (1 ∷ 2 ∷ []) 1 ∷ [])
     -- frames shorter than the number of ports are refused by the pipelined form alone
     ∷ calls some-switch (start pipelined 3 2 ∷ []) (refused 3 ∷ [])
     ∷ calls some-switch (start direct 3 2 ∷ []) (ok ∷ [])
