@@ -12,3 +12,9 @@ pub mod Choice
 pub mod PassLaws
 pub mod Asked
 pub mod SlotLaws
+pub mod FlightLaws
+pub mod FlightMasks
+pub mod FlightPairs
+pub mod PipelinedTurns
+pub mod PipelinedRows
+pub mod PipelinedTick
