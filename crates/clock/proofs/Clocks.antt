@@ -34,7 +34,14 @@ use Rattle.wsgs.proofs.Ticked as ticked
 use Rattle.wsgs.proofs.Ticked.Laws as ticked-laws
 use Rattle.wsgs.proofs.Answer as answered
 use Rattle.wsgs.proofs.Answer.Laws as answered-laws
+use Rattle.clock.specs.declared.Stepped.{Stepped}
+use Rattle.clock.proofs.Stepped as steps
+use Rattle.clock.proofs.Stepped.Laws as steps-laws
 use Rattle.clock.proofs.Advance.{at-slot}
+
+-- the machine value of a clock
+abbrev pub value : Clock → Val
+value k = clock-laws.lowered k
 
 -- a clock's numbers fit their width
 pub numbers-fit : (k : Clock) (vs : List Val) → Is clock.the-row k vs → (k .ports < 2 ^ 32) × ((k .frame < 2 ^ 32) × (k .slot < 2 ^ 32))
@@ -44,7 +51,7 @@ numbers-fit k vs is = let f = LL.owed clock.the-type clock-laws.the-laws k vs is
 pub slot-fits : (t : Ticked) (us : List Val) → Is ticked.the-row t us → t .slot < 2 ^ 32
 slot-fits t us is = LL.owed ticked.the-type ticked-laws.the-laws t us is .1 .0 .1
 
-pub clock-typed : (k : Clock) (t : Ticked) (vs us : List Val) → Is clock.the-row k vs → Is ticked.the-row t us → Is clock.the-row (at-slot k (t .slot)) (clock-laws.lowered (at-slot k (t .slot)) ∷ [])
+pub clock-typed : (k : Clock) (t : Ticked) (vs us : List Val) → Is clock.the-row k vs → Is ticked.the-row t us → Is clock.the-row (at-slot k (t .slot)) (value (at-slot k (t .slot)) ∷ [])
 clock-typed k t vs us was is =
     let f = LL.owed clock.the-type clock-laws.the-laws k vs was in
     LL.owes clock.the-type clock-laws.the-laws (at-slot k (t .slot)) (f .0, (f .1 .0, (LL.owed ticked.the-type ticked-laws.the-laws t us is .1 .0, tt)))
@@ -58,6 +65,13 @@ answer-typed t us is =
     let f = LL.owed ticked.the-type ticked-laws.the-laws t us is in
     LL.owes answered.the-type answered-laws.the-laws (answer t) (f .0, (f .1 .1 .0, (f .1 .1 .1 .0, tt)))
 
+-- a clock and an answer make a step
+abbrev pub stepped : Clock → Answer → Stepped
+stepped k r = record { clock = k; answer = r }
+
+pub stepped-typed : (k : Clock) (r : Answer) (us : List Val) → Is clock.the-row k (value k ∷ []) → Is answered.the-row r us → Is steps.the-row (stepped k r) (LL.vals steps.the-type steps-laws.the-laws (stepped k r))
+stepped-typed k r us is is-r = LL.owes steps.the-type steps-laws.the-laws (stepped k r) (is, (LL.owes answered.the-type answered-laws.the-laws r (LL.owed answered.the-type answered-laws.the-laws r us is-r), tt))
+
 -- what the runs own, with the three numbers of a clock before them
 pub numbers-owned : {M : Type 1} (𝓤 : URA M) (H : Heap 𝓤) (A : Atoms 𝓤) (W : Given 𝓤 H A) (k : Clock) (vs : List Val) → Is clock.the-row k vs
     → (Rs : List RattleType) (xs : Denots Rs) (vss : Valss Rs) → ent 𝓤 (sem 𝓤 H A (owns Rs xs vss))
@@ -66,10 +80,6 @@ numbers-owned 𝓤 H A W k vs is Rs xs vss =
     let f = numbers-fit k vs is in
     let u = uint-makes 𝓤 H A W w32 in
     qed W (‵ (owns Rs xs vss) ∷ []) ∵ owned ! u32 (Is u32) u (k .slot) _ (refl, f .1 .1) $ fjoin ! $ owned ! u32 (Is u32) u (k .frame) _ (refl, f .1 .0) $ fjoin ! $ owned ! u32 (Is u32) u (k .ports) _ (refl, f .0) $ fjoin ! $ done !
-
--- the machine value of a clock
-abbrev pub value : Clock → Val
-value k = clock-laws.lowered k
 
 -- the cell of a local that holds a clock is what lies there for a loan, and back
 module _ {M : Type 1} (𝓤 : URA M) (H : Heap 𝓤) (A : Atoms 𝓤) (W : Given 𝓤 H A) (k : Clock) (l : ℕ) where
