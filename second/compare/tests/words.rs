@@ -161,7 +161,7 @@ fn any_switch(r: &mut Random) -> (Clock, Runs) {
 #[test]
 fn any_words_and_any_clock() {
     let mut r = Random::new(setting("KIVDRAG_SEED", 1));
-    let calls = setting("KIVDRAG_CALLS", 600_000);
+    let calls = setting("KIVDRAG_CALLS", 3_000_000);
     let (mut clock, mut w) = any_switch(&mut r);
     let mut refusals = [0u64; 12];
     for at in 0..calls {
