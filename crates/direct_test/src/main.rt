@@ -83,92 +83,49 @@ fn case(
     say(b"\n");
 }
 
-// The last slot that runs, and the clock that has run it.
-fn last_slot() {
+// The slots from 1 on, each with its line.
+fn slots(
+    name: &[u8],
+    ports: u32,
+    frame: u32,
+    count: u32,
+    bookings: &[u32],
+    credits: &mut [u32],
+    queues: &mut [u32],
+) {
+    for slot in 0..count {
+        case(name, ports, frame, slot, bookings, credits, queues);
+    }
+}
+
+// One port, booked once, with two packets.
+fn one_port(name: &[u8], ports: u32, frame: u32, slot: u32) {
     let bookings = [1u32];
     let mut credits = [0u32];
     let mut queues = [2u32];
     case(
-        b"clock at 3999999999",
-        1,
-        1,
-        3999999999,
-        &bookings,
-        &mut credits,
-        &mut queues,
-    );
-    case(
-        b"clock at 4000000000",
-        1,
-        1,
-        4000000000,
+        name,
+        ports,
+        frame,
+        slot,
         &bookings,
         &mut credits,
         &mut queues,
     );
 }
 
-// The limits of ports and frame, and the order of the questions.
+// The limits of ports, frame and clock, and the order of the questions.
 fn limits() {
-    let bookings = [0u32; 1];
-    let mut credits = [0u32; 1];
-    let mut queues = [1u32; 1];
-    case(b"no ports", 0, 1, 0, &bookings, &mut credits, &mut queues);
-    case(b"33 ports", 33, 1, 0, &bookings, &mut credits, &mut queues);
-    case(
-        b"no slots in a frame",
-        1,
-        0,
-        0,
-        &bookings,
-        &mut credits,
-        &mut queues,
-    );
-    case(
-        b"10001 slots in a frame",
-        1,
-        10001,
-        0,
-        &bookings,
-        &mut credits,
-        &mut queues,
-    );
-    case(
-        b"neither ports nor frame",
-        0,
-        0,
-        0,
-        &bookings,
-        &mut credits,
-        &mut queues,
-    );
-    case(
-        b"no frame and short runs",
-        2,
-        0,
-        0,
-        &bookings,
-        &mut credits,
-        &mut queues,
-    );
-    case(
-        b"short runs at the last slot",
-        2,
-        1,
-        4000000000,
-        &bookings,
-        &mut credits,
-        &mut queues,
-    );
-    case(
-        b"10000 slots in a frame",
-        1,
-        10000,
-        0,
-        &bookings,
-        &mut credits,
-        &mut queues,
-    );
+    one_port(b"clock at 3999999999", 1, 1, 3999999999);
+    one_port(b"clock at 4000000000", 1, 1, 4000000000);
+    one_port(b"no ports", 0, 1, 0);
+    one_port(b"33 ports", 33, 1, 0);
+    one_port(b"no slots in a frame", 1, 0, 0);
+    one_port(b"10000 slots in a frame", 1, 10000, 0);
+    one_port(b"10001 slots in a frame", 1, 10001, 0);
+    one_port(b"neither ports nor frame", 0, 0, 0);
+    one_port(b"no frame and short runs", 2, 0, 0);
+    one_port(b"short runs at the last slot", 2, 1, 4000000000);
 }
 
 // Each run in turn short by one word.
@@ -229,42 +186,7 @@ fn one_slot_frames() {
     let bookings = [1u32];
     let mut credits = [9u32];
     let mut queues = [3u32];
-    case(
-        b"frame of 1, slot 1",
-        1,
-        1,
-        0,
-        &bookings,
-        &mut credits,
-        &mut queues,
-    );
-    case(
-        b"frame of 1, slot 2",
-        1,
-        1,
-        1,
-        &bookings,
-        &mut credits,
-        &mut queues,
-    );
-    case(
-        b"frame of 1, slot 3",
-        1,
-        1,
-        2,
-        &bookings,
-        &mut credits,
-        &mut queues,
-    );
-    case(
-        b"frame of 1, slot 4",
-        1,
-        1,
-        3,
-        &bookings,
-        &mut credits,
-        &mut queues,
-    );
+    slots(b"frame of 1", 1, 1, 4, &bookings, &mut credits, &mut queues);
 }
 
 // Two ports, three pairs booked once in a frame of three slots, and five packets for each.
@@ -272,47 +194,12 @@ fn frame_of_three() {
     let bookings = [1u32, 1, 1, 0];
     let mut credits = [0u32; 4];
     let mut queues = [5u32, 5, 5, 0];
-    case(
-        b"frame of 3, slot 1",
-        2,
-        3,
-        0,
-        &bookings,
-        &mut credits,
-        &mut queues,
-    );
-    case(
-        b"frame of 3, slot 2",
-        2,
-        3,
-        1,
-        &bookings,
-        &mut credits,
-        &mut queues,
-    );
-    case(
-        b"frame of 3, slot 3",
-        2,
-        3,
-        2,
-        &bookings,
-        &mut credits,
-        &mut queues,
-    );
-    case(
-        b"frame of 3, slot 4",
-        2,
-        3,
-        3,
-        &bookings,
-        &mut credits,
-        &mut queues,
-    );
+    slots(b"frame of 3", 2, 3, 4, &bookings, &mut credits, &mut queues);
 }
 
-// Words that no call left there.
-fn garbage() {
-    let none = [0u32; 4];
+// Words that no call left there: credits without bookings, in the middle of a frame.
+fn credits_unbooked() {
+    let bookings = [0u32; 4];
     let mut credits = [9u32, 0, 4000000000, 0];
     let mut queues = [1u32; 4];
     case(
@@ -320,70 +207,61 @@ fn garbage() {
         2,
         10,
         5,
-        &none,
+        &bookings,
         &mut credits,
         &mut queues,
     );
-    let most = [4294967295u32; 4];
-    let mut most_credits = [4294967295u32; 4];
-    let mut most_queues = [4294967295u32; 4];
+}
+
+// The largest words everywhere.
+fn largest_words() {
+    let bookings = [4294967295u32; 4];
+    let mut credits = [4294967295u32; 4];
+    let mut queues = [4294967295u32; 4];
     case(
         b"the largest words",
         2,
         10,
         5,
-        &most,
-        &mut most_credits,
-        &mut most_queues,
+        &bookings,
+        &mut credits,
+        &mut queues,
     );
-    let mut old_credits = [7u32; 4];
-    let mut two_queues = [1u32, 0, 0, 1];
+}
+
+// Credits that an old frame left, where a new one begins.
+fn credits_left() {
+    let bookings = [0u32; 4];
+    let mut credits = [7u32; 4];
+    let mut queues = [1u32, 0, 0, 1];
     case(
         b"credits of an old frame",
         2,
         10,
         10,
-        &none,
-        &mut old_credits,
-        &mut two_queues,
+        &bookings,
+        &mut credits,
+        &mut queues,
     );
 }
 
 // 32 ports, every pair queued, and every pair or none booked.
-fn full_switch() {
-    let ones = [1u32; 1024];
-    let none = [0u32; 1024];
-    let mut credits = [0u32; 1024];
+fn full_switch(name: &[u8], booked: u32) {
+    let bookings = [booked; 1024];
+    let mut credits = [3u32; 1024];
     let mut queues = [1u32; 1024];
-    case(
-        b"32 ports, all booked",
-        32,
-        4,
-        0,
-        &ones,
-        &mut credits,
-        &mut queues,
-    );
-    let mut no_credits = [3u32; 1024];
-    let mut all_queues = [1u32; 1024];
-    case(
-        b"32 ports, none booked",
-        32,
-        4,
-        4,
-        &none,
-        &mut no_credits,
-        &mut all_queues,
-    );
+    case(name, 32, 4, 4, &bookings, &mut credits, &mut queues);
 }
 
 fn main() {
-    last_slot();
     limits();
     short_runs();
     word_beyond();
     one_slot_frames();
     frame_of_three();
-    garbage();
-    full_switch();
+    credits_unbooked();
+    largest_words();
+    credits_left();
+    full_switch(b"32 ports, all booked", 1);
+    full_switch(b"32 ports, none booked", 0);
 }

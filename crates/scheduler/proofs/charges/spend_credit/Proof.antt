@@ -24,7 +24,8 @@ slice-read-t10 c = omega (arith, inside (c .before))
 sub-t10 : tie.Need-sub-t10
 sub-t10 c =
     let s = c .before .before .before .before in
-    omega (arith, at-word (s .args .ports) (s .args .credits .now) (s .args .input .0) (s .args .output .0) _ (c .before .before .place-of .ensures), s .pre)
+    let a = s .args in
+    omega (arith, at-word (a .ports) (a .credits .now) (a .input .0) (a .output .0) _ (c .before .before .place-of .ensures), s .pre)
 
 mul-credits : tie.Need-mul-credits
 mul-credits c = omega (arith, inside (c .before .before))

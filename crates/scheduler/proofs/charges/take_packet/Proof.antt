@@ -24,7 +24,8 @@ slice-read-queues c = omega (arith, inside (c .before))
 sub-queues : tie.Need-sub-queues
 sub-queues c =
     let s = c .before .before .before in
-    omega (arith, at-word (s .args .ports) (s .args .queues .now) (s .args .input .0) (s .args .output .0) _ (c .before .place-of .ensures), s .pre)
+    let a = s .args in
+    omega (arith, at-word (a .ports) (a .queues .now) (a .input .0) (a .output .0) _ (c .before .place-of .ensures), s .pre)
 
 slice-write-queues : tie.Need-slice-write-queues
 slice-write-queues c = omega (arith, inside (c .before))

@@ -2,6 +2,7 @@
 use mathlib.Core.Path.{sym, _∙_}
 use native.Mathlib.Omega.{arith}
 use borrow.Author.Needs.{needs}
+use Rattle.wsgs.specs.Answers.{direct-runs-of}
 use Rattle.scheduler.proofs.Asked.{Accepted, accepted-found}
 use Rattle.scheduler.proofs.SlotLaws.{tick-refused, tick-ran}
 use Rattle.scheduler.proofs.direct.tick.Statement.{statement}
@@ -42,7 +43,9 @@ returns-2 : tie.Need-returns-2
 returns-2 c =
     let k = c .before .before .before .before .before in
     let e = k .before .before .before in
-    tick-ran _ _ _ _ _ (e .before .tick-refusal .ensures) (e .if1 .left) _ _ _ _ (k .run-slot .ensures)
+    let a = e .before .before .before .before .before .before .before .args in
+    tick-ran (a .ports) (a .frame) (a .slot) (direct-runs-of (a .bookings .now) (a .credits .now) (a .queues .now)) _
+    (e .before .tick-refusal .ensures) (e .if1 .left) _ _ _ _ (k .run-slot .ensures)
 
 pub tick-spec : {M : Type 1} → statement M
 tick-spec =
