@@ -1,6 +1,6 @@
 // The bookings: those of a pair read and written, and summed over a row and over a column.
 ghost use mathlib.Core.Path.{_≡_};
-ghost use Prim.Native.Nat.{_*_, _^_, _≤_, _<_};
+ghost use Prim.Native.Nat.{_^_, _<_};
 ghost use Rattle.wsgs.specs.Basics.{Port};
 ghost use Rattle.wsgs.specs.Words.{word, put, row-sum, column-sum};
 ghost use Rattle.book.specs.Asked.{Holds};

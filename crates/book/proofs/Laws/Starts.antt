@@ -18,7 +18,8 @@ use Rattle.wsgs.proofs.Refusals.{DirectLong, PipelinedLong}
 use Rattle.words.specs.Runs.{clear-words}
 use Rattle.words.proofs.Laws.{clear-fits}
 use Rattle.book.specs.Asked.{Sizes, on-sizes, sizes-refusal}
-use Rattle.book.proofs.Laws.Refusals.{none-left, asked-no, asked-yes, all-yes, some-no, answered, said-no, said-yes, sizes-in}
+use Rattle.book.proofs.Laws.Pairs.{sizes-in}
+use Rattle.book.proofs.Laws.Questions.{none-left, asked-no, asked-yes, all-yes, some-no, answered, said-no, said-yes}
 
 -- a start that is refused leaves clock and runs, and one that is not does its work
 pub start-stays : {Runs : Type 0} (r refusal : ℕ) (c : Clock) (w : Runs) (done : Outcome Runs) → r ≡ refusal → r ≢ 0

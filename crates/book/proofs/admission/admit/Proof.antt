@@ -1,11 +1,11 @@
 -- `book::admission::admit` meets its contract. A booking that the row admits is part of the row's sum, so it fits its word.
 -- Assumes nothing.
-use mathlib.Core.Path.{_≡_, refl}
+use mathlib.Core.Path.{refl}
 use Prim.Native.Nat.{_+_, _*_, _^_, _≤_, _<_}
 use native.Mathlib.Omega.{arith}
 use borrow.Author.Needs.{needs}
 use Rattle.wsgs.specs.Words.{row-sum}
-use Rattle.book.proofs.Laws.Admission.{row-full, column-full, both-admit}
+use Rattle.book.proofs.Laws.Amounts.{row-full, column-full, both-admit}
 use Rattle.book.proofs.Laws.Sums.{word-in-row}
 use Rattle.book.proofs.admission.admit.Statement.{statement}
 use Rattle.book.proofs.admission.admit.Tie as tie

@@ -3,7 +3,7 @@ use mathlib.Core.Path.{refl}
 use native.Mathlib.Omega.{arith}
 use borrow.Author.Needs.{needs}
 use Rattle.wsgs.specs.Book.{rate-slots}
-use Rattle.book.proofs.Laws.Admission.{rate-bound, line-bound, rate-few}
+use Rattle.book.proofs.Laws.Amounts.{rate-bound, line-bound, rate-few}
 use Rattle.book.proofs.admission.rate_slots.Statement.{statement}
 use Rattle.book.proofs.admission.rate_slots.Tie as tie
 

@@ -2,7 +2,7 @@
 use mathlib.Core.Path.{refl}
 use native.Mathlib.Omega.{arith}
 use borrow.Author.Needs.{needs}
-use Rattle.book.proofs.Laws.Admission.{held-short, held-enough}
+use Rattle.book.proofs.Laws.Amounts.{held-short, held-enough}
 use Rattle.book.proofs.admission.withdraw.Statement.{statement}
 use Rattle.book.proofs.admission.withdraw.Tie as tie
 

@@ -1,7 +1,8 @@
 -- `book::questions::pair_refusal` meets its contract: the sizes refuse, or else the questions after them decide. Assumes nothing.
 use mathlib.Core.Path.{sym, _∙_}
 use borrow.Author.Needs.{needs}
-use Rattle.book.proofs.Laws.Refusals.{said-no, said-yes, sizes-asked, pair-sized, pair-short, pair-outside, pair-inside}
+use Rattle.book.proofs.Laws.Pairs.{sizes-asked, pair-sized, pair-short, pair-outside, pair-inside}
+use Rattle.book.proofs.Laws.Questions.{said-no, said-yes}
 use Rattle.book.proofs.questions.pair_refusal.Statement.{statement}
 use Rattle.book.proofs.questions.pair_refusal.Tie as tie
 

@@ -1,7 +1,7 @@
 -- `book::questions::sizes_refusal` meets its contract. Assumes nothing.
 use borrow.Author.Needs.{needs}
 use Rattle.book.specs.Asked.{sizes-refusal}
-use Rattle.book.proofs.Laws.Refusals.{said-no, said-yes}
+use Rattle.book.proofs.Laws.Questions.{said-no, said-yes}
 use Rattle.book.proofs.questions.sizes_refusal.Statement.{statement}
 use Rattle.book.proofs.questions.sizes_refusal.Tie as tie
 

@@ -2,7 +2,7 @@
 use mathlib.Core.Path.{refl}
 use native.Mathlib.Omega.{arith}
 use borrow.Author.Needs.{needs}
-use Rattle.book.proofs.Laws.Admission.{queue-full, queue-takes}
+use Rattle.book.proofs.Laws.Amounts.{queue-full, queue-takes}
 use Rattle.book.proofs.queues.enqueue.Statement.{statement}
 use Rattle.book.proofs.queues.enqueue.Tie as tie
 

@@ -1,7 +1,7 @@
 -- `book::starts::direct_refusal` meets its contract: the sizes refuse, or else the runs decide. Assumes nothing.
 use mathlib.Core.Path.{sym, _∙_}
 use borrow.Author.Needs.{needs}
-use Rattle.book.proofs.Laws.Refusals.{sizes-asked}
+use Rattle.book.proofs.Laws.Pairs.{sizes-asked}
 use Rattle.book.proofs.Laws.Starts.{direct-sized, direct-short, direct-long}
 use Rattle.book.proofs.starts.direct_refusal.Statement.{statement}
 use Rattle.book.proofs.starts.direct_refusal.Tie as tie

@@ -1,6 +1,6 @@
 -- `book::starts::direct_runs_suffice` meets its contract. Assumes nothing.
 use borrow.Author.Needs.{needs}
-use Rattle.book.proofs.Laws.Refusals.{said-no, said-yes}
+use Rattle.book.proofs.Laws.Questions.{said-no, said-yes}
 use Rattle.book.proofs.starts.direct_runs_suffice.Statement.{statement}
 use Rattle.book.proofs.starts.direct_runs_suffice.Tie as tie
 

@@ -2,7 +2,7 @@
 -- Assumes nothing.
 use mathlib.Core.Path.{sym, _∙_}
 use borrow.Author.Needs.{needs}
-use Rattle.book.proofs.Laws.Refusals.{sizes-asked}
+use Rattle.book.proofs.Laws.Pairs.{sizes-asked}
 use Rattle.book.proofs.Laws.Starts.{pipelined-sized, pipelined-uncovered, pipelined-short, pipelined-long}
 use Rattle.book.proofs.starts.pipelined_refusal.Statement.{statement}
 use Rattle.book.proofs.starts.pipelined_refusal.Tie as tie
