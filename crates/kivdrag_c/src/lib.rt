@@ -1,0 +1,156 @@
+// The calls of a switch as C has them (include/kivdrag.h). Each is the proved call of its name, on a clock that is lent as three words.
+ghost use mathlib.Core.Path.{_≡_};
+ghost use Rattle.wsgs.specs.Answers.{direct-runs-of, pipelined-runs-of};
+ghost use Rattle.wsgs.specs.Direct;
+ghost use Rattle.wsgs.specs.Pipelined;
+ghost use Rattle.wsgs.specs.Book.{book-refusal, book-words, rate-refusal, rate-words, release-refusal, release-words, arrive-refusal, arrive-words};
+ghost use Rattle.kivdrag_c.specs.Clocks.{held, words-of};
+
+mod clocks;
+
+use clocks::clock_in;
+use clocks::put_clock;
+use wsgs::BookedSlots;
+use wsgs::Input;
+use wsgs::Output;
+
+// Starts a direct switch.
+#[no_mangle]
+pub extern "C" fn kivdrag_start_direct(
+    ports: u64,
+    frame: u64,
+    clock: &mut [u32; 3],
+    bookings: &mut [u32],
+    credits: &mut [u32],
+    queues: &mut [u32],
+) -> u32
+    ensures { λ r. ⌜ r ≡ Direct.start ports frame (held (now (clock .entry))) (direct-runs-of (now (bookings .entry)) (now (credits .entry)) (now (queues .entry))) .refusal ⌝ }
+    ensures { λ _. ⌜ now (clock .exit) ≡ words-of (Direct.start ports frame (held (now (clock .entry))) (direct-runs-of (now (bookings .entry)) (now (credits .entry)) (now (queues .entry))) .clock) ⌝ }
+    ensures { λ _. ⌜ now (bookings .exit) ≡ Direct.start ports frame (held (now (clock .entry))) (direct-runs-of (now (bookings .entry)) (now (credits .entry)) (now (queues .entry))) .runs .bookings ⌝ }
+    ensures { λ _. ⌜ now (credits .exit) ≡ Direct.start ports frame (held (now (clock .entry))) (direct-runs-of (now (bookings .entry)) (now (credits .entry)) (now (queues .entry))) .runs .credits ⌝ }
+    ensures { λ _. ⌜ now (queues .exit) ≡ Direct.start ports frame (held (now (clock .entry))) (direct-runs-of (now (bookings .entry)) (now (credits .entry)) (now (queues .entry))) .runs .queues ⌝ }
+{
+    let started = book::start_direct(ports, frame, clock_in(clock), bookings, credits, queues);
+    put_clock(clock, started.clock);
+    started.refusal
+}
+
+// Starts a pipelined switch.
+#[no_mangle]
+pub extern "C" fn kivdrag_start_pipelined(
+    ports: u64,
+    frame: u64,
+    clock: &mut [u32; 3],
+    bookings: &mut [u32],
+    credits: &mut [u32],
+    queues: &mut [u32],
+    copy: &mut [u32],
+    flight: &mut [u32],
+) -> u32
+    ensures { λ r. ⌜ r ≡ Pipelined.start ports frame (held (now (clock .entry))) (pipelined-runs-of (now (bookings .entry)) (now (credits .entry)) (now (queues .entry)) (now (copy .entry)) (now (flight .entry))) .refusal ⌝ }
+    ensures { λ _. ⌜ now (clock .exit) ≡ words-of (Pipelined.start ports frame (held (now (clock .entry))) (pipelined-runs-of (now (bookings .entry)) (now (credits .entry)) (now (queues .entry)) (now (copy .entry)) (now (flight .entry))) .clock) ⌝ }
+    ensures { λ _. ⌜ now (bookings .exit) ≡ Pipelined.start ports frame (held (now (clock .entry))) (pipelined-runs-of (now (bookings .entry)) (now (credits .entry)) (now (queues .entry)) (now (copy .entry)) (now (flight .entry))) .runs .bookings ⌝ }
+    ensures { λ _. ⌜ now (credits .exit) ≡ Pipelined.start ports frame (held (now (clock .entry))) (pipelined-runs-of (now (bookings .entry)) (now (credits .entry)) (now (queues .entry)) (now (copy .entry)) (now (flight .entry))) .runs .credits ⌝ }
+    ensures { λ _. ⌜ now (queues .exit) ≡ Pipelined.start ports frame (held (now (clock .entry))) (pipelined-runs-of (now (bookings .entry)) (now (credits .entry)) (now (queues .entry)) (now (copy .entry)) (now (flight .entry))) .runs .queues ⌝ }
+    ensures { λ _. ⌜ now (copy .exit) ≡ Pipelined.start ports frame (held (now (clock .entry))) (pipelined-runs-of (now (bookings .entry)) (now (credits .entry)) (now (queues .entry)) (now (copy .entry)) (now (flight .entry))) .runs .copy ⌝ }
+    ensures { λ _. ⌜ now (flight .exit) ≡ Pipelined.start ports frame (held (now (clock .entry))) (pipelined-runs-of (now (bookings .entry)) (now (credits .entry)) (now (queues .entry)) (now (copy .entry)) (now (flight .entry))) .runs .flight ⌝ }
+{
+    let started = book::start_pipelined(
+        ports,
+        frame,
+        clock_in(clock),
+        bookings,
+        credits,
+        queues,
+        copy,
+        flight,
+    );
+    put_clock(clock, started.clock);
+    started.refusal
+}
+
+// Books slots of each frame for a pair.
+#[no_mangle]
+pub extern "C" fn kivdrag_book(
+    clock: &[u32; 3],
+    bookings: &mut [u32],
+    input: u64,
+    output: u64,
+    slots: u64,
+) -> u32
+    ensures { λ r. ⌜ r ≡ book-refusal (held (now (clock .entry))) (now (bookings .entry)) input output slots ⌝ }
+    ensures { λ _. ⌜ now (bookings .exit) ≡ book-words (held (now (clock .entry))) (now (bookings .entry)) input output slots ⌝ }
+{
+    book::book(
+        clock_in(clock),
+        bookings,
+        Input(input),
+        Output(output),
+        BookedSlots(slots),
+    )
+}
+
+// Books the slots that a rate needs on a line, both in kbit/s.
+#[no_mangle]
+pub extern "C" fn kivdrag_book_rate(
+    clock: &[u32; 3],
+    bookings: &mut [u32],
+    input: u64,
+    output: u64,
+    line: u64,
+    rate: u64,
+) -> u32
+    ensures { λ r. ⌜ r ≡ rate-refusal (held (now (clock .entry))) (now (bookings .entry)) input output line rate ⌝ }
+    ensures { λ _. ⌜ now (bookings .exit) ≡ rate-words (held (now (clock .entry))) (now (bookings .entry)) input output line rate ⌝ }
+{
+    book::book_rate(
+        clock_in(clock),
+        bookings,
+        Input(input),
+        Output(output),
+        line,
+        rate,
+    )
+}
+
+// Takes booked slots off a pair again.
+#[no_mangle]
+pub extern "C" fn kivdrag_release(
+    clock: &[u32; 3],
+    bookings: &mut [u32],
+    input: u64,
+    output: u64,
+    slots: u64,
+) -> u32
+    ensures { λ r. ⌜ r ≡ release-refusal (held (now (clock .entry))) (now (bookings .entry)) input output slots ⌝ }
+    ensures { λ _. ⌜ now (bookings .exit) ≡ release-words (held (now (clock .entry))) (now (bookings .entry)) input output slots ⌝ }
+{
+    book::release(
+        clock_in(clock),
+        bookings,
+        Input(input),
+        Output(output),
+        BookedSlots(slots),
+    )
+}
+
+// Adds packets that arrived to a pair's queue.
+#[no_mangle]
+pub extern "C" fn kivdrag_arrive(
+    clock: &[u32; 3],
+    queues: &mut [u32],
+    input: u64,
+    output: u64,
+    packets: u64,
+) -> u32
+    ensures { λ r. ⌜ r ≡ arrive-refusal (held (now (clock .entry))) (now (queues .entry)) input output packets ⌝ }
+    ensures { λ _. ⌜ now (queues .exit) ≡ arrive-words (held (now (clock .entry))) (now (queues .entry)) input output packets ⌝ }
+{
+    book::arrive(
+        clock_in(clock),
+        queues,
+        Input(input),
+        Output(output),
+        packets,
+    )
+}
