@@ -1,0 +1,3 @@
+-- Laws that the walks cite.
+pub mod Advance
+pub mod Local

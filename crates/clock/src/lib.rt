@@ -1,0 +1,61 @@
+// The ticks of both forms, with the clock advanced in place. The slot is run by crates/scheduler on the clock's three numbers, and the last slot
+// run that it gives back, the old one where the tick is refused, is written into the clock.
+ghost use mathlib.Core.Path.{_≡_};
+ghost use Rattle.wsgs.specs.Answers.{answer-of, direct-runs-of};
+ghost use Rattle.wsgs.specs.Direct;
+use wsgs::Answer;
+use wsgs::Clock;
+
+// The clock after a tick, and what the tick answers.
+pub struct Stepped {
+    pub clock: Clock,
+    pub answer: Answer,
+}
+
+// A tick of the direct form.
+pub fn tick_direct(
+    clock: &mut Clock,
+    bookings: &[u32],
+    credits: &mut [u32],
+    queues: &mut [u32],
+) -> Answer
+    ensures answer { λ r. ⌜ r ≡ answer-of (Direct.tick (now (clock .entry)) (direct-runs-of (now (bookings .entry)) (now (credits .entry)) (now (queues .entry)))) ⌝ }
+    ensures clock_exit { λ _. ⌜ now (clock .exit) ≡ Direct.tick (now (clock .entry)) (direct-runs-of (now (bookings .entry)) (now (credits .entry)) (now (queues .entry))) .clock ⌝ }
+    ensures credits_exit { λ _. ⌜ now (credits .exit) ≡ Direct.tick (now (clock .entry)) (direct-runs-of (now (bookings .entry)) (now (credits .entry)) (now (queues .entry))) .runs .credits ⌝ }
+    ensures queues_exit { λ _. ⌜ now (queues .exit) ≡ Direct.tick (now (clock .entry)) (direct-runs-of (now (bookings .entry)) (now (credits .entry)) (now (queues .entry))) .runs .queues ⌝ }
+{
+    let t = scheduler::direct::tick(
+        clock.ports,
+        clock.frame,
+        clock.slot,
+        bookings,
+        credits,
+        queues,
+    );
+    clock.slot = t.slot;
+    Answer {
+        refusal: t.refusal,
+        outputs: t.outputs,
+        first_pass: t.first_pass,
+    }
+}
+
+// The same by value: code that has a clock of its own runs the tick above through this, and lends no clock.
+pub fn step_direct(
+    clock: Clock,
+    bookings: &[u32],
+    credits: &mut [u32],
+    queues: &mut [u32],
+) -> Stepped
+    ensures answer { λ r. ⌜ r .answer ≡ answer-of (Direct.tick clock (direct-runs-of (now (bookings .entry)) (now (credits .entry)) (now (queues .entry)))) ⌝ }
+    ensures clock { λ r. ⌜ r .clock ≡ Direct.tick clock (direct-runs-of (now (bookings .entry)) (now (credits .entry)) (now (queues .entry))) .clock ⌝ }
+    ensures credits_exit { λ _. ⌜ now (credits .exit) ≡ Direct.tick clock (direct-runs-of (now (bookings .entry)) (now (credits .entry)) (now (queues .entry))) .runs .credits ⌝ }
+    ensures queues_exit { λ _. ⌜ now (queues .exit) ≡ Direct.tick clock (direct-runs-of (now (bookings .entry)) (now (credits .entry)) (now (queues .entry))) .runs .queues ⌝ }
+{
+    let mut c = clock;
+    let a = tick_direct(&mut c, bookings, credits, queues);
+    Stepped {
+        clock: c,
+        answer: a,
+    }
+}
