@@ -7,6 +7,7 @@ use Prim.Native.Nat.{ℕ}
 use native.Mathlib.Omega.{arith}
 use lib.ListN.{length}
 use Rattle.wsgs.specs.declared.Clock.{Clock}
+use Rattle.wsgs.specs.declared.Answer.{Answer}
 use Rattle.wsgs.specs.declared.Started.{Started}
 use Rattle.wsgs.specs.Switch.{Switch, Call, apply}
 use Rattle.wsgs.proofs.Promises.{refused-changes-nothing}
@@ -36,3 +37,10 @@ pub start-left : {refusal : ℕ} {clock : Clock} {s : Started} {w : List ℕ}
     → w ≡ words-of (s .clock)
     → (s .refusal ≡ refusal) × (w ≡ words-of clock)
 start-left e h = (ap (λ x. x .refusal) e, h ∙ ap (λ x. words-of (x .clock)) e)
+
+-- What a tick leaves of its answer in the words that are lent for it.
+pub answer-left : {refusal passes : ℕ} {outputs : List ℕ} {a : Answer} {r p : ℕ} {o : List ℕ}
+    → a ≡ record { refusal = refusal; outputs = outputs; «first_pass» = passes }
+    → (r ≡ a .refusal) × ((o ≡ a .outputs) × (p ≡ a .«first_pass»))
+    → (r ≡ refusal) × ((o ≡ outputs) × (p ≡ passes))
+answer-left e h = (h .0 ∙ ap (λ x. x .refusal) e, (h .1 .0 ∙ ap (λ x. x .outputs) e, h .1 .1 ∙ ap (λ x. x .«first_pass») e))

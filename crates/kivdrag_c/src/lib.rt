@@ -4,10 +4,13 @@ ghost use Rattle.wsgs.specs.Answers.{direct-runs-of, pipelined-runs-of};
 ghost use Rattle.wsgs.specs.Direct;
 ghost use Rattle.wsgs.specs.Pipelined;
 ghost use Rattle.wsgs.specs.Book.{book-refusal, book-words, rate-refusal, rate-words, release-refusal, release-words, arrive-refusal, arrive-words};
+ghost use Rattle.wsgs.specs.Steps.{outputs-of, pass-word-of};
 ghost use Rattle.kivdrag_c.specs.Clocks.{held, words-of};
 
+mod answers;
 mod clocks;
 
+use answers::put_answer;
 use clocks::clock_in;
 use clocks::put_clock;
 use wsgs::BookedSlots;
@@ -153,4 +156,26 @@ pub extern "C" fn kivdrag_arrive(
         Output(output),
         packets,
     )
+}
+
+// Runs the next slot of a direct switch.
+#[no_mangle]
+pub extern "C" fn kivdrag_tick_direct(
+    clock: &mut [u32; 3],
+    bookings: &[u32],
+    credits: &mut [u32],
+    queues: &mut [u32],
+    outputs: &mut [u8; 32],
+    first_pass: &mut u32,
+) -> u32
+    ensures { λ r. ⌜ r ≡ Direct.tick (held (now (clock .entry))) (direct-runs-of (now (bookings .entry)) (now (credits .entry)) (now (queues .entry))) .refusal ⌝ }
+    ensures { λ _. ⌜ now (clock .exit) ≡ words-of (Direct.tick (held (now (clock .entry))) (direct-runs-of (now (bookings .entry)) (now (credits .entry)) (now (queues .entry))) .clock) ⌝ }
+    ensures { λ _. ⌜ now (credits .exit) ≡ Direct.tick (held (now (clock .entry))) (direct-runs-of (now (bookings .entry)) (now (credits .entry)) (now (queues .entry))) .runs .credits ⌝ }
+    ensures { λ _. ⌜ now (queues .exit) ≡ Direct.tick (held (now (clock .entry))) (direct-runs-of (now (bookings .entry)) (now (credits .entry)) (now (queues .entry))) .runs .queues ⌝ }
+    ensures { λ _. ⌜ now (outputs .exit) ≡ outputs-of (Direct.tick (held (now (clock .entry))) (direct-runs-of (now (bookings .entry)) (now (credits .entry)) (now (queues .entry))) .matching) ⌝ }
+    ensures { λ _. ⌜ now («first_pass» .exit) ≡ pass-word-of (Direct.tick (held (now (clock .entry))) (direct-runs-of (now (bookings .entry)) (now (credits .entry)) (now (queues .entry))) .matching) ⌝ }
+{
+    let stepped = clock::step_direct(clock_in(clock), bookings, credits, queues);
+    put_clock(clock, stepped.clock);
+    put_answer(stepped.answer, outputs, first_pass)
 }
