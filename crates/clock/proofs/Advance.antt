@@ -7,6 +7,7 @@ use Rattle.wsgs.specs.declared.Clock.{Clock}
 use Rattle.wsgs.specs.Basics.{pick}
 use Rattle.wsgs.specs.Questions.{Outcome, refused}
 use Rattle.wsgs.specs.Direct
+use Rattle.wsgs.specs.Pipelined
 
 -- the clock at slot s
 abbrev pub at-slot : Clock → ℕ → Clock
@@ -24,3 +25,7 @@ moved k w r o e false = refl
 pub direct-moved : (k : Clock) (w : Direct.Runs) → Moved k (Direct.tick k w)
 unfolding Direct.tick
 direct-moved k w = moved k w _ (Direct.ticked k w) refl (eqb (Direct.tick-refusal k w) 0)
+
+pub pipelined-moved : (k : Clock) (w : Pipelined.Runs) → Moved k (Pipelined.tick k w)
+unfolding Pipelined.tick
+pipelined-moved k w = moved k w _ (Pipelined.ticked k w) refl (eqb (Pipelined.tick-refusal k w) 0)

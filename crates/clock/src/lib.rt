@@ -1,8 +1,9 @@
 // The ticks of both forms, with the clock advanced in place. The slot is run by crates/scheduler on the clock's three numbers, and the last slot
 // run that it gives back, the old one where the tick is refused, is written into the clock.
 ghost use mathlib.Core.Path.{_≡_};
-ghost use Rattle.wsgs.specs.Answers.{answer-of, direct-runs-of};
+ghost use Rattle.wsgs.specs.Answers.{answer-of, direct-runs-of, pipelined-runs-of};
 ghost use Rattle.wsgs.specs.Direct;
+ghost use Rattle.wsgs.specs.Pipelined;
 use wsgs::Answer;
 use wsgs::Clock;
 
@@ -54,6 +55,64 @@ pub fn step_direct(
 {
     let mut c = clock;
     let a = tick_direct(&mut c, bookings, credits, queues);
+    Stepped {
+        clock: c,
+        answer: a,
+    }
+}
+
+// A tick of the pipelined form.
+pub fn tick_pipelined(
+    clock: &mut Clock,
+    bookings: &[u32],
+    credits: &mut [u32],
+    queues: &mut [u32],
+    copy: &mut [u32],
+    flight: &mut [u32],
+) -> Answer
+    ensures answer { λ r. ⌜ r ≡ answer-of (Pipelined.tick (now (clock .entry)) (pipelined-runs-of (now (bookings .entry)) (now (credits .entry)) (now (queues .entry)) (now (copy .entry)) (now (flight .entry)))) ⌝ }
+    ensures clock_exit { λ _. ⌜ now (clock .exit) ≡ Pipelined.tick (now (clock .entry)) (pipelined-runs-of (now (bookings .entry)) (now (credits .entry)) (now (queues .entry)) (now (copy .entry)) (now (flight .entry))) .clock ⌝ }
+    ensures credits_exit { λ _. ⌜ now (credits .exit) ≡ Pipelined.tick (now (clock .entry)) (pipelined-runs-of (now (bookings .entry)) (now (credits .entry)) (now (queues .entry)) (now (copy .entry)) (now (flight .entry))) .runs .credits ⌝ }
+    ensures queues_exit { λ _. ⌜ now (queues .exit) ≡ Pipelined.tick (now (clock .entry)) (pipelined-runs-of (now (bookings .entry)) (now (credits .entry)) (now (queues .entry)) (now (copy .entry)) (now (flight .entry))) .runs .queues ⌝ }
+    ensures copy_exit { λ _. ⌜ now (copy .exit) ≡ Pipelined.tick (now (clock .entry)) (pipelined-runs-of (now (bookings .entry)) (now (credits .entry)) (now (queues .entry)) (now (copy .entry)) (now (flight .entry))) .runs .copy ⌝ }
+    ensures flight_exit { λ _. ⌜ now (flight .exit) ≡ Pipelined.tick (now (clock .entry)) (pipelined-runs-of (now (bookings .entry)) (now (credits .entry)) (now (queues .entry)) (now (copy .entry)) (now (flight .entry))) .runs .flight ⌝ }
+{
+    let t = scheduler::pipelined::tick(
+        clock.ports,
+        clock.frame,
+        clock.slot,
+        bookings,
+        credits,
+        queues,
+        copy,
+        flight,
+    );
+    clock.slot = t.slot;
+    Answer {
+        refusal: t.refusal,
+        outputs: t.outputs,
+        first_pass: t.first_pass,
+    }
+}
+
+// The same by value.
+pub fn step_pipelined(
+    clock: Clock,
+    bookings: &[u32],
+    credits: &mut [u32],
+    queues: &mut [u32],
+    copy: &mut [u32],
+    flight: &mut [u32],
+) -> Stepped
+    ensures answer { λ r. ⌜ r .answer ≡ answer-of (Pipelined.tick clock (pipelined-runs-of (now (bookings .entry)) (now (credits .entry)) (now (queues .entry)) (now (copy .entry)) (now (flight .entry)))) ⌝ }
+    ensures clock { λ r. ⌜ r .clock ≡ Pipelined.tick clock (pipelined-runs-of (now (bookings .entry)) (now (credits .entry)) (now (queues .entry)) (now (copy .entry)) (now (flight .entry))) .clock ⌝ }
+    ensures credits_exit { λ _. ⌜ now (credits .exit) ≡ Pipelined.tick clock (pipelined-runs-of (now (bookings .entry)) (now (credits .entry)) (now (queues .entry)) (now (copy .entry)) (now (flight .entry))) .runs .credits ⌝ }
+    ensures queues_exit { λ _. ⌜ now (queues .exit) ≡ Pipelined.tick clock (pipelined-runs-of (now (bookings .entry)) (now (credits .entry)) (now (queues .entry)) (now (copy .entry)) (now (flight .entry))) .runs .queues ⌝ }
+    ensures copy_exit { λ _. ⌜ now (copy .exit) ≡ Pipelined.tick clock (pipelined-runs-of (now (bookings .entry)) (now (credits .entry)) (now (queues .entry)) (now (copy .entry)) (now (flight .entry))) .runs .copy ⌝ }
+    ensures flight_exit { λ _. ⌜ now (flight .exit) ≡ Pipelined.tick clock (pipelined-runs-of (now (bookings .entry)) (now (credits .entry)) (now (queues .entry)) (now (copy .entry)) (now (flight .entry))) .runs .flight ⌝ }
+{
+    let mut c = clock;
+    let a = tick_pipelined(&mut c, bookings, credits, queues, copy, flight);
     Stepped {
         clock: c,
         answer: a,
