@@ -179,3 +179,29 @@ pub extern "C" fn kivdrag_tick_direct(
     put_clock(clock, stepped.clock);
     put_answer(stepped.answer, outputs, first_pass)
 }
+
+// Runs the turns of one time of a pipelined switch, and hands out the pairs of the next slot.
+#[no_mangle]
+pub extern "C" fn kivdrag_tick_pipelined(
+    clock: &mut [u32; 3],
+    bookings: &[u32],
+    credits: &mut [u32],
+    queues: &mut [u32],
+    copy: &mut [u32],
+    flight: &mut [u32],
+    outputs: &mut [u8; 32],
+    first_pass: &mut u32,
+) -> u32
+    ensures { λ r. ⌜ r ≡ Pipelined.tick (held (now (clock .entry))) (pipelined-runs-of (now (bookings .entry)) (now (credits .entry)) (now (queues .entry)) (now (copy .entry)) (now (flight .entry))) .refusal ⌝ }
+    ensures { λ _. ⌜ now (clock .exit) ≡ words-of (Pipelined.tick (held (now (clock .entry))) (pipelined-runs-of (now (bookings .entry)) (now (credits .entry)) (now (queues .entry)) (now (copy .entry)) (now (flight .entry))) .clock) ⌝ }
+    ensures { λ _. ⌜ now (credits .exit) ≡ Pipelined.tick (held (now (clock .entry))) (pipelined-runs-of (now (bookings .entry)) (now (credits .entry)) (now (queues .entry)) (now (copy .entry)) (now (flight .entry))) .runs .credits ⌝ }
+    ensures { λ _. ⌜ now (queues .exit) ≡ Pipelined.tick (held (now (clock .entry))) (pipelined-runs-of (now (bookings .entry)) (now (credits .entry)) (now (queues .entry)) (now (copy .entry)) (now (flight .entry))) .runs .queues ⌝ }
+    ensures { λ _. ⌜ now (copy .exit) ≡ Pipelined.tick (held (now (clock .entry))) (pipelined-runs-of (now (bookings .entry)) (now (credits .entry)) (now (queues .entry)) (now (copy .entry)) (now (flight .entry))) .runs .copy ⌝ }
+    ensures { λ _. ⌜ now (flight .exit) ≡ Pipelined.tick (held (now (clock .entry))) (pipelined-runs-of (now (bookings .entry)) (now (credits .entry)) (now (queues .entry)) (now (copy .entry)) (now (flight .entry))) .runs .flight ⌝ }
+    ensures { λ _. ⌜ now (outputs .exit) ≡ outputs-of (Pipelined.tick (held (now (clock .entry))) (pipelined-runs-of (now (bookings .entry)) (now (credits .entry)) (now (queues .entry)) (now (copy .entry)) (now (flight .entry))) .matching) ⌝ }
+    ensures { λ _. ⌜ now («first_pass» .exit) ≡ pass-word-of (Pipelined.tick (held (now (clock .entry))) (pipelined-runs-of (now (bookings .entry)) (now (credits .entry)) (now (queues .entry)) (now (copy .entry)) (now (flight .entry))) .matching) ⌝ }
+{
+    let stepped = clock::step_pipelined(clock_in(clock), bookings, credits, queues, copy, flight);
+    put_clock(clock, stepped.clock);
+    put_answer(stepped.answer, outputs, first_pass)
+}
