@@ -1,0 +1,22 @@
+// A clock as C lends it: three words for the number of ports, the length of a frame and the last slot run.
+ghost use mathlib.Core.Path.{_≡_};
+ghost use Rattle.kivdrag_c.specs.Clocks.{held, words-of};
+use wsgs::Clock;
+
+// The clock that words hold.
+pub fn clock_in(words: &[u32; 3]) -> Clock
+    ensures { λ r. ⌜ r ≡ held (now (words .entry)) ⌝ }
+{
+    Clock {
+        ports: words[0],
+        frame: words[1],
+        slot: words[2],
+    }
+}
+
+// Writes a clock into its words.
+pub fn put_clock(words: &mut [u32; 3], clock: Clock)
+    ensures { λ _. ⌜ now (words .exit) ≡ words-of clock ⌝ }
+{
+    *words = [clock.ports, clock.frame, clock.slot];
+}
