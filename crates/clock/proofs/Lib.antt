@@ -1,6 +1,6 @@
 -- Laws and rules that the walks of this crate's functions share.
 pub mod Advance
 pub mod Locals
-pub mod Runs
+pub mod Statements
 pub mod Clocks
 pub mod Said

@@ -25,7 +25,7 @@ pub fn tick_direct(
     ensures credits_exit { λ _. ⌜ now (credits .exit) ≡ Direct.tick (now (clock .entry)) (direct-runs-of (now (bookings .entry)) (now (credits .entry)) (now (queues .entry))) .runs .credits ⌝ }
     ensures queues_exit { λ _. ⌜ now (queues .exit) ≡ Direct.tick (now (clock .entry)) (direct-runs-of (now (bookings .entry)) (now (credits .entry)) (now (queues .entry))) .runs .queues ⌝ }
 {
-    let t = scheduler::direct::tick(
+    let direct = scheduler::direct::tick(
         clock.ports,
         clock.frame,
         clock.slot,
@@ -33,11 +33,11 @@ pub fn tick_direct(
         credits,
         queues,
     );
-    clock.slot = t.slot;
+    clock.slot = direct.slot;
     Answer {
-        refusal: t.refusal,
-        outputs: t.outputs,
-        first_pass: t.first_pass,
+        refusal: direct.refusal,
+        outputs: direct.outputs,
+        first_pass: direct.first_pass,
     }
 }
 
@@ -77,7 +77,7 @@ pub fn tick_pipelined(
     ensures copy_exit { λ _. ⌜ now (copy .exit) ≡ Pipelined.tick (now (clock .entry)) (pipelined-runs-of (now (bookings .entry)) (now (credits .entry)) (now (queues .entry)) (now (copy .entry)) (now (flight .entry))) .runs .copy ⌝ }
     ensures flight_exit { λ _. ⌜ now (flight .exit) ≡ Pipelined.tick (now (clock .entry)) (pipelined-runs-of (now (bookings .entry)) (now (credits .entry)) (now (queues .entry)) (now (copy .entry)) (now (flight .entry))) .runs .flight ⌝ }
 {
-    let t = scheduler::pipelined::tick(
+    let pipelined = scheduler::pipelined::tick(
         clock.ports,
         clock.frame,
         clock.slot,
@@ -87,11 +87,11 @@ pub fn tick_pipelined(
         copy,
         flight,
     );
-    clock.slot = t.slot;
+    clock.slot = pipelined.slot;
     Answer {
-        refusal: t.refusal,
-        outputs: t.outputs,
-        first_pass: t.first_pass,
+        refusal: pipelined.refusal,
+        outputs: pipelined.outputs,
+        first_pass: pipelined.first_pass,
     }
 }
 
