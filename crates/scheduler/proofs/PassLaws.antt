@@ -92,7 +92,8 @@ module _ (n : ℕ) (few : n ≤ 32) (other start : List ℕ) where
         let wanted : ℕ → Bool = λ j. ltb 0 (word n other (suc x) j) && ltb 0 (word n start (suc x) j) in
         ap (updated (before x) (suc x))
         (sym (e
-        ∙ lowest-is n start other (before x) free outputs queues credits (h .held) (h .cost) long enough (suc x) (omega arith) (one-beyond x (suc x) (omega arith))
+        ∙ lowest-is n start other (before x) free outputs queues credits (h .held) (h .cost) long enough (suc x)
+        (omega arith) (one-beyond x (suc x) (omega arith))
         ∙ lowest-ext _ _ n (λ j p. ap (λ b. not b && wanted j) (sym (given-short (before x) x n j (omega arith) (p .low) (one-beyond x))))))
 
     one-next : before k ≡ updated (before x) k r

@@ -69,7 +69,8 @@ module _ (n : ℕ) (m : List ℕ) where
   spent-more f k v (suc x) p e h = go (ℕ-discrete (suc x) k) (λ d. spent-more f k v x (omega arith) e h)
     where
       -- the cost of input x + 1, after that of k or before it
-      later : (b : Bool) (s : List ℕ) (o : ℕ) → pick b (less-one n (less-one n s k v) (suc x) o) (less-one n s k v) ≡ less-one n (pick b (less-one n s (suc x) o) s) k v
+      later : (b : Bool) (s : List ℕ) (o : ℕ)
+          → pick b (less-one n (less-one n s k v) (suc x) o) (less-one n s k v) ≡ less-one n (pick b (less-one n s (suc x) o) s) k v
       later true s o = less-comm n s k v (suc x) o
       later false s o = refl
 
@@ -85,6 +86,7 @@ module _ (n : ℕ) (m : List ℕ) where
           ap₂ step (r d) (updated-other f k (suc x) v d) ∙ later (ltb 0 (f (suc x))) (spent n m f x) (f (suc x))
 
   -- the row of an input without output is as it was
-  pub spent-row : n * n ≤ length m → (f : ℕ → ℕ) → ((i : ℕ) → f i ≤ n) → (k j : ℕ) → Port n k → Port n j → f k ≡ 0 → word n (spent n m f n) k j ≡ word n m k j
+  pub spent-row : n * n ≤ length m → (f : ℕ → ℕ) → ((i : ℕ) → f i ≤ n) → (k j : ℕ) → Port n k → Port n j → f k ≡ 0
+      → word n (spent n m f n) k j ≡ word n m k j
   spent-row long f bound k j pk pj e =
       all-spent n m long f (λ i p. bound i) k j pk pj ∙ rw (e, bit-ne 0 j (omega arith)) (omega arith)

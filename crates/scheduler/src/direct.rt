@@ -1,13 +1,13 @@
 // The direct form: a tick runs the nine steps for the slot after the last slot run.
 ghost use mathlib.Core.Path.{_≡_};
-ghost use Prim.Native.Nat.{_+_, _*_, _≤_};
+ghost use Prim.Native.Nat.{_*_, _≤_};
 ghost use lib.ListN.{length};
 ghost use Rattle.wsgs.specs.Basics.{pick};
 ghost use Rattle.wsgs.specs.Words.{copied};
 ghost use Rattle.wsgs.specs.Frames.{first-of-frame};
-ghost use Rattle.wsgs.specs.Steps.{outputs-of, pass-word-of};
 ghost use Rattle.wsgs.specs.Answers.{clock-of, direct-runs-of, ticked-of};
 ghost use Rattle.wsgs.specs.Direct;
+ghost use Rattle.scheduler.specs.Passes.{SlotRun};
 use super::passes::Passed;
 use super::passes::pass_one;
 use super::passes::pass_two;
@@ -44,16 +44,17 @@ fn tick_refusal(
 fn reload(ports: usize, frame: u32, slot: u32, bookings: &[u32], credits: &mut [u32])
     requires { ⌜ ports ≤ 32 ⌝ }
     requires { ⌜ 1 ≤ frame ⌝ }
+    requires { ⌜ 1 ≤ slot ⌝ }
     requires { ⌜ ports * ports ≤ length (now bookings) ⌝ }
     requires { ⌜ ports * ports ≤ length (now credits) ⌝ }
-    ensures { λ _. ⌜ now (credits .exit) ≡ pick (first-of-frame frame (slot + 1)) (copied (ports * ports) (now (bookings .entry)) (now (credits .entry))) (now (credits .entry)) ⌝ }
+    ensures { λ _. ⌜ now (credits .exit) ≡ pick (first-of-frame frame slot) (copied (ports * ports) (now (bookings .entry)) (now (credits .entry))) (now (credits .entry)) ⌝ }
 {
-    if slot % frame == 0 {
+    if (slot - 1) % frame == 0 {
         words::copy_words(bookings, credits, ports * ports);
     }
 }
 
-// The nine steps for the slot after the given one.
+// The nine steps for a slot.
 fn run_slot(
     ports: usize,
     frame: u32,
@@ -64,13 +65,11 @@ fn run_slot(
 ) -> Passed
     requires { ⌜ ports ≤ 32 ⌝ }
     requires { ⌜ 1 ≤ frame ⌝ }
+    requires { ⌜ 1 ≤ slot ⌝ }
     requires { ⌜ ports * ports ≤ length (now bookings) ⌝ }
     requires { ⌜ ports * ports ≤ length (now credits) ⌝ }
     requires { ⌜ ports * ports ≤ length (now queues) ⌝ }
-    ensures { λ r. ⌜ r .outputs ≡ outputs-of (Direct.ticked (clock-of ports frame slot) (direct-runs-of (now (bookings .entry)) (now (credits .entry)) (now (queues .entry))) .matching) ⌝ }
-    ensures { λ r. ⌜ r .«first_pass» ≡ pass-word-of (Direct.ticked (clock-of ports frame slot) (direct-runs-of (now (bookings .entry)) (now (credits .entry)) (now (queues .entry))) .matching) ⌝ }
-    ensures { λ _. ⌜ now (credits .exit) ≡ Direct.ticked (clock-of ports frame slot) (direct-runs-of (now (bookings .entry)) (now (credits .entry)) (now (queues .entry))) .runs .credits ⌝ }
-    ensures { λ _. ⌜ now (queues .exit) ≡ Direct.ticked (clock-of ports frame slot) (direct-runs-of (now (bookings .entry)) (now (credits .entry)) (now (queues .entry))) .runs .queues ⌝ }
+    ensures { λ r. ⌜ SlotRun ports frame slot (direct-runs-of (now (bookings .entry)) (now (credits .entry)) (now (queues .entry))) (r .outputs) (r .«first_pass») (now (credits .exit)) (now (queues .exit)) ⌝ }
 {
     reload(ports, frame, slot, bookings, credits);
     let passed = pass_one(ports, credits, queues);
@@ -99,11 +98,12 @@ pub fn tick(
             first_pass: 0,
         };
     }
-    let passed = run_slot(ports as usize, frame, slot, bookings, credits, queues);
+    let next = slot + 1;
+    let passed = run_slot(ports as usize, frame, next, bookings, credits, queues);
     let outputs = passed.outputs;
     Ticked {
         refusal: 0,
-        slot: slot + 1,
+        slot: next,
         outputs,
         first_pass: passed.first_pass,
     }

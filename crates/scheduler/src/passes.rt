@@ -1,13 +1,11 @@
 // The two passes of a slot of the direct form.
 ghost use mathlib.Core.Path.{_≡_};
-ghost use mathlib.Core.List.{List};
-ghost use Prim.Native.Nat.{ℕ, _*_, _≤_};
+ghost use Prim.Native.Nat.{_*_, _≤_};
 ghost use lib.Dec.{ltb};
 ghost use lib.ListN.{length};
-ghost use Rattle.wsgs.specs.Words.{word};
-ghost use Rattle.wsgs.specs.Steps.{pass-two, marked};
+ghost use Rattle.wsgs.specs.Steps.{marked};
 ghost use Rattle.wsgs.specs.Direct.{spent};
-ghost use Rattle.scheduler.specs.Passes.{Held, ones};
+ghost use Rattle.scheduler.specs.Passes.{Held, ones, PassTwo};
 use super::masks::all_free;
 use super::masks::without;
 use super::turns::first_turn;
@@ -54,7 +52,7 @@ pub fn pass_one(ports: usize, credits: &mut [u32], queues: &mut [u32]) -> Passed
 pub fn pass_two(passed: Passed, ports: usize, queues: &mut [u32]) -> Passed
     requires { ⌜ ports ≤ 32 ⌝ }
     requires { ⌜ ports * ports ≤ length (now queues) ⌝ }
-    ensures { λ r. ⌜ ((start : List ℕ) (one : ℕ → ℕ) → Held ports start one (passed .free) (passed .outputs) (now (queues .entry)) → passed .«first_pass» ≡ marked 32 (λ i. ltb 0 (one i)) → Held ports start (pass-two ports (word ports start) one ports) (r .free) (r .outputs) (now (queues .exit))) ⌝ }
+    ensures { λ r. ⌜ PassTwo ports (passed .«first_pass») (passed .free) (passed .outputs) (now (queues .entry)) (r .free) (r .outputs) (now (queues .exit)) ⌝ }
     ensures { λ r. ⌜ r .«first_pass» ≡ passed .«first_pass» ⌝ }
 {
     let mut free = passed.free;

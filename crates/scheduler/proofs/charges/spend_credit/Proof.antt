@@ -22,7 +22,10 @@ slice-read-t10 : tie.Need-slice-read-t10
 slice-read-t10 c = omega (arith, inside (c .before))
 
 sub-t10 : tie.Need-sub-t10
-sub-t10 c = rw (at-word _ _ _ _ _ (c .before .before .place-of .ensures)) (c .before .before .before .before .pre .1 .1 .1 .1)
+sub-t10 c =
+    let s = c .before .before .before .before in
+    let a = s .args in
+    omega (arith, at-word (a .ports) (a .credits .now) (a .input .0) (a .output .0) _ (c .before .before .place-of .ensures), s .pre)
 
 mul-credits : tie.Need-mul-credits
 mul-credits c = omega (arith, inside (c .before .before))

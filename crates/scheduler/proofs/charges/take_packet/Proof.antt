@@ -22,7 +22,10 @@ slice-read-queues : tie.Need-slice-read-queues
 slice-read-queues c = omega (arith, inside (c .before))
 
 sub-queues : tie.Need-sub-queues
-sub-queues c = rw (at-word _ _ _ _ _ (c .before .place-of .ensures)) (c .before .before .before .pre .1 .1 .1 .1)
+sub-queues c =
+    let s = c .before .before .before in
+    let a = s .args in
+    omega (arith, at-word (a .ports) (a .queues .now) (a .input .0) (a .output .0) _ (c .before .place-of .ensures), s .pre)
 
 slice-write-queues : tie.Need-slice-write-queues
 slice-write-queues c = omega (arith, inside (c .before))

@@ -1,6 +1,6 @@
 -- `direct::run_slot` meets its contract: step 1 and the two passes together are the nine steps. Assumes nothing.
 use mathlib.Core.Path.{_∙_}
-use Rattle.scheduler.proofs.SlotLaws.{slot-done}
+use Rattle.scheduler.proofs.SlotLaws.{slot-run}
 use borrow.Author.Needs.{needs}
 use Rattle.scheduler.proofs.direct.run_slot.Statement.{statement}
 use Rattle.scheduler.proofs.direct.run_slot.Tie as tie
@@ -27,7 +27,7 @@ returns c =
     let l = o .before .before .before .before .before in
     let one = o .pass-one .ensures in
     let two = t .pass-two .ensures in
-    slot-done _ _ _ _ _ _ _ (l .reload .ensures) _ _ _ _ _ (two .0 _ _ (one .0) (one .1 .0)) (two .1 ∙ one .1 .0) (one .1 .1)
+    slot-run _ _ _ _ _ (l .reload .ensures) _ _ _ _ _ (two .0 _ _ (one .0) (one .1 .0)) (two .1 ∙ one .1 .0) (one .1 .1)
 
 pub run-slot-spec : {M : Type 1} → statement M
 run-slot-spec =

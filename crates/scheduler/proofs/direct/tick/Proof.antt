@@ -1,9 +1,10 @@
 -- `direct::tick` meets its contract: a refusal above 0 is answered alone, and 0 says that the slot's requirements hold. Assumes nothing.
 use mathlib.Core.Path.{sym, _∙_}
 use native.Mathlib.Omega.{arith}
+use borrow.Author.Needs.{needs}
+use Rattle.wsgs.specs.Answers.{direct-runs-of}
 use Rattle.scheduler.proofs.Asked.{Accepted, accepted-found}
 use Rattle.scheduler.proofs.SlotLaws.{tick-refused, tick-ran}
-use borrow.Author.Needs.{needs}
 use Rattle.scheduler.proofs.direct.tick.Statement.{statement}
 use Rattle.scheduler.proofs.direct.tick.Tie as tie
 
@@ -22,15 +23,15 @@ same-length-2 : tie.Need-same-length-2
 same-length-2 c = search needs
 
 returns : tie.Need-returns
-returns c = tick-refused _ _ _ _ _ _ _ (c .before .tick-refusal .ensures) (c .if1 .taken)
+returns c = tick-refused _ _ _ _ _ (c .before .tick-refusal .ensures) (c .if1 .taken)
+
+add-next : tie.Need-add-next
+add-next c = omega (arith, found c .slots-left)
 
 run-slot-requires : tie.Need-run-slot-requires
 run-slot-requires c κs =
     let a = found (c .before .before) in
-    (a .few-ports, (a .some-slot, (a .bookings, (a .credits, a .queues))))
-
-add-t21 : tie.Need-add-t21
-add-t21 c = omega (arith, found (c .before .before .before .before .before .before .before .before) .slots-left)
+    (a .few-ports, (a .some-slot, (omega arith, (a .bookings, (a .credits, a .queues)))))
 
 same-length-3 : tie.Need-same-length-3
 same-length-3 c = search needs
@@ -42,8 +43,9 @@ returns-2 : tie.Need-returns-2
 returns-2 c =
     let k = c .before .before .before .before .before in
     let e = k .before .before .before in
-    let r = k .run-slot .ensures in
-    tick-ran _ _ _ _ _ _ _ (e .before .tick-refusal .ensures) (e .if1 .left) _ _ _ _ (r .0) (r .1 .0) (r .1 .1 .0) (r .1 .1 .1)
+    let a = e .before .before .before .before .before .before .before .args in
+    tick-ran (a .ports) (a .frame) (a .slot) (direct-runs-of (a .bookings .now) (a .credits .now) (a .queues .now)) _
+    (e .before .tick-refusal .ensures) (e .if1 .left) _ _ _ _ (k .run-slot .ensures)
 
 pub tick-spec : {M : Type 1} → statement M
 tick-spec =
@@ -53,8 +55,8 @@ tick-spec =
     same-length
     same-length-2
     returns
+    add-next
     run-slot-requires
-    add-t21
     same-length-3
     same-length-4
     returns-2)

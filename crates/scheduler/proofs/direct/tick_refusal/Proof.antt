@@ -34,7 +34,8 @@ cast-pairs c = omega (arith, square c)
 returns-3 : tie.Need-returns-3
 returns-3 c =
     no-4 _ _ _ _ _ _ (ports (c .before .before .before)) (frame (c .before))
-    (⊎-elim (λ w. inl (w .taken)) (⊎-elim (λ w. inr (inl (ltb-true _ _ (w .1 .taken)))) (λ w. inr (inr (ltb-true _ _ (w .2 .taken))))) (c .if5 .came))
+    (⊎-elim (λ w. inl (w .taken)) (⊎-elim (λ w. inr (inl (ltb-true _ _ (w .1 .taken)))) (λ w. inr (inr (ltb-true _ _ (w .2 .taken)))))
+    (c .if5 .came))
 
 returns-4 : tie.Need-returns-4
 returns-4 c =

@@ -59,7 +59,8 @@ returns : tie.Need-returns Inv-loop μ-loop
 returns c =
     let l = c .before .before .before .before .before in
     add-one (l .loop .column)
-    ∙ scan-hit (l .before .before .args .ports) (omega arith) _ _ _ (l .before .before .args .input .0) _ _ (l .loop .inv .1) (omega arith) (rw (lt-ltb _ _ (c .before .before .if1 .taken), c .if2 .taken))
+    ∙ scan-hit (l .before .before .args .ports) (omega arith) _ _ _ (l .before .before .args .input .0) _ _ (l .loop .inv .1) (omega arith)
+    (rw (lt-ltb _ _ (c .before .before .if1 .taken), c .if2 .taken))
 
 sub-rest : tie.Need-sub-rest Inv-loop μ-loop
 sub-rest c = scan-some _ _ _ _ (c .before .before .before .loop .inv .1) (omega arith)
@@ -79,7 +80,9 @@ loop-again c =
     )
 
 returns-2 : tie.Need-returns-2 Inv-loop μ-loop
-returns-2 c = scan-end (c .before .before .before .args .ports) (omega arith) _ _ _ (c .before .before .before .args .input .0) _ _ (c .before .loop .inv .1) (omega arith)
+returns-2 c =
+    let s = c .before .before .before in
+    scan-end (s .args .ports) (omega arith) _ _ _ (s .args .input .0) _ _ (c .before .loop .inv .1) (omega arith)
 
 pub lowest-open-spec : {M : Type 1} → statement M
 lowest-open-spec =

@@ -1,0 +1,267 @@
+// Ticks of the direct form at the edges of document 01. Each case prints one line: the refusal, the slot, the pairs as input>output/pass, the word
+// of pass one, and the credits and queues afterwards (of more than eight words their sum). `stdout` was worked out by hand.
+ghost use Prim.Native.Nat.{_<_};
+use scheduler::direct::tick;
+use wsgs::Ticked;
+
+const STDOUT: i32 = 1;
+
+fn say(text: &[u8]) {
+    io::write_all(STDOUT, text);
+}
+
+fn say_number(text: &[u8], number: u64) {
+    say(text);
+    io::print_decimal(STDOUT, number);
+}
+
+// The pair of the input at a place of the answer, if it has one.
+fn say_pair(place: u64, output: u8, first_pass: u32)
+    requires { ⌜ place < 32 ⌝ }
+{
+    if output > 0 {
+        say_number(b" ", place + 1);
+        say_number(b">", output as u64);
+        if (first_pass >> place) & 1 == 1 {
+            say(b"/1");
+        } else {
+            say(b"/2");
+        }
+    }
+}
+
+fn say_answer(answer: Ticked) {
+    say_number(b": refusal ", answer.refusal as u64);
+    say_number(b", slot ", answer.slot as u64);
+    say(b", pairs");
+    let outputs = answer.outputs;
+    let first_pass = answer.first_pass;
+    for place in 0..32 {
+        say_pair(place as u64, outputs[place], first_pass);
+    }
+    say_number(b", first pass ", first_pass as u64);
+}
+
+fn wide(word: u32) -> u64 {
+    word as u64
+}
+
+fn sum(run: &[u32]) -> u64 {
+    let mut total = 0u64;
+    for at in 0..run.len() {
+        total = std::num::wrapping_add_u64(total, wide(run[at]));
+    }
+    total
+}
+
+fn say_run(name: &[u8], run: &[u32]) {
+    say(name);
+    if run.len() > 8 {
+        say_number(b" sum ", sum(run));
+        return;
+    }
+    for at in 0..run.len() {
+        say_number(b" ", wide(run[at]));
+    }
+}
+
+// One tick and its line.
+fn case(
+    name: &[u8],
+    ports: u32,
+    frame: u32,
+    slot: u32,
+    bookings: &[u32],
+    credits: &mut [u32],
+    queues: &mut [u32],
+) {
+    let answer = tick(ports, frame, slot, bookings, credits, queues);
+    say(name);
+    say_answer(answer);
+    say_run(b", credits", credits);
+    say_run(b", queues", queues);
+    say(b"\n");
+}
+
+// The slots from 1 on, each with its line.
+fn slots(
+    name: &[u8],
+    ports: u32,
+    frame: u32,
+    count: u32,
+    bookings: &[u32],
+    credits: &mut [u32],
+    queues: &mut [u32],
+) {
+    for slot in 0..count {
+        case(name, ports, frame, slot, bookings, credits, queues);
+    }
+}
+
+// One port, booked once, with two packets.
+fn one_port(name: &[u8], ports: u32, frame: u32, slot: u32) {
+    let bookings = [1u32];
+    let mut credits = [0u32];
+    let mut queues = [2u32];
+    case(
+        name,
+        ports,
+        frame,
+        slot,
+        &bookings,
+        &mut credits,
+        &mut queues,
+    );
+}
+
+// The limits of ports, frame and clock, and the order of the questions.
+fn limits() {
+    one_port(b"clock at 3999999999", 1, 1, 3999999999);
+    one_port(b"clock at 4000000000", 1, 1, 4000000000);
+    one_port(b"no ports", 0, 1, 0);
+    one_port(b"33 ports", 33, 1, 0);
+    one_port(b"no slots in a frame", 1, 0, 0);
+    one_port(b"10000 slots in a frame", 1, 10000, 0);
+    one_port(b"10001 slots in a frame", 1, 10001, 0);
+    one_port(b"neither ports nor frame", 0, 0, 0);
+    one_port(b"no frame and short runs", 2, 0, 0);
+    one_port(b"short runs at the last slot", 2, 1, 4000000000);
+}
+
+// Each run in turn short by one word.
+fn short_runs() {
+    let long = [1u32; 4];
+    let short = [1u32; 3];
+    let mut credits = [1u32; 4];
+    let mut few_credits = [1u32; 3];
+    let mut queues = [1u32; 4];
+    let mut few_queues = [1u32; 3];
+    case(
+        b"bookings too short",
+        2,
+        3,
+        0,
+        &short,
+        &mut credits,
+        &mut queues,
+    );
+    case(
+        b"credits too short",
+        2,
+        3,
+        0,
+        &long,
+        &mut few_credits,
+        &mut queues,
+    );
+    case(
+        b"queues too short",
+        2,
+        3,
+        0,
+        &long,
+        &mut credits,
+        &mut few_queues,
+    );
+}
+
+// One word more than is used.
+fn word_beyond() {
+    let bookings = [1u32, 55];
+    let mut credits = [0u32, 66];
+    let mut queues = [1u32, 77];
+    case(
+        b"one word beyond",
+        1,
+        5,
+        0,
+        &bookings,
+        &mut credits,
+        &mut queues,
+    );
+}
+
+// Frames of one slot: each begins with the bookings.
+fn one_slot_frames() {
+    let bookings = [1u32];
+    let mut credits = [9u32];
+    let mut queues = [3u32];
+    slots(b"frame of 1", 1, 1, 4, &bookings, &mut credits, &mut queues);
+}
+
+// Two ports, three pairs booked once in a frame of three slots, and five packets for each.
+fn frame_of_three() {
+    let bookings = [1u32, 1, 1, 0];
+    let mut credits = [0u32; 4];
+    let mut queues = [5u32, 5, 5, 0];
+    slots(b"frame of 3", 2, 3, 4, &bookings, &mut credits, &mut queues);
+}
+
+// Words that no call left there: credits without bookings, in the middle of a frame.
+fn credits_unbooked() {
+    let bookings = [0u32; 4];
+    let mut credits = [9u32, 0, 4000000000, 0];
+    let mut queues = [1u32; 4];
+    case(
+        b"credits without bookings",
+        2,
+        10,
+        5,
+        &bookings,
+        &mut credits,
+        &mut queues,
+    );
+}
+
+// The largest words everywhere.
+fn largest_words() {
+    let bookings = [4294967295u32; 4];
+    let mut credits = [4294967295u32; 4];
+    let mut queues = [4294967295u32; 4];
+    case(
+        b"the largest words",
+        2,
+        10,
+        5,
+        &bookings,
+        &mut credits,
+        &mut queues,
+    );
+}
+
+// Credits that an old frame left, where a new one begins.
+fn credits_left() {
+    let bookings = [0u32; 4];
+    let mut credits = [7u32; 4];
+    let mut queues = [1u32, 0, 0, 1];
+    case(
+        b"credits of an old frame",
+        2,
+        10,
+        10,
+        &bookings,
+        &mut credits,
+        &mut queues,
+    );
+}
+
+// 32 ports, every pair queued, and every pair or none booked.
+fn full_switch(name: &[u8], booked: u32) {
+    let bookings = [booked; 1024];
+    let mut credits = [3u32; 1024];
+    let mut queues = [1u32; 1024];
+    case(name, 32, 4, 4, &bookings, &mut credits, &mut queues);
+}
+
+fn main() {
+    limits();
+    short_runs();
+    word_beyond();
+    one_slot_frames();
+    frame_of_three();
+    credits_unbooked();
+    largest_words();
+    credits_left();
+    full_switch(b"32 ports, all booked", 1);
+    full_switch(b"32 ports, none booked", 0);
+}
