@@ -11,13 +11,13 @@ use Rattle.wsgs.specs.declared.Ticked.{Ticked}
 use Rattle.wsgs.specs.Basics.{between}
 use Rattle.wsgs.specs.Words.{copied}
 use Rattle.wsgs.specs.Frames.{first-of-frame}
-use Rattle.wsgs.specs.Questions.{clock-can-advance, Outcome}
+use Rattle.wsgs.specs.Questions.{clock-can-advance}
 use Rattle.wsgs.specs.Steps.{outputs-of, pass-word-of}
-use Rattle.wsgs.specs.Answers.{clock-of, ticked-of}
+use Rattle.wsgs.specs.Answers.{clock-of}
 use Rattle.wsgs.specs.Pipelined.{Runs, turning, runs-suffice, questions, tick-refusal, copied-at, turns, handed-out, row-cleared, ticked, tick}
 use Rattle.wsgs.proofs.Laws.Tests.{both, in-range}
 use Rattle.wsgs.proofs.Refusals.{all-yes}
-use Rattle.scheduler.specs.Turnings.{turning-of, Lent, answering}
+use Rattle.scheduler.specs.Turnings.{turning-of, Lent, answering, Left}
 use Rattle.scheduler.proofs.Listed.{listed-none}
 use Rattle.scheduler.proofs.Marked.{marked-none}
 
@@ -95,30 +95,34 @@ accepted-found n f k w e =
       slots-left = ltb→lt k 4000000000 (y .1 .1 .1 .1 .0);
     }
 
--- WHAT A TICK LEAVES: the answer, and the four runs
-abbrev pub Left : Outcome Runs → Ticked → (credits queues copy flight : List ℕ) → Type 0
-Left o r c q p l = (r ≡ ticked-of o) × ((c ≡ o .runs .credits) × ((q ≡ o .runs .queues) × ((p ≡ o .runs .copy) × (l ≡ o .runs .flight))))
-
--- an accepted one: the copy, the turns, the pairs and the cleared row
+-- WHAT AN ACCEPTED TICK LEAVES: the copy, the turns, the pairs and the cleared row
 pub ticked-left : (n f k : ℕ) (w : Runs) (r : Ticked) (c q p l l′ : List ℕ) → p ≡ copied-at n f (k + 1) w
     → turning-of c q l ≡ turns n f p (k + 1) (turning w) n → r ≡ answering (k + 1) (handed-out n l (k + 1 + 1)) → l′ ≡ row-cleared n l (k + 1 + 1)
     → Left (ticked (clock-of n f k) w) r c q p l′
 unfolding ticked
 ticked-left n f k w r c q p l l′ ep et er el =
     let t = et ∙ ap (λ z. turns n f z (k + 1) (turning w) n) ep in
-    let f : l ≡ turns n f (copied-at n f (k + 1) w) (k + 1) (turning w) n .flight = ap (λ z. z .flight) t in (
-      er ∙ ap (λ z. answering (k + 1) (handed-out n z (k + 1 + 1))) f,
-      (ap (λ z. z .credits) t, (ap (λ z. z .queues) t, (ep, el ∙ ap (λ z. row-cleared n z (k + 1 + 1)) f))),
-    )
+    let rows : l ≡ turns n f (copied-at n f (k + 1) w) (k + 1) (turning w) n .flight = ap (λ z. z .flight) t in
+    record {
+      answer = er ∙ ap (λ z. answering (k + 1) (handed-out n z (k + 1 + 1))) rows;
+      credits = ap (λ z. z .credits) t;
+      queues = ap (λ z. z .queues) t;
+      copy = ep;
+      flight = el ∙ ap (λ z. row-cleared n z (k + 1 + 1)) rows;
+    }
 
-module _ (n f k : ℕ) (w : Runs) (r : ℕ) (e : r ≡ tick-refusal (clock-of n f k) w) where
-  -- a tick whose refusal is 0
-  pub tick-ran : r ≤ 0 → tick (clock-of n f k) w ≡ ticked (clock-of n f k) w
+-- A TICK is one of the two
+module _ (n f k : ℕ) (w : Runs) (refusal : ℕ) (e : refusal ≡ tick-refusal (clock-of n f k) w) where
+  -- whose refusal is 0
+  pub tick-ran : (r : Ticked) (c q p l : List ℕ) → refusal ≤ 0 → Left (ticked (clock-of n f k) w) r c q p l → Left (tick (clock-of n f k) w) r c q p l
   unfolding tick
-  tick-ran h = rw (← e, eq-eqb r 0 (omega arith))
+  tick-ran r c q p l h d = rw (← e, eq-eqb refusal 0 (omega arith)) d
 
   -- any other
-  pub tick-refused : 1 ≤ r
-      → Left (tick (clock-of n f k) w) (record { refusal = r; slot = k; outputs = replicate 32 0; «first_pass» = 0 }) (w .credits) (w .queues) (w .copy) (w .flight)
+  pub tick-refused : 1 ≤ refusal
+      → Left (tick (clock-of n f k) w) (record { refusal = refusal; slot = k; outputs = replicate 32 0; «first_pass» = 0 }) (w .credits) (w .queues)
+      (w .copy) (w .flight)
   unfolding tick outputs-of pass-word-of
-  tick-refused h = rw (← e, ne-eqb r 0 (omega arith), listed-none 32, marked-none 32) (refl, (refl, (refl, (refl, refl))))
+  tick-refused h =
+      rw (← e, ne-eqb refusal 0 (omega arith), listed-none 32, marked-none 32)
+      (record { answer = refl; credits = refl; queues = refl; copy = refl; flight = refl })

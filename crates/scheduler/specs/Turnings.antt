@@ -1,11 +1,14 @@
--- The runs that the turns of a pipelined tick change, put together from lists; that those lent to it are long enough; and what it answers.
--- Assumes nothing.
+-- The runs that the turns of a pipelined tick change, put together from lists; that those lent to it are long enough; and what it answers and
+-- leaves. Assumes nothing.
+use mathlib.Core.Path.{_≡_}
 use mathlib.Core.List.{List}
 use Prim.Native.Nat.{ℕ, _*_, _≤_}
 use lib.ListN.{length}
 use Rattle.wsgs.specs.declared.Ticked.{Ticked}
 use Rattle.wsgs.specs.Steps.{Matching, outputs-of, pass-word-of}
-use Rattle.wsgs.specs.Pipelined.{Turning}
+use Rattle.wsgs.specs.Questions.{Outcome}
+use Rattle.wsgs.specs.Pipelined.{Runs, Turning}
+use Rattle.wsgs.specs.Answers.{ticked-of}
 
 -- the credits, the queues and the rows in flight
 abbrev pub turning-of : (credits queues flight : List ℕ) → Turning
@@ -22,3 +25,11 @@ pub record Lent (n : ℕ) (a c q f : List ℕ) : Type 0 where
 -- what an accepted tick at time k answers that hands out a matching
 abbrev pub answering : ℕ → Matching → Ticked
 answering k m = record { refusal = 0; slot = k; outputs = outputs-of m; «first_pass» = pass-word-of m }
+
+-- what a tick leaves: the answer r, the credits, the queues, the frame copy and the rows in flight
+pub record Left (o : Outcome Runs) (r : Ticked) (c q a f : List ℕ) : Type 0 where
+  pub answer : r ≡ ticked-of o
+  pub credits : c ≡ o .runs .credits
+  pub queues : q ≡ o .runs .queues
+  pub copy : a ≡ o .runs .copy
+  pub flight : f ≡ o .runs .flight

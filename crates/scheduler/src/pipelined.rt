@@ -6,7 +6,7 @@ ghost use lib.ListN.{length};
 ghost use Rattle.wsgs.specs.Basics.{between};
 ghost use Rattle.wsgs.specs.Answers.{clock-of, pipelined-runs-of, ticked-of};
 ghost use Rattle.wsgs.specs.Pipelined;
-ghost use Rattle.scheduler.specs.Turnings.{Lent};
+ghost use Rattle.scheduler.specs.Turnings.{Lent, Left};
 use super::flight::clear_row;
 use super::flight::hand_out;
 use super::pipeline_turns::all_turns;
@@ -111,11 +111,7 @@ fn run_tick(
     requires { ⌜ ports * ports ≤ length (now bookings) ⌝ }
     requires { ⌜ 1 ≤ frame ⌝ }
     requires { ⌜ slot < 4000000000 ⌝ }
-    ensures answer { λ r. ⌜ r ≡ ticked-of (Pipelined.ticked (clock-of ports frame slot) (pipelined-runs-of (now (bookings .entry)) (now (credits .entry)) (now (queues .entry)) (now (copy .entry)) (now (flight .entry)))) ⌝ }
-    ensures credits_exit { λ _. ⌜ now (credits .exit) ≡ Pipelined.ticked (clock-of ports frame slot) (pipelined-runs-of (now (bookings .entry)) (now (credits .entry)) (now (queues .entry)) (now (copy .entry)) (now (flight .entry))) .runs .credits ⌝ }
-    ensures queues_exit { λ _. ⌜ now (queues .exit) ≡ Pipelined.ticked (clock-of ports frame slot) (pipelined-runs-of (now (bookings .entry)) (now (credits .entry)) (now (queues .entry)) (now (copy .entry)) (now (flight .entry))) .runs .queues ⌝ }
-    ensures copy_exit { λ _. ⌜ now (copy .exit) ≡ Pipelined.ticked (clock-of ports frame slot) (pipelined-runs-of (now (bookings .entry)) (now (credits .entry)) (now (queues .entry)) (now (copy .entry)) (now (flight .entry))) .runs .copy ⌝ }
-    ensures flight_exit { λ _. ⌜ now (flight .exit) ≡ Pipelined.ticked (clock-of ports frame slot) (pipelined-runs-of (now (bookings .entry)) (now (credits .entry)) (now (queues .entry)) (now (copy .entry)) (now (flight .entry))) .runs .flight ⌝ }
+    ensures { λ r. ⌜ Left (Pipelined.ticked (clock-of ports frame slot) (pipelined-runs-of (now (bookings .entry)) (now (credits .entry)) (now (queues .entry)) (now (copy .entry)) (now (flight .entry)))) r (now (credits .exit)) (now (queues .exit)) (now (copy .exit)) (now (flight .exit)) ⌝ }
 {
     let time = slot + 1;
     copy_bookings(ports, frame, time as u64, bookings, copy);

@@ -1,11 +1,22 @@
 -- `pipelined::tick` meets its contract: a refusal above 0 is answered alone, and 0 says that the work's requirements hold. Assumes nothing.
-use mathlib.Core.Path.{sym, _∙_}
+use mathlib.Core.Path.{_≡_, sym, _∙_}
+use mathlib.Core.List.{List}
+use Prim.Native.Nat.{ℕ}
 use native.Mathlib.Omega.{arith}
 use borrow.Author.Needs.{needs}
-use Rattle.wsgs.specs.Answers.{pipelined-runs-of}
+use Rattle.wsgs.specs.declared.Ticked.{Ticked}
+use Rattle.wsgs.specs.Questions.{Outcome}
+use Rattle.wsgs.specs.Pipelined.{Runs}
+use Rattle.wsgs.specs.Answers.{pipelined-runs-of, ticked-of}
+use Rattle.scheduler.specs.Turnings.{Left}
 use Rattle.scheduler.proofs.PipelinedTick.{Accepted, accepted-found, tick-ran, tick-refused}
 use Rattle.scheduler.proofs.pipelined.tick.Statement.{statement}
 use Rattle.scheduler.proofs.pipelined.tick.Tie as tie
+
+-- what a tick leaves, clause by clause
+parts : {o : Outcome Runs} {r : Ticked} {c q p l : List ℕ} → Left o r c q p l
+    → (r ≡ ticked-of o) × ((c ≡ o .runs .credits) × ((q ≡ o .runs .queues) × ((p ≡ o .runs .copy) × (l ≡ o .runs .flight))))
+parts d = (d .answer, (d .credits, (d .queues, (d .copy, d .flight))))
 
 -- what an accepted tick found
 found : (c : tie.Else1) → let a = c .before .before .before .before .before .before .before .before .before .before .before .args in
@@ -28,7 +39,7 @@ same-length-4 : tie.Need-same-length-4
 same-length-4 c = search needs
 
 returns : tie.Need-returns
-returns c = tick-refused _ _ _ _ _ (c .before .tick-refusal .ensures) (c .if1 .taken)
+returns c = parts (tick-refused _ _ _ _ _ (c .before .tick-refusal .ensures) (c .if1 .taken))
 
 run-tick-requires : tie.Need-run-tick-requires
 run-tick-requires c κs =
@@ -51,7 +62,7 @@ returns-2 : tie.Need-returns-2
 returns-2 c =
     let k = c .before .before .before .before .before .before .before .before in
     let e = k .before .before .before .before .before in
-    rw (tick-ran _ _ _ _ _ (e .before .tick-refusal .ensures) (e .if1 .left)) (k .run-tick .ensures)
+    parts (tick-ran _ _ _ _ _ (e .before .tick-refusal .ensures) _ _ _ _ _ (e .if1 .left) (k .run-tick .ensures))
 
 pub tick-spec : {M : Type 1} → statement M
 tick-spec =
