@@ -1,21 +1,23 @@
 /*
  * Kivdrag: a slot scheduler for a packet switch with bookings (weighted sequential greedy scheduling, WSGS).
  *
- * A switch has N inputs and N outputs, each numbered from 1 to N, and runs in slots numbered from 1. In each slot an input sends at most one
- * packet and an output takes at most one. F slots make a frame; slot k is the first of a frame when (k - 1) mod F is 0. A pair of an input and
- * an output can book slots of each frame. A slot is scheduled in two passes, in each of which the inputs have their turns from 1 to N:
+ * A switch has N inputs and N outputs, each numbered from 1 to N, and runs in slots numbered from 1. In each slot an
+ * input sends at most one packet and an output takes at most one. F slots make a frame; slot k is the first of a
+ * frame when (k - 1) mod F is 0. A pair of an input and an output can book slots of each frame. A slot is scheduled
+ * in two passes, in each of which the inputs have their turns from 1 to N:
  *
- *   pass one  an input takes the lowest free output for which it has a credit and a packet; both fall by 1;
- *   pass two  an input that has no output yet takes the lowest free one for which it has a packet; only the packets fall by 1.
+ *   pass one  an input takes the lowest free output for which it has a credit and a packet, and both fall by 1;
+ *   pass two  an input without output takes the lowest free one for which it has a packet, and only packets fall.
  *
- * Credits are set anew from the bookings for each frame, so a change of the bookings counts from the next frame whose bookings are read.
+ * Credits are set anew from the bookings for each frame, so a change of the bookings counts from the next frame whose
+ * bookings are read.
  *
- * There are two forms, and a switch is of one of them from its start on. The direct form schedules each slot in the tick that runs it. The
- * pipelined form spreads the turns for a slot over the 2N ticks before it, one of each pass for each input in each tick. Bookings, releases
- * and arrivals are the same calls for both.
+ * There are two forms, and a switch is of one of them from its start on. The direct form schedules each slot in the
+ * tick that runs it. The pipelined form spreads the turns for a slot over the 2N ticks before it, one of each pass
+ * for each input in each tick. Bookings, releases and arrivals are the same calls for both.
  *
- * MEMORY. The library has no memory of its own and calls no other library: a switch is the memory that the caller lends, and several switches
- * do not know of each other. For N ports:
+ * MEMORY. The library has no memory of its own, and calls nothing but the C library's memset: a switch is the memory
+ * that the caller lends, and several switches do not know of each other. For N ports:
  *
  *   clock     3 words: the number of ports, the length of a frame, the last slot run
  *   bookings  N * N words: the slots of each frame that are booked for a pair
@@ -24,18 +26,22 @@
  *   copy      N * N words, pipelined form only: the bookings as they were last read
  *   flight    2 * N * N words, pipelined form only: the pairs of slots to come
  *
- * The word of input i and output j stands at [(i - 1) * N + (j - 1)]. A word is a uint32_t. A run of words is two arguments, a pointer to its
- * first word and its length, counted in words. A run may be longer than needed: the words beyond are neither read nor written. All of it may be
- * read at any time between calls, and any contents have a defined outcome; but only a start and the calls that follow it on the same memory
- * make a switch whose bookings are kept, so let nothing else write there.
+ * The word of input i and output j stands at [(i - 1) * N + (j - 1)]. In flight the word of input i for slot s stands
+ * at [(s mod 2N) * N + (i - 1)]: j for output j by pass two, 100 + j by pass one, and 0, or any other word, for none.
  *
- * What the caller must see to, as no call can ask for it: every pointer is to memory that is there in its whole length and is aligned for its
- * type, and none is a null pointer, not even where a length is 0; no two arguments of a call overlap, clock, outputs and first_pass included;
- * and no other thread uses the same memory during a call. Nothing else has to be checked before a call: every number may have any value.
+ * A word is a uint32_t. A run of words is two arguments, a pointer to its first word and its length, counted in
+ * words. A run may be longer than needed: the words beyond have no effect and are not written. All of it may be read
+ * between calls, and any contents have a defined outcome; but only a start and the calls that follow it on the same
+ * memory make a switch whose bookings are kept, so let nothing else write there.
  *
- * REFUSALS. Every call returns 0 if it is accepted, and otherwise the number of the first of these questions, among those that the call has,
- * whose answer is no. After a refused call all lent words have the values that they had before it; only the answer of a tick is
- * set, to all zeros.
+ * What the caller must see to, as no call can ask for it: every pointer is to memory that is there in its whole
+ * length and is aligned for its type, and none is a null pointer, not even where a length is 0; no two arguments of a
+ * call overlap, clock, outputs and first_pass included; and no other thread uses the same memory during a call.
+ * Nothing else has to be checked before a call: every number may have any value.
+ *
+ * REFUSALS. Every call returns 0 if it is accepted, and otherwise the number of the first of these questions, among
+ * those that the call has, whose answer is no. After a refused call every lent word has the value that it had before
+ * (a start or a tick may have stored it anew); only the answer of a tick is set, to all zeros.
  */
 #ifndef KIVDRAG_H
 #define KIVDRAG_H
@@ -56,7 +62,7 @@
 #define KIVDRAG_REFUSED_RELEASE 10u /* Release: has the pair at least so many slots booked? */
 #define KIVDRAG_REFUSED_QUEUE 11u   /* Arrival: would the pair's queue hold at most 1,000,000 packets? */
 
-/* The most ports that a switch can have, and how many words its runs need: clock; bookings, credits, queues and copy; flight. */
+/* The most ports of a switch, and its words: of clock; of bookings, credits, queues and copy each; of flight. */
 #define KIVDRAG_PORTS_MAX 32
 #define KIVDRAG_CLOCK_WORDS 3
 #define KIVDRAG_PAIR_WORDS(ports) ((size_t)(ports) * (size_t)(ports))
@@ -86,7 +92,8 @@ uint32_t kivdrag_start_direct(uint64_t ports, uint64_t frame, uint32_t clock[3],
 /*
  * Starts a pipelined switch, on memory with any contents.
  *
- * ports is N, 1 to 32; frame is F, 1 to 10,000 and at least N. bookings, credits, queues and copy have N * N words or more, flight 2 * N * N.
+ * ports is N, 1 to 32; frame is F, 1 to 10,000 and at least N. bookings, credits, queues and copy have N * N words or
+ * more, flight 2 * N * N.
  * Sets the clock to ports, frame and 0, and the first N * N words of each run, of flight the first 2 * N * N, to 0.
  * Refusals: 1 (ports), 2 (frame), 3 (frame below ports), 4 (a run is too short).
  */
@@ -102,7 +109,8 @@ uint32_t kivdrag_start_pipelined(uint64_t ports, uint64_t frame, uint32_t clock[
  *
  * input and output are 1 to N; slots is 1 to F.
  * Adds slots to the pair's word of bookings, and writes nothing else.
- * Refusals: 1, 2 (the clock's ports or frame), 4 (bookings is too short), 5 (input or output), 6 (slots), 8 (the input's sum), 9 (the output's sum).
+ * Refusals: 1, 2 (the clock's ports or frame), 4 (bookings is too short), 5 (input or output), 6 (slots), 8 (the
+ * input's sum), 9 (the output's sum).
  */
 uint32_t kivdrag_book(const uint32_t clock[3], uint32_t *bookings, size_t bookings_length,
                       uint64_t input, uint64_t output, uint64_t slots);
@@ -112,8 +120,8 @@ uint32_t kivdrag_book(const uint32_t clock[3], uint32_t *bookings, size_t bookin
  *
  * input and output are 1 to N; line, the rate of a line, is 1 to 100,000,000, and rate 1 to line, both in kbit/s.
  * Adds these slots to the pair's word of bookings, and writes nothing else.
- * Refusals: 1, 2 (the clock's ports or frame), 4 (bookings is too short), 5 (input or output), 6 (line or rate), 8 (the input's sum), 9 (the
- * output's sum).
+ * Refusals: 1, 2 (the clock's ports or frame), 4 (bookings is too short), 5 (input or output), 6 (line or rate), 8
+ * (the input's sum), 9 (the output's sum).
  */
 uint32_t kivdrag_book_rate(const uint32_t clock[3], uint32_t *bookings, size_t bookings_length,
                            uint64_t input, uint64_t output, uint64_t line, uint64_t rate);
@@ -123,7 +131,8 @@ uint32_t kivdrag_book_rate(const uint32_t clock[3], uint32_t *bookings, size_t b
  *
  * input and output are 1 to N; slots is 1 to F, and at most what the pair has booked.
  * Subtracts slots from the pair's word of bookings, and writes nothing else.
- * Refusals: 1, 2 (the clock's ports or frame), 4 (bookings is too short), 5 (input or output), 6 (slots), 10 (fewer slots are booked).
+ * Refusals: 1, 2 (the clock's ports or frame), 4 (bookings is too short), 5 (input or output), 6 (slots), 10 (fewer
+ * slots are booked).
  */
 uint32_t kivdrag_release(const uint32_t clock[3], uint32_t *bookings, size_t bookings_length,
                          uint64_t input, uint64_t output, uint64_t slots);
@@ -133,7 +142,8 @@ uint32_t kivdrag_release(const uint32_t clock[3], uint32_t *bookings, size_t boo
  *
  * input and output are 1 to N; packets is 1 to 65,535.
  * Adds packets to the pair's word of queues, and writes nothing else.
- * Refusals: 1, 2 (the clock's ports or frame), 4 (queues is too short), 5 (input or output), 6 (packets), 11 (the queue would exceed 1,000,000).
+ * Refusals: 1, 2 (the clock's ports or frame), 4 (queues is too short), 5 (input or output), 6 (packets), 11 (the
+ * queue would exceed 1,000,000).
  */
 uint32_t kivdrag_arrive(const uint32_t clock[3], uint32_t *queues, size_t queues_length,
                         uint64_t input, uint64_t output, uint64_t packets);
@@ -142,10 +152,11 @@ uint32_t kivdrag_arrive(const uint32_t clock[3], uint32_t *queues, size_t queues
  * Runs the next slot of a direct switch: slot k, where clock[2] is k - 1 before the call and k after it.
  *
  * bookings, credits and queues have N * N words or more.
- * Writes clock[2], the credits and the queues: in the first slot of a frame the credits become the bookings, and then each pair that is served
- * loses a packet, and by pass one a credit too.
- * Answers the pairs of slot k: outputs[i - 1] is the output of input i, or 0 for none, and 0 for inputs above N; bit i - 1 of *first_pass, the
- * lowest bit being bit 0, is 1 where pass one served input i. Both are written whole by every call, and are all 0 where it is refused.
+ * Advances clock[2], and writes credits and queues: in the first slot of a frame the credits become the bookings, and
+ * then each pair that is served loses a packet, and by pass one a credit too.
+ * Answers the pairs of slot k: outputs[i - 1] is the output of input i, or 0 for none, and 0 for inputs above N; bit
+ * i - 1 of *first_pass, the lowest bit being bit 0, is 1 where pass one served input i. Both are written whole by
+ * every call, and are all 0 where it is refused.
  * Refusals: 1, 2 (the clock's ports or frame), 4 (a run is too short), 7 (clock[2] is 4,000,000,000 or more).
  */
 uint32_t kivdrag_tick_direct(uint32_t clock[3], const uint32_t *bookings, size_t bookings_length,
@@ -154,15 +165,18 @@ uint32_t kivdrag_tick_direct(uint32_t clock[3], const uint32_t *bookings, size_t
                              uint8_t outputs[32], uint32_t *first_pass);
 
 /*
- * Runs the turns of one time of a pipelined switch, and hands out the pairs of the next slot: at time k, where clock[2] is k - 1 before the call
- * and k after it, those of slot k + 1. Slots up to N are idle, and slots N + 1 to 2N know only pass two.
+ * Runs the turns of one time of a pipelined switch, and hands out the pairs of the next slot: at time k, where
+ * clock[2] is k - 1 before the call and k after it, those of slot k + 1. Slots up to N are idle, and slots N + 1 to
+ * 2N know only pass two.
  *
  * bookings, credits, queues and copy have N * N words or more, flight 2 * N * N.
- * Writes clock[2], credits, queues, copy and flight: where slot k + 2N is the first of a frame, copy becomes the bookings; each input reloads its
- * credits from copy when it comes to a slot that is the first of a frame; each output that an input takes at one of its turns is
- * noted in flight, and costs a packet, and by pass one a credit too; the row of flight that is handed out becomes 0.
+ * Advances clock[2], and writes credits, queues, copy and flight: where slot k + 2N is the first of a frame, copy
+ * becomes the bookings; an input that comes to a slot that is the first of a frame reloads its credits from copy;
+ * each output that an input takes at one of its turns is noted in flight, and costs a packet, and by pass one a
+ * credit too; the row of flight that is handed out becomes 0.
  * Answers as kivdrag_tick_direct does, for slot k + 1.
- * Refusals: 1, 2 (the clock's ports or frame), 3 (frame below ports), 4 (a run is too short), 7 (clock[2] is 4,000,000,000 or more).
+ * Refusals: 1, 2 (the clock's ports or frame), 3 (frame below ports), 4 (a run is too short), 7 (clock[2] is
+ * 4,000,000,000 or more).
  */
 uint32_t kivdrag_tick_pipelined(uint32_t clock[3], const uint32_t *bookings, size_t bookings_length,
                                 uint32_t *credits, size_t credits_length,

@@ -84,13 +84,9 @@ pub extern "C" fn kivdrag_book(
     ensures { λ r. ⌜ r ≡ book-refusal (held (now (clock .entry))) (now (bookings .entry)) input output slots ⌝ }
     ensures { λ _. ⌜ now (bookings .exit) ≡ book-words (held (now (clock .entry))) (now (bookings .entry)) input output slots ⌝ }
 {
-    book::book(
-        clock_in(clock),
-        bookings,
-        Input(input),
-        Output(output),
-        BookedSlots(slots),
-    )
+    let clock = clock_in(clock);
+    let slots = BookedSlots(slots);
+    book::book(clock, bookings, Input(input), Output(output), slots)
 }
 
 // Books the slots that a rate needs on a line, both in kbit/s.
@@ -106,14 +102,8 @@ pub extern "C" fn kivdrag_book_rate(
     ensures { λ r. ⌜ r ≡ rate-refusal (held (now (clock .entry))) (now (bookings .entry)) input output line rate ⌝ }
     ensures { λ _. ⌜ now (bookings .exit) ≡ rate-words (held (now (clock .entry))) (now (bookings .entry)) input output line rate ⌝ }
 {
-    book::book_rate(
-        clock_in(clock),
-        bookings,
-        Input(input),
-        Output(output),
-        line,
-        rate,
-    )
+    let clock = clock_in(clock);
+    book::book_rate(clock, bookings, Input(input), Output(output), line, rate)
 }
 
 // Takes booked slots off a pair again.
@@ -128,13 +118,9 @@ pub extern "C" fn kivdrag_release(
     ensures { λ r. ⌜ r ≡ release-refusal (held (now (clock .entry))) (now (bookings .entry)) input output slots ⌝ }
     ensures { λ _. ⌜ now (bookings .exit) ≡ release-words (held (now (clock .entry))) (now (bookings .entry)) input output slots ⌝ }
 {
-    book::release(
-        clock_in(clock),
-        bookings,
-        Input(input),
-        Output(output),
-        BookedSlots(slots),
-    )
+    let clock = clock_in(clock);
+    let slots = BookedSlots(slots);
+    book::release(clock, bookings, Input(input), Output(output), slots)
 }
 
 // Adds packets that arrived to a pair's queue.
@@ -149,13 +135,8 @@ pub extern "C" fn kivdrag_arrive(
     ensures { λ r. ⌜ r ≡ arrive-refusal (held (now (clock .entry))) (now (queues .entry)) input output packets ⌝ }
     ensures { λ _. ⌜ now (queues .exit) ≡ arrive-words (held (now (clock .entry))) (now (queues .entry)) input output packets ⌝ }
 {
-    book::arrive(
-        clock_in(clock),
-        queues,
-        Input(input),
-        Output(output),
-        packets,
-    )
+    let clock = clock_in(clock);
+    book::arrive(clock, queues, Input(input), Output(output), packets)
 }
 
 // Runs the next slot of a direct switch.
@@ -175,9 +156,9 @@ pub extern "C" fn kivdrag_tick_direct(
     ensures { λ _. ⌜ now (outputs .exit) ≡ outputs-of (Direct.tick (held (now (clock .entry))) (direct-runs-of (now (bookings .entry)) (now (credits .entry)) (now (queues .entry))) .matching) ⌝ }
     ensures { λ _. ⌜ now («first_pass» .exit) ≡ pass-word-of (Direct.tick (held (now (clock .entry))) (direct-runs-of (now (bookings .entry)) (now (credits .entry)) (now (queues .entry))) .matching) ⌝ }
 {
-    let stepped = clock::step_direct(clock_in(clock), bookings, credits, queues);
-    put_clock(clock, stepped.clock);
-    put_answer(stepped.answer, outputs, first_pass)
+    let ran = clock::step_direct(clock_in(clock), bookings, credits, queues);
+    put_clock(clock, ran.clock);
+    put_answer(ran.answer, outputs, first_pass)
 }
 
 // Runs the turns of one time of a pipelined switch, and hands out the pairs of the next slot.
@@ -201,7 +182,7 @@ pub extern "C" fn kivdrag_tick_pipelined(
     ensures { λ _. ⌜ now (outputs .exit) ≡ outputs-of (Pipelined.tick (held (now (clock .entry))) (pipelined-runs-of (now (bookings .entry)) (now (credits .entry)) (now (queues .entry)) (now (copy .entry)) (now (flight .entry))) .matching) ⌝ }
     ensures { λ _. ⌜ now («first_pass» .exit) ≡ pass-word-of (Pipelined.tick (held (now (clock .entry))) (pipelined-runs-of (now (bookings .entry)) (now (credits .entry)) (now (queues .entry)) (now (copy .entry)) (now (flight .entry))) .matching) ⌝ }
 {
-    let stepped = clock::step_pipelined(clock_in(clock), bookings, credits, queues, copy, flight);
-    put_clock(clock, stepped.clock);
-    put_answer(stepped.answer, outputs, first_pass)
+    let turned = clock::step_pipelined(clock_in(clock), bookings, credits, queues, copy, flight);
+    put_clock(clock, turned.clock);
+    put_answer(turned.answer, outputs, first_pass)
 }

@@ -1,0 +1,132 @@
+/*
+ * A booth with a touch panel, a film player and an archive, scheduled through include/kivdrag.h: a direct switch for
+ * a frame, then a pipelined one for a few ticks. Build it at the repository's root, after `rt staticlib kivdrag_c`:
+ *
+ *   cc -std=c11 -Wall -Wextra -Werror -Iinclude examples/booth.c target/staticlib/libkivdrag_c.a -o target/booth
+ */
+#include "kivdrag.h"
+
+#include <stdio.h>
+
+enum { PORTS = 4, PAIRS = PORTS * PORTS, FLIGHT = 2 * PAIRS, FRAME = 8 };
+
+/* The inputs in use, and the outputs. */
+enum { PANEL = 1, PLAYER = 2, ARCHIVE = 3 };
+enum { DESK = 1, WALL = 2 };
+
+/* All memory of a switch; a direct one does without copy and flight. */
+typedef struct {
+    uint32_t clock[KIVDRAG_CLOCK_WORDS];
+    uint32_t bookings[PAIRS];
+    uint32_t credits[PAIRS];
+    uint32_t queues[PAIRS];
+    uint32_t copy[PAIRS];
+    uint32_t flight[FLIGHT];
+} Switch;
+
+/* The pairs of a slot, as a tick answers them. */
+typedef struct {
+    uint8_t outputs[KIVDRAG_PORTS_MAX];
+    uint32_t first_pass;
+} Pairs;
+
+static uint32_t start_direct(Switch *s, unsigned frame) {
+    return kivdrag_start_direct(PORTS, frame, s->clock, s->bookings, PAIRS, s->credits, PAIRS, s->queues, PAIRS);
+}
+
+static uint32_t start_pipelined(Switch *s, unsigned frame) {
+    return kivdrag_start_pipelined(PORTS, frame, s->clock, s->bookings, PAIRS, s->credits, PAIRS, s->queues, PAIRS,
+                                   s->copy, PAIRS, s->flight, FLIGHT);
+}
+
+static uint32_t book(Switch *s, unsigned input, unsigned output, unsigned slots) {
+    return kivdrag_book(s->clock, s->bookings, PAIRS, input, output, slots);
+}
+
+static uint32_t book_rate(Switch *s, unsigned input, unsigned output, unsigned line, unsigned rate) {
+    return kivdrag_book_rate(s->clock, s->bookings, PAIRS, input, output, line, rate);
+}
+
+static uint32_t arrive(Switch *s, unsigned input, unsigned output, unsigned packets) {
+    return kivdrag_arrive(s->clock, s->queues, PAIRS, input, output, packets);
+}
+
+static uint32_t tick_direct(Switch *s, Pairs *p) {
+    return kivdrag_tick_direct(s->clock, s->bookings, PAIRS, s->credits, PAIRS, s->queues, PAIRS, p->outputs,
+                               &p->first_pass);
+}
+
+static uint32_t tick_pipelined(Switch *s, Pairs *p) {
+    return kivdrag_tick_pipelined(s->clock, s->bookings, PAIRS, s->credits, PAIRS, s->queues, PAIRS, s->copy, PAIRS,
+                                  s->flight, FLIGHT, p->outputs, &p->first_pass);
+}
+
+static void say(const char *what, uint32_t refusal) {
+    if (refusal == KIVDRAG_ACCEPTED) {
+        printf("%s: accepted\n", what);
+    } else {
+        printf("%s: refused, %u\n", what, (unsigned)refusal);
+    }
+}
+
+static void print_pairs(unsigned slot, const Pairs *p) {
+    unsigned count = 0;
+    printf("slot %u:", slot);
+    for (unsigned i = 1; i <= PORTS; i++) {
+        if (p->outputs[i - 1] != 0) {
+            const char *pass = (p->first_pass >> (i - 1)) & 1 ? "booked" : "left over";
+            printf("%s %u to %u (%s)", count == 0 ? "" : ",", i, (unsigned)p->outputs[i - 1], pass);
+            count++;
+        }
+    }
+    printf("%s\n", count == 0 ? " idle" : "");
+}
+
+static void direct(void) {
+    static Switch s;
+    Pairs p;
+    say("start a direct switch of 4 ports, frames of 8 slots", start_direct(&s, FRAME));
+    say("book 2 slots from the panel to the desk", book(&s, PANEL, DESK, 2));
+    say("book 250 of 1,000 Mbit/s from the player to the wall", book_rate(&s, PLAYER, WALL, 1000000, 250000));
+    printf("  these are %u slots\n", (unsigned)s.bookings[(PLAYER - 1) * PORTS + (WALL - 1)]);
+    /* the desk would have 5 slots booked, and 2 * 5 is above 8 + 1 */
+    say("book 3 slots from the archive to the desk", book(&s, ARCHIVE, DESK, 3));
+    say("queue 6 packets of a film from the player to the wall", arrive(&s, PLAYER, WALL, 6));
+    say("queue 9 packets of a film from the archive to the desk", arrive(&s, ARCHIVE, DESK, 9));
+    for (unsigned slot = 1; slot <= FRAME; slot++) {
+        if (slot == 4) {
+            say("queue a touch from the panel to the desk", arrive(&s, PANEL, DESK, 1));
+        }
+        uint32_t refusal = tick_direct(&s, &p);
+        if (refusal != KIVDRAG_ACCEPTED) {
+            say("tick", refusal);
+            return;
+        }
+        print_pairs(s.clock[KIVDRAG_CLOCK_SLOT], &p);
+    }
+}
+
+static void pipelined(void) {
+    static Switch s;
+    Pairs p;
+    say("start a pipelined switch of 4 ports, frames of 3 slots", start_pipelined(&s, 3));
+    say("start a pipelined switch of 4 ports, frames of 8 slots", start_pipelined(&s, FRAME));
+    say("book 2 slots from the panel to the desk", book(&s, PANEL, DESK, 2));
+    say("queue 5 touches from the panel to the desk", arrive(&s, PANEL, DESK, 5));
+    say("queue 9 packets of a film from the archive to the desk", arrive(&s, ARCHIVE, DESK, 9));
+    for (unsigned time = 1; time <= 10; time++) {
+        uint32_t refusal = tick_pipelined(&s, &p);
+        if (refusal != KIVDRAG_ACCEPTED) {
+            say("tick", refusal);
+            return;
+        }
+        print_pairs(s.clock[KIVDRAG_CLOCK_SLOT] + 1, &p);
+    }
+}
+
+int main(void) {
+    direct();
+    printf("\n");
+    pipelined();
+    return 0;
+}
