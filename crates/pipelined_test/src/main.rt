@@ -1,7 +1,7 @@
 // Ticks of the pipelined form at the edges of document 01. Each case prints one line: the refusal, the last slot run, the pairs handed out as
 // input>output/pass, the word of pass one, and of each run afterwards the words that are not 0, as place=word with places from 0 (of more than
 // 20 words their sum). `stdout` was worked out by hand.
-ghost use Prim.Native.Nat.{_<_};
+ghost use Prim.Native.Nat.{_≤_, _<_};
 use scheduler::pipelined::tick;
 use wsgs::Ticked;
 
@@ -94,12 +94,41 @@ fn case(
 ) {
     let answer = tick(ports, frame, slot, bookings, credits, queues, copy, flight);
     say(name);
+    say_number(b", after slot ", slot as u64);
     say_answer(answer);
     say_run(b", credits", credits);
     say_run(b", queues", queues);
     say_run(b", copy", copy);
     say_run(b", flight", flight);
     say(b"\n");
+}
+
+// Ticks of one switch, after the slots from one number up to another.
+fn cases(
+    name: &[u8],
+    ports: u32,
+    frame: u32,
+    from: u32,
+    to: u32,
+    bookings: &[u32],
+    credits: &mut [u32],
+    queues: &mut [u32],
+    copy: &mut [u32],
+    flight: &mut [u32],
+) {
+    for slot in from..to {
+        case(
+            name,
+            ports,
+            frame,
+            slot,
+            bookings,
+            credits,
+            queues,
+            copy,
+            flight,
+        );
+    }
 }
 
 // At time 5 input 1 of three works on slots 11 and 8, whose rows are 5 and 2; times 7 and 10 hand them out.
@@ -109,33 +138,12 @@ fn time_5() {
     let mut queues = [2u32, 0, 0, 0, 0, 0, 0, 0, 0];
     let mut copy = [0u32; 9];
     let mut flight = [0u32; 18];
-    case(
-        b"3 ports, time 5",
+    cases(
+        b"3 ports",
         3,
         100,
         4,
-        &none,
-        &mut credits,
-        &mut queues,
-        &mut copy,
-        &mut flight,
-    );
-    case(
-        b"3 ports, time 7",
-        3,
-        100,
-        6,
-        &none,
-        &mut credits,
-        &mut queues,
-        &mut copy,
-        &mut flight,
-    );
-    case(
-        b"3 ports, time 10",
-        3,
-        100,
-        9,
+        10,
         &none,
         &mut credits,
         &mut queues,
@@ -151,44 +159,12 @@ fn frame_of_ports() {
     let mut queues = [3u32, 0, 0, 3];
     let mut copy = [0u32; 4];
     let mut flight = [0u32; 8];
-    case(
-        b"2 ports, frame of 2, time 1",
+    cases(
+        b"2 ports, frame of 2",
         2,
         2,
         0,
-        &bookings,
-        &mut credits,
-        &mut queues,
-        &mut copy,
-        &mut flight,
-    );
-    case(
-        b"2 ports, frame of 2, time 2",
-        2,
-        2,
-        1,
-        &bookings,
-        &mut credits,
-        &mut queues,
-        &mut copy,
-        &mut flight,
-    );
-    case(
-        b"2 ports, frame of 2, time 3",
-        2,
-        2,
-        2,
-        &bookings,
-        &mut credits,
-        &mut queues,
-        &mut copy,
-        &mut flight,
-    );
-    case(
-        b"2 ports, frame of 2, time 4",
-        2,
-        2,
-        3,
+        4,
         &bookings,
         &mut credits,
         &mut queues,
@@ -204,22 +180,12 @@ fn one_port() {
     let mut queues = [3u32];
     let mut copy = [0u32];
     let mut flight = [0u32; 2];
-    case(
-        b"1 port, time 1",
+    cases(
+        b"1 port",
         1,
         1,
         0,
-        &bookings,
-        &mut credits,
-        &mut queues,
-        &mut copy,
-        &mut flight,
-    );
-    case(
-        b"1 port, time 2",
-        1,
-        1,
-        1,
+        2,
         &bookings,
         &mut credits,
         &mut queues,
@@ -228,15 +194,15 @@ fn one_port() {
     );
 }
 
-// 32 ports, every pair booked and queued: at time 1 only input 1 has turns, at time 40 all have.
-fn all_ports() {
+// 32 ports, every pair booked and queued. At time 1 only input 1 has turns.
+fn input_1() {
     let ones = [1u32; 1024];
     let mut credits = [0u32; 1024];
     let mut queues = [1u32; 1024];
     let mut copy = [0u32; 1024];
     let mut flight = [0u32; 2048];
     case(
-        b"32 ports, time 1",
+        b"32 ports",
         32,
         32,
         0,
@@ -246,20 +212,25 @@ fn all_ports() {
         &mut copy,
         &mut flight,
     );
-    let mut all_credits = [1u32; 1024];
-    let mut all_queues = [1u32; 1024];
-    let mut old_copy = [0u32; 1024];
-    let mut rows = [0u32; 2048];
+}
+
+// At time 40 all inputs have turns, and input 8, whose slot is the first of a frame, loads an empty copy.
+fn all_inputs() {
+    let ones = [1u32; 1024];
+    let mut credits = [1u32; 1024];
+    let mut queues = [1u32; 1024];
+    let mut copy = [0u32; 1024];
+    let mut flight = [0u32; 2048];
     case(
-        b"32 ports, time 40",
+        b"32 ports",
         32,
         32,
         39,
         &ones,
-        &mut all_credits,
-        &mut all_queues,
-        &mut old_copy,
-        &mut rows,
+        &mut credits,
+        &mut queues,
+        &mut copy,
+        &mut flight,
     );
 }
 
@@ -295,15 +266,14 @@ fn moved_booking() {
     );
 }
 
-// Words in flight that no tick left: two inputs with one output, and words that are read as 0.
-fn garbage() {
+// Rows in flight that no tick left, at time 9 of two ports: input 1 works on rows 1 and 3, input 2 on rows 0 and 2, and row 2 is handed out.
+fn rows(name: &[u8], flight: &mut [u32]) {
     let none = [0u32; 4];
     let mut credits = [0u32; 4];
-    let mut queues = [0u32, 0, 1, 1];
+    let mut queues = [5u32; 4];
     let mut copy = [0u32; 4];
-    let mut same = [0u32, 0, 0, 0, 101, 1, 0, 0];
     case(
-        b"one output for two inputs",
+        name,
         2,
         50,
         8,
@@ -311,33 +281,18 @@ fn garbage() {
         &mut credits,
         &mut queues,
         &mut copy,
-        &mut same,
+        flight,
     );
-    let mut queues_2 = [5u32; 4];
+}
+
+// Two inputs that have one output are handed out both; words that are read as 0 stand for no output; a full row is left alone.
+fn garbage() {
+    let mut same = [0u32, 0, 0, 0, 101, 1, 2, 2];
+    rows(b"one output twice", &mut same);
     let mut odd = [100u32, 133, 3, 4294967295, 103, 99, 4294967295, 200];
-    case(
-        b"words read as 0",
-        2,
-        50,
-        8,
-        &none,
-        &mut credits,
-        &mut queues_2,
-        &mut copy,
-        &mut odd,
-    );
+    rows(b"words read as 0", &mut odd);
     let mut full = [101u32, 102, 1, 2, 2, 101, 102, 1];
-    case(
-        b"rows that are full",
-        2,
-        50,
-        8,
-        &none,
-        &mut credits,
-        &mut queues_2,
-        &mut copy,
-        &mut full,
-    );
+    rows(b"full rows", &mut full);
 }
 
 // An input that has an output for its pass-one slot pays no credit there, and pays none in pass two.
@@ -367,22 +322,32 @@ fn last_slot() {
     let mut queues = [2u32];
     let mut copy = [0u32];
     let mut flight = [0u32; 2];
-    case(
-        b"clock at 3999999999",
+    cases(
+        b"1 port",
         1,
         7,
         3999999999,
+        4000000001,
         &bookings,
         &mut credits,
         &mut queues,
         &mut copy,
         &mut flight,
     );
+}
+
+// A switch with the words of one port, all 0.
+fn one_word(name: &[u8], ports: u32, frame: u32, slot: u32) {
+    let bookings = [0u32; 1];
+    let mut credits = [0u32; 1];
+    let mut queues = [0u32; 1];
+    let mut copy = [0u32; 1];
+    let mut flight = [0u32; 2];
     case(
-        b"clock at 4000000000",
-        1,
-        7,
-        4000000000,
+        name,
+        ports,
+        frame,
+        slot,
         &bookings,
         &mut credits,
         &mut queues,
@@ -393,168 +358,71 @@ fn last_slot() {
 
 // The limits of ports and frame, and the order of the questions.
 fn limits() {
-    let bookings = [0u32; 1];
-    let mut credits = [0u32; 1];
-    let mut queues = [0u32; 1];
-    let mut copy = [0u32; 1];
-    let mut flight = [0u32; 2];
+    one_word(b"no ports", 0, 1, 0);
+    one_word(b"33 ports", 33, 50, 0);
+    one_word(b"no slots in a frame", 1, 0, 0);
+    one_word(b"10001 slots in a frame", 1, 10001, 0);
+    one_word(b"3 ports, frame of 2", 3, 2, 0);
+    one_word(b"3 ports, frame of 3, short runs", 3, 3, 0);
+    one_word(b"2 ports, short runs", 2, 2, 4000000000);
+    one_word(b"10000 slots in a frame", 1, 10000, 0);
+}
+
+// A switch of two ports whose frame copy and rows in flight have that many words, and whose other runs are long enough.
+fn short_run(name: &[u8], copied: usize, flown: usize)
+    requires { ⌜ copied ≤ 4 ⌝ }
+    requires { ⌜ flown ≤ 8 ⌝ }
+{
+    let bookings = [0u32; 4];
+    let mut credits = [0u32; 4];
+    let mut queues = [0u32; 4];
+    let mut copy = [0u32; 4];
+    let mut flight = [0u32; 8];
     case(
-        b"no ports",
-        0,
-        1,
-        0,
-        &bookings,
-        &mut credits,
-        &mut queues,
-        &mut copy,
-        &mut flight,
-    );
-    case(
-        b"33 ports",
-        33,
-        50,
-        0,
-        &bookings,
-        &mut credits,
-        &mut queues,
-        &mut copy,
-        &mut flight,
-    );
-    case(
-        b"no slots in a frame",
-        1,
-        0,
-        0,
-        &bookings,
-        &mut credits,
-        &mut queues,
-        &mut copy,
-        &mut flight,
-    );
-    case(
-        b"10001 slots in a frame",
-        1,
-        10001,
-        0,
-        &bookings,
-        &mut credits,
-        &mut queues,
-        &mut copy,
-        &mut flight,
-    );
-    case(
-        b"3 ports, frame of 2",
-        3,
+        name,
         2,
-        0,
-        &bookings,
-        &mut credits,
-        &mut queues,
-        &mut copy,
-        &mut flight,
-    );
-    case(
-        b"3 ports, frame of 3, short runs",
-        3,
         3,
         0,
         &bookings,
         &mut credits,
         &mut queues,
-        &mut copy,
-        &mut flight,
+        &mut copy[..copied],
+        &mut flight[..flown],
     );
+}
+
+// The same of the bookings, the credits and the queues.
+fn short_matrix(name: &[u8], booked: usize, credited: usize, queued: usize)
+    requires { ⌜ booked ≤ 4 ⌝ }
+    requires { ⌜ credited ≤ 4 ⌝ }
+    requires { ⌜ queued ≤ 4 ⌝ }
+{
+    let bookings = [0u32; 4];
+    let mut credits = [0u32; 4];
+    let mut queues = [0u32; 4];
+    let mut copy = [0u32; 4];
+    let mut flight = [0u32; 8];
     case(
-        b"short runs at the last slot",
+        name,
         2,
-        2,
-        4000000000,
-        &bookings,
-        &mut credits,
-        &mut queues,
-        &mut copy,
-        &mut flight,
-    );
-    case(
-        b"10000 slots in a frame",
-        1,
-        10000,
+        3,
         0,
-        &bookings,
-        &mut credits,
-        &mut queues,
+        &bookings[..booked],
+        &mut credits[..credited],
+        &mut queues[..queued],
         &mut copy,
         &mut flight,
     );
 }
 
-// Each run in turn short by one word.
+// Each run in turn short by one word, and none.
 fn short_runs() {
-    let long = [1u32; 4];
-    let short = [1u32; 3];
-    let mut credits = [0u32; 4];
-    let mut few_credits = [0u32; 3];
-    let mut queues = [0u32; 4];
-    let mut few_queues = [0u32; 3];
-    let mut copy = [0u32; 4];
-    let mut few_copy = [0u32; 3];
-    let mut flight = [0u32; 8];
-    let mut few_flight = [0u32; 7];
-    case(
-        b"bookings too short",
-        2,
-        3,
-        0,
-        &short,
-        &mut credits,
-        &mut queues,
-        &mut copy,
-        &mut flight,
-    );
-    case(
-        b"credits too short",
-        2,
-        3,
-        0,
-        &long,
-        &mut few_credits,
-        &mut queues,
-        &mut copy,
-        &mut flight,
-    );
-    case(
-        b"queues too short",
-        2,
-        3,
-        0,
-        &long,
-        &mut credits,
-        &mut few_queues,
-        &mut copy,
-        &mut flight,
-    );
-    case(
-        b"copy too short",
-        2,
-        3,
-        0,
-        &long,
-        &mut credits,
-        &mut queues,
-        &mut few_copy,
-        &mut flight,
-    );
-    case(
-        b"rows too short",
-        2,
-        3,
-        0,
-        &long,
-        &mut credits,
-        &mut queues,
-        &mut copy,
-        &mut few_flight,
-    );
+    short_matrix(b"bookings too short", 3, 4, 4);
+    short_matrix(b"credits too short", 4, 3, 4);
+    short_matrix(b"queues too short", 4, 4, 3);
+    short_run(b"copy too short", 3, 8);
+    short_run(b"rows too short", 4, 7);
+    short_run(b"long enough", 4, 8);
 }
 
 // One word more than is used.
@@ -581,7 +449,8 @@ fn main() {
     time_5();
     frame_of_ports();
     one_port();
-    all_ports();
+    input_1();
+    all_inputs();
     moved_booking();
     garbage();
     credit_stays();

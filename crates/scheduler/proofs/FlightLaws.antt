@@ -18,24 +18,24 @@ pub row-within : (n s : ℕ) → 1 ≤ n → s % (2 * n) * n + n ≤ 2 * n * n
 row-within n s some = rw (← suc-mul (s % (2 * n)) n) (mul-le-mul-right n (mod-lt s (omega arith)))
 
 -- o is the output that a word in flight v is read as, 0 for none
-abbrev pub Reads : ℕ → ℕ → ℕ → Type 0
-Reads n v o = (o ≡ output-in n v) × (o ≤ n)
+abbrev pub ReadAs : ℕ → ℕ → ℕ → Type 0
+ReadAs n v o = (o ≡ output-in n v) × (o ≤ n)
 
 module _ (n v : ℕ) where
-  -- by pass one
+  -- a word by pass one
   pub first-low : by-first n v ≡ true → 101 ≤ v
   first-low e = in-range 101 (100 + n) v (rw e tt) .0
 
-  pub first-read : by-first n v ≡ true → Reads n v (v - 100)
+  pub first-read : by-first n v ≡ true → ReadAs n v (v - 100)
   first-read e = (rw e, omega (arith, in-range 101 (100 + n) v (rw e tt) .1))
 
-  -- by pass two
-  pub second-read : by-first n v ≡ false → 1 ≤ v → v ≤ n → Reads n v v
+  -- a word by pass two
+  pub second-read : by-first n v ≡ false → 1 ≤ v → v ≤ n → ReadAs n v v
   second-read e a b = (rw (e, le-leb 1 v a, le-leb v n b), b)
 
-  -- and any other
-  pub none-low : by-first n v ≡ false → v < 1 → Reads n v 0
+  -- any other
+  pub none-low : by-first n v ≡ false → v < 1 → ReadAs n v 0
   none-low e a = (rw (e, lt-leb 1 v a), omega arith)
 
-  pub none-high : by-first n v ≡ false → n < v → Reads n v 0
+  pub none-high : by-first n v ≡ false → n < v → ReadAs n v 0
   none-high e b = (rw (e, lt-leb v n b, and-false (leb 1 v)), omega arith)

@@ -30,7 +30,7 @@ module _ (n f k : ℕ) (w : Runs) where
   abbrev refusal : ℕ
   refusal = tick-refusal (clock-of n f k) w
 
-  -- the answers
+  -- each answer in turn
   module _ (b : Bool) (e : b ≡ between 1 32 n) where
     pub no-1 : b ≡ false → 1 ≡ refusal
     unfolding tick-refusal

@@ -1,5 +1,5 @@
--- A pipelined turn of input i for slot s: one that has an output changes nothing; any other takes the lowest open one, if there is one.
--- Assumes nothing.
+-- The turns of a pipelined tick. In a turn for slot s an input that has an output changes nothing, and any other takes the lowest open one, if
+-- there is one; at time k each input reloads its credits and has its turns where they are due. Assumes nothing.
 use mathlib.Core.Path.{_≡_, refl, sym, _∙_, ap}
 use mathlib.Core.Bool.{Bool, true, false, not, _&&_, and-self}
 use mathlib.Core.List.{List}
@@ -24,6 +24,7 @@ by-test : (b : Bool) (x y : Turning) → _≡_ {A = Turning} (elim b [ true ↦ 
 by-test true x y = refl
 by-test false x y = refl
 
+-- A TURN of input i for slot s
 module _ (n s i : ℕ) (c q f : List ℕ) where
   abbrev w : Turning
   w = turning-of c q f
@@ -56,6 +57,7 @@ module _ (n s i : ℕ) (c q f : List ℕ) where
 
   -- the input's word in flight stands at its place, and is read as output o
   module _ (at o : ℕ) (place : at ≡ flight-place n s i) (read : o ≡ output-in n (getD f at 0)) where
+    -- so that is the output that it has
     held : reserved n f s i ≡ o
     unfolding in-flight
     held = ap (λ p. output-in n (getD f p 0)) (sym place) ∙ sym read
@@ -69,6 +71,7 @@ module _ (n s i : ℕ) (c q f : List ℕ) where
 
     -- it has none, and output r is the lowest that is open by the mask
     module _ (none : o ≤ 0) (free r : ℕ) (frees : (j : ℕ) → Port n j → in-mask free j ≡ not (standing n f s j)) where
+      -- then r is what the definition takes
       opens : (one two : List ℕ) → r ≡ lowest (is-open n free one two i) n → best one two ≡ r
       unfolding is-open
       opens one two e =
@@ -90,7 +93,7 @@ module _ (n s i : ℕ) (c q f : List ℕ) where
         pub turn-two-none : r ≤ 0 → turning-of c q′ f ≡ turn-two n s i w
         turn-two-none h = rw (turn-two-is, held, eq-eqb o 0 (omega arith), opens q q e, le-ltb 0 r h, eq, charged-none n q i r h)
 
--- where slot s is the first of a frame, an input's row of credits is set from the frame copy
+-- THE RELOAD of input i's row of credits, where slot s is the first of a frame
 module _ (n k : ℕ) (copy c q f : List ℕ) (s i : ℕ) where
   pub reloads : (b : Bool) (c′ : List ℕ) → b ≡ first-of-frame k s → b ≡ true → c′ ≡ loaded n copy i c → turning-of c′ q f ≡ reloaded n k copy s i (turning-of c q f)
   unfolding reloaded
