@@ -1,0 +1,2 @@
+// The event program's library: records in, lines out, on lent slices.
+pub mod reader;
