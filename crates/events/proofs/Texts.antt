@@ -64,11 +64,11 @@ module _ (r : Name) (rs : List Name) (t : List ℕ) (is : Bool) (e : is ≡ same
 
 -- a text that begins with a comma, and one that begins with another byte
 module _ (x : ℕ) (xs : List ℕ) where
-  comma-first : x ≡ comma → first-comma (x ∷ xs) ≡ 0
+  pub comma-first : x ≡ comma → first-comma (x ∷ xs) ≡ 0
   unfolding first-comma
   comma-first e = rw (eq-eqb x comma e, first-comma)
 
-  comma-later : (x ≡ comma → ⊥) → first-comma (x ∷ xs) ≡ suc (first-comma xs)
+  pub comma-later : (x ≡ comma → ⊥) → first-comma (x ∷ xs) ≡ suc (first-comma xs)
   unfolding first-comma
   comma-later d = rw (ne-eqb x comma d, first-comma)
 
