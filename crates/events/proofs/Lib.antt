@@ -1,3 +1,5 @@
 pub mod Digits
 pub mod Texts
 pub mod Fields
+pub mod Writing
+pub mod Decimals

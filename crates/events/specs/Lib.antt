@@ -1,2 +1,3 @@
 -- What the functions of this crate say beyond the definitions of the event program's text.
 pub mod Records
+pub mod Lines
