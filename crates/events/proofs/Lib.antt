@@ -3,3 +3,4 @@ pub mod Texts
 pub mod Fields
 pub mod Writing
 pub mod Decimals
+pub mod Printing

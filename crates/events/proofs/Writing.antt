@@ -58,15 +58,15 @@ pub wrote-is : {out out′ : List ℕ} {at next : ℕ} {t u : List ℕ} → Wrot
 wrote-is {out} {out′} {at} {next} w e = subst (λ t. Wrote out at t next out′) e w
 
 -- after a text another
-module _ (a b : List ℕ) (at next : ℕ) (t : List ℕ) (w : Wrote a at t next b) where
+module _ {a b : List ℕ} {at next : ℕ} {t : List ℕ} (w : Wrote a at t next b) where
   pub wrote-long : length b ≡ length a
   wrote-long =
       ap length (w .buffer)
       ∙ length-append (take at a ++ t) (drop (at + length t) a)
       ∙ omega (arith, w .fits, front a at t (omega (arith, w .fits)), length-drop (at + length t) a)
 
-  pub wrote-then : (c : List ℕ) (end : ℕ) (u : List ℕ) → Wrote b next u end c → Wrote a at (t ++ u) end c
-  wrote-then c end u v =
+  pub wrote-then : {c : List ℕ} {end : ℕ} {u : List ℕ} → Wrote b next u end c → Wrote a at (t ++ u) end c
+  wrote-then {u = u} v =
       let p = take at a ++ t in
       let q = drop (at + length t) a in
       let long : length p ≡ at + length t = front a at t (omega (arith, w .fits)) in

@@ -23,14 +23,16 @@ pub record Wrote (out : List ℕ) (at : ℕ) (text : List ℕ) (next : ℕ) (out
 abbrev pub with-room : ℕ → List ℕ → List ℕ → List ℕ
 with-room most out text = pick (leb most (length out)) text []
 
+-- bit k of a word is set
+abbrev pub is-set : ℕ → ℕ → Bool
+is-set w k = eqb (w / 2 ^ k % 2) 1
+
 -- the pairs that an array of output numbers and a word of the inputs served by pass one stand for
 abbrev pub matching-of : List ℕ → ℕ → Matching
-matching-of outputs passes =
-    record { output = λ i. getD outputs (i - 1) 0; first = λ i. eqb (passes / 2 ^ (i - 1) % 2) 1 }
+matching-of outputs passes = record { output = λ i. getD outputs (i - 1) 0; first = λ i. is-set passes (i - 1) }
 
 -- the line of input i, if it has an output
-unfoldable pub match-line : ℕ → Matching → ℕ → List ℕ
+unfoldable pub match-line : ℕ → ℕ → ℕ → Bool → List ℕ
 unfolding bytes line decimal
-match-line slot a i =
-    pick (eqb (a .output i) 0) []
-    (line (bytes "match" ∷ decimal slot ∷ decimal i ∷ decimal (a .output i) ∷ decimal (pick (a .first i) 1 2) ∷ []))
+match-line slot i output first =
+    pick (eqb output 0) [] (line (bytes "match" ∷ decimal slot ∷ decimal i ∷ decimal output ∷ decimal (pick first 1 2) ∷ []))

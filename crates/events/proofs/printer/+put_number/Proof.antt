@@ -53,7 +53,7 @@ module _ (t : ℕ) where
       let before = c .before .before .before in
       omega (
         arith,
-        wrote-long _ _ _ _ _ (before .put-number .ensures),
+        wrote-long (before .put-number .ensures),
         decimal-long (before .before .before .before .before .args .n) (omega arith) (omega arith),
       )
 
@@ -62,7 +62,7 @@ module _ (t : ℕ) where
 
   returns-2 : lts.Need-returns-2 (byte.Asked, byte.Learnt, below t, number.Post) (given t) number.Post
   returns-2 c =
-      wrote-is (wrote-then _ _ _ _ _ (c .before .before .before .before .before .before .put-number .ensures) _ _ _ (c .before .before .put-byte2 .ensures))
+      wrote-is (wrote-then (c .before .before .before .before .before .before .put-number .ensures) (c .before .before .put-byte2 .ensures))
       (decimal-more _ (omega arith) (omega arith))
 
 pub +put-number-spec : {M : Type 1} → statement M
