@@ -1,15 +1,16 @@
 -- Lines of a name and four numbers, their length, and the lines of a slot. Assumes nothing.
 use mathlib.Core.Path.{_≡_, refl, sym, ap, _∙_}
 use mathlib.Core.Bool.{Bool, true, false}
-use mathlib.Core.List.{List, [], _∷_, _++_, append-assoc}
+use mathlib.Core.List.{List, [], _∷_, _++_, append-assoc, append-nil}
 use Prim.Native.Nat.{ℕ, zero, suc, _+_, _-_, _*_, _/_, _%_, _^_, _≤_, _<_}
 use native.Mathlib.Decide.{ℕ-discrete}
+use native.Mathlib.Nat.{add-zero, add-suc}
 use native.Mathlib.Numerals.{add-one}
 use native.Mathlib.Omega.{arith}
 use borrow.Author.Tests.{eq-eqb, ne-eqb}
 use lib.Bits.{bitAnd, and-mask}
 use lib.Dec.{eqb}
-use lib.ListN.{length, getD, length-append}
+use lib.ListN.{length, getD, length-append, List·getD-eq-default}
 use Rattle.wsgs.specs.Basics.{pick}
 use Rattle.wsgs.specs.Steps.{Matching}
 use Rattle.wsgs.specs.Text.{CR, LF, comma, bytes, decimal, line}
@@ -99,3 +100,16 @@ module _ (slot : ℕ) (outputs : List ℕ) (passes : ℕ) where
         matches-short i,
         match-short slot (suc i) (a .output (suc i)) (a .first (suc i)),
       ))
+
+  -- inputs past the last entry have no line
+  module _ (m : ℕ) (long : length outputs ≡ m) where
+    none-past : (n : ℕ) → match-lines slot (matching-of outputs passes) (m + n) ≡ match-lines slot (matching-of outputs passes) m
+    none-past zero = rw (add-zero m)
+    none-past (suc n) =
+        let a = matching-of outputs passes in
+        let e : a .output (suc (m + n)) ≡ 0 = List·getD-eq-default outputs 0 (omega arith) in
+        rw (add-suc m n, matches-suc slot a (m + n), ← no-line slot (suc (m + n)) (a .output (suc (m + n))) (a .first (suc (m + n))) e, append-nil)
+        (none-past n)
+
+    pub matches-past : (n : ℕ) → m ≤ n → match-lines slot (matching-of outputs passes) m ≡ match-lines slot (matching-of outputs passes) n
+    matches-past n h = let e : m + (n - m) ≡ n = omega arith in rw e at (sym (none-past (n - m)))

@@ -7,7 +7,8 @@ use native.Mathlib.Numerals.{add-one}
 use native.Mathlib.Omega.{arith}
 use lib.ListN.{length, take, drop, set, getD, take-append-drop, length-append, length-drop}
 use lib.Seq.{length-take-le, take-length, take-at, drop-append-add, drop-drop, set-split, append-snoc, paste, paste-zero, paste-suc, length-paste}
-use Rattle.events.specs.Lines.{written, Wrote}
+use borrow.Author.Tests.{le-leb, lt-leb}
+use Rattle.events.specs.Lines.{written, Wrote, with-room}
 
 module _ (out : List ℕ) (at : ℕ) where
   -- what stands before a text and the text
@@ -78,4 +79,20 @@ module _ {a b : List ℕ} {at next : ℕ} {t : List ℕ} (w : Wrote a at t next 
         buffer =
             v .buffer
             ∙ rw (w .next-place, w .buffer, take-at p q (at + length t) long, drop-after, length-append t u, ← add-assoc at (length t) (length u), ← append-assoc (take at a) t u);
+      }
+
+-- a text at the front of a buffer that has room for it, and of one that has not
+module _ (most : ℕ) (out text : List ℕ) where
+  pub record Given (next : ℕ) (out′ : List ℕ) : Type 0 where
+    pub count : next ≡ length (with-room most out text)
+    pub buffer : out′ ≡ written 0 (with-room most out text) out
+
+  pub no-room : length out < most → Given 0 out
+  no-room h = record { count = rw (lt-leb most (length out) h); buffer = rw (lt-leb most (length out) h) }
+
+  pub room : {next : ℕ} {out′ : List ℕ} → most ≤ length out → Wrote out 0 text next out′ → Given next out′
+  room h w =
+      record {
+        count = rw (le-leb most (length out) h) (omega (arith, w .next-place));
+        buffer = rw (le-leb most (length out) h) (w .buffer);
       }
