@@ -8,7 +8,7 @@ use Rattle.events.proofs.lines.refusal_line.Statement.{statement}
 use Rattle.events.proofs.lines.refusal_line.Tie as tie
 
 returns : tie.Need-returns
-returns c = let g = no-room 93 _ _ (c .if1 .taken) in (g .count, g .buffer)
+returns c = let g = no-room 93 (c .before .before .args .out .now) _ (omega arith) in (g .count, g .buffer)
 
 slice-aggregate-put-line : tie.Need-slice-aggregate-put-line
 slice-aggregate-put-line c = search needs

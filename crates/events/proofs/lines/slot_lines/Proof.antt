@@ -9,7 +9,7 @@ use Rattle.events.proofs.lines.slot_lines.Statement.{statement}
 use Rattle.events.proofs.lines.slot_lines.Tie as tie
 
 returns : tie.Need-returns
-returns c = let g = no-room 2912 _ _ (c .if1 .taken) in (g .count, g .buffer)
+returns c = let g = no-room 2912 (c .before .before .args .out .now) _ (omega arith) in (g .count, g .buffer)
 
 put-matches-requires : tie.Need-put-matches-requires
 put-matches-requires c κs = search needs

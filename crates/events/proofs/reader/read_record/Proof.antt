@@ -8,7 +8,7 @@ use Rattle.events.proofs.reader.read_record.Statement.{statement}
 use Rattle.events.proofs.reader.read_record.Tie as tie
 
 returns : tie.Need-returns
-returns c = over-64 _ (c .if1 .taken)
+returns c = over-64 _ (omega arith)
 
 comma-place-requires : tie.Need-comma-place-requires
 comma-place-requires c κs = search needs
