@@ -4,3 +4,4 @@ pub mod Fields
 pub mod Writing
 pub mod Decimals
 pub mod Printing
+pub mod Feeding
