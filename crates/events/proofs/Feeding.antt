@@ -18,7 +18,7 @@ use Rattle.wsgs.specs.Program.{Machine, Step, run-ticks, match-lines, refusal-o
 use Rattle.events.specs.Feeding.{State, Out, after, with-machine, run-slot, take-byte, drained, finish, Fed, noted, most-printed, goes-on, step, steps, work, fed, Calls, none, call}
 
 -- what is printed before what is printed before
-after-after : (t u : List ℕ) (o : Out) → after t (after u o) ≡ after (t ++ u) o
+pub after-after : (t u : List ℕ) (o : Out) → after t (after u o) ≡ after (t ++ u) o
 after-after t u o = rw (append-assoc t u (o .printed))
 
 -- no slot to run
@@ -64,12 +64,12 @@ abbrev then-byte : ℕ → List ℕ → Out → Out
 then-byte x xs d = after (d .printed) (let b : Out = take-byte (d .state) x in after (b .printed) (finish (b .state) xs))
 
 -- an input that ends
-finish-none : (s : State) → s .slots-left ≡ 0 → finish s [] ≡ record { state = s; printed = [] }
+pub finish-none : (s : State) → s .slots-left ≡ 0 → finish s [] ≡ record { state = s; printed = [] }
 unfolding finish
 finish-none s e = drained-none s e
 
 -- the slots may be run first
-drained-first : (s : State) (xs : List ℕ) → finish s xs ≡ after (drained s .printed) (finish (drained s .state) xs)
+pub drained-first : (s : State) (xs : List ℕ) → finish s xs ≡ after (drained s .printed) (finish (drained s .state) xs)
 unfolding finish
 drained-first s [] = ap (λ t. record { state = drained s .state; printed = t }) (sym (append-nil (drained s .printed)))
 drained-first s (x ∷ xs) = ap (after (drained s .printed)) (sym (ap (then-byte x xs) (drained-none (drained s .state) refl)))
@@ -83,7 +83,7 @@ finish-slot s xs h =
     ∙ ap (after (run-slot s .printed)) (sym (drained-first (run-slot s .state) xs))
 
 -- the second step
-finish-byte : (s : State) (x : ℕ) (xs : List ℕ) → s .slots-left ≡ 0
+pub finish-byte : (s : State) (x : ℕ) (xs : List ℕ) → s .slots-left ≡ 0
     → finish s (x ∷ xs) ≡ after (take-byte s x .printed) (finish (take-byte s x .state) xs)
 unfolding finish
 finish-byte s x xs e = ap (then-byte x xs) (drained-none s e)
@@ -107,7 +107,7 @@ finish-idle s [] = refl
 finish-idle s (x ∷ xs) = finish-idle (take-byte (drained s .state) x .state) xs
 
 -- the parts of a test that holds
-and-parts : (a b : Bool) → (a && b) ≡ true → (a ≡ true) × (b ≡ true)
+pub and-parts : (a b : Bool) → (a && b) ≡ true → (a ≡ true) × (b ≡ true)
 and-parts true b e = (refl, e)
 and-parts false b e = absurd (false≢true e)
 

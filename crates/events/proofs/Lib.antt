@@ -5,3 +5,5 @@ pub mod Writing
 pub mod Decimals
 pub mod Printing
 pub mod Feeding
+pub mod Kept
+pub mod Whole

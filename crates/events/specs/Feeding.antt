@@ -3,7 +3,7 @@
 use mathlib.Core.Path.{_≡_}
 use mathlib.Core.Bool.{Bool, true, false, _&&_, _||_}
 use mathlib.Core.List.{List, [], _∷_, _++_}
-use Prim.Native.Nat.{ℕ, zero, suc, _+_, _-_, _*_, min}
+use Prim.Native.Nat.{ℕ, zero, suc, _+_, _-_, _*_, _≤_, min}
 use lib.Dec.{eqb, leb, ltb}
 use lib.ListN.{length, getD, set, take, drop}
 use Rattle.wsgs.specs.declared.Operation.the-variants.{Start, Pipe, Book, Release, Arrive, Tick}
@@ -13,7 +13,7 @@ use Rattle.wsgs.specs.Basics.{pick, between}
 use Rattle.wsgs.specs.Ledger.{slot-of-tick}
 use Rattle.wsgs.specs.Switch.{Switch, tick, Outcome, apply}
 use Rattle.wsgs.specs.Text.{CR, LF, read-record}
-use Rattle.wsgs.specs.Program.{Machine, Step, refusal-of, match-lines, run-ticks, obey}
+use Rattle.wsgs.specs.Program.{Machine, Step, refusal-of, match-lines, run-ticks, obey, fresh}
 
 -- Of the record so far only the first 65 bytes are kept, in a buffer, and its bytes are counted up to 66: one of more than 64 bytes without
 -- its CR LF is unreadable whatever they are.
@@ -173,6 +173,15 @@ finish s (x ∷ xs) =
 -- where a last record lacks its CR LF, what is fed at the end of the input
 abbrev pub ending : State → List ℕ
 ending s = pick (eqb (s .count) 0) [] (CR ∷ LF ∷ [])
+
+-- the state that the program begins with
+pub record Begins (s : State) : Type 0 where
+  pub machine : s .machine ≡ fresh
+  pub past-heading : s .past-heading ≡ false
+  pub after-CR : s .after-CR ≡ false
+  pub count : s .count ≡ 0
+  pub buffer : 65 ≤ length (s .buffer)
+  pub slots-left : s .slots-left ≡ 0
 
 -- CALLS ONE AFTER THE OTHER: from one state to another an input is read and a text printed. Each call is fed some block that what is
 -- still to be read begins with, whatever the room; what it leaves of the block is still to be read.
