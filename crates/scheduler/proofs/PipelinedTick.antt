@@ -1,0 +1,124 @@
+-- A pipelined tick: its questions, and that its parts together are the definition's. Assumes nothing.
+use mathlib.Core.Path.{_≡_, refl, _∙_, ap}
+use mathlib.Core.Bool.{Bool, true, false}
+use mathlib.Core.List.{List, [], _∷_}
+use Prim.Native.Nat.{ℕ, _+_, _*_, _≤_, _<_}
+use native.Mathlib.Omega.{arith}
+use borrow.Author.Tests.{eq-eqb, ne-eqb, le-leb, lt-leb, lt-ltb, le-ltb}
+use lib.Dec.{leb, leb→le, ltb→lt}
+use lib.ListN.{length, replicate}
+use Rattle.wsgs.specs.declared.Ticked.{Ticked}
+use Rattle.wsgs.specs.Basics.{between}
+use Rattle.wsgs.specs.Words.{copied}
+use Rattle.wsgs.specs.Frames.{first-of-frame}
+use Rattle.wsgs.specs.Questions.{clock-can-advance, Outcome}
+use Rattle.wsgs.specs.Steps.{outputs-of, pass-word-of}
+use Rattle.wsgs.specs.Answers.{clock-of, ticked-of}
+use Rattle.wsgs.specs.Pipelined.{Runs, turning, runs-suffice, questions, tick-refusal, copied-at, turns, handed-out, row-cleared, ticked, tick}
+use Rattle.wsgs.proofs.Laws.Tests.{both, in-range}
+use Rattle.wsgs.proofs.Refusals.{all-yes}
+use Rattle.scheduler.specs.Turnings.{turning-of, Lent, answering}
+use Rattle.scheduler.proofs.Listed.{listed-none}
+use Rattle.scheduler.proofs.Marked.{marked-none}
+
+-- ports in range are few
+pub few : (n : ℕ) (b : Bool) → b ≡ between 1 32 n → b ≡ true → n ≤ 32
+few n b e h = in-range 1 32 n (rw (← e, h) tt) .1
+
+-- THE QUESTIONS of a tick of n ports and frames of f slots after slot k, on the runs w
+module _ (n f k : ℕ) (w : Runs) where
+  abbrev refusal : ℕ
+  refusal = tick-refusal (clock-of n f k) w
+
+  -- the answers
+  module _ (b : Bool) (e : b ≡ between 1 32 n) where
+    pub no-1 : b ≡ false → 1 ≡ refusal
+    unfolding tick-refusal
+    no-1 h = rw (← e, h)
+
+    module _ (yes-1 : b ≡ true) (b₂ : Bool) (e₂ : b₂ ≡ between 1 10000 f) where
+      pub no-2 : b₂ ≡ false → 2 ≡ refusal
+      unfolding tick-refusal
+      no-2 h = rw (← e, yes-1, ← e₂, h)
+
+      module _ (yes-2 : b₂ ≡ true) where
+        pub no-3 : f < n → 3 ≡ refusal
+        unfolding tick-refusal
+        no-3 h = rw (← e, yes-1, ← e₂, yes-2, lt-leb n f h)
+
+        module _ (yes-3 : n ≤ f) (b₄ : Bool) (e₄ : b₄ ≡ runs-suffice n w) where
+          pub no-4 : b₄ ≡ false → 4 ≡ refusal
+          unfolding tick-refusal
+          no-4 h = rw (← e, yes-1, ← e₂, yes-2, le-leb n f yes-3, ← e₄, h)
+
+          module _ (yes-4 : b₄ ≡ true) where
+            pub no-7 : 4000000000 ≤ k → 7 ≡ refusal
+            unfolding tick-refusal
+            no-7 h = rw (← e, yes-1, ← e₂, yes-2, le-leb n f yes-3, ← e₄, yes-4, le-ltb k 4000000000 h)
+
+            pub no-none : k < 4000000000 → 0 ≡ refusal
+            unfolding tick-refusal
+            no-none h = rw (← e, yes-1, ← e₂, yes-2, le-leb n f yes-3, ← e₄, yes-4, lt-ltb k 4000000000 h)
+
+-- THE FRAME COPY at time k
+module _ (n f k : ℕ) (w : Runs) (b : Bool) (e : b ≡ first-of-frame f (k + 2 * n)) where
+  pub copies : (m : List ℕ) → b ≡ true → m ≡ copied (n * n) (w .bookings) (w .copy) → m ≡ copied-at n f k w
+  unfolding copied-at
+  copies m h d = d ∙ rw (← e, h)
+
+  pub stands : b ≡ false → w .copy ≡ copied-at n f k w
+  unfolding copied-at
+  stands h = rw (← e, h)
+
+-- WHAT AN ACCEPTED TICK FOUND
+pub record Accepted (n f k : ℕ) (w : Runs) : Type 0 where
+  pub some-port : 1 ≤ n
+  pub lent : Lent n (w .copy) (w .credits) (w .queues) (w .flight)
+  pub bookings : n * n ≤ length (w .bookings)
+  pub some-slot : 1 ≤ f
+  pub slots-left : k < 4000000000
+
+pub accepted-found : (n f k : ℕ) (w : Runs) → tick-refusal (clock-of n f k) w ≡ 0 → Accepted n f k w
+unfolding tick-refusal
+accepted-found n f k w e =
+    let y = all-yes (questions n f w (clock-can-advance k ∷ [])) (omega arith) e in
+    let p = in-range 1 32 n (y .0) in
+    let a = both (leb (n * n) (length (w .bookings))) _ (y .1 .1 .1 .0) in
+    let c = both (leb (n * n) (length (w .credits))) _ (a .1) in
+    let q = both (leb (n * n) (length (w .queues))) _ (c .1) in
+    let m = both (leb (n * n) (length (w .copy))) _ (q .1) in
+    record {
+      some-port = p .0;
+      lent = record { ports = p .1; copy = leb→le _ _ (m .0); credits = leb→le _ _ (c .0); queues = leb→le _ _ (q .0); flight = leb→le _ _ (m .1) };
+      bookings = leb→le _ _ (a .0);
+      some-slot = in-range 1 10000 f (y .1 .0) .0;
+      slots-left = ltb→lt k 4000000000 (y .1 .1 .1 .1 .0);
+    }
+
+-- WHAT A TICK LEAVES: the answer, and the four runs
+abbrev pub Left : Outcome Runs → Ticked → (credits queues copy flight : List ℕ) → Type 0
+Left o r c q p l = (r ≡ ticked-of o) × ((c ≡ o .runs .credits) × ((q ≡ o .runs .queues) × ((p ≡ o .runs .copy) × (l ≡ o .runs .flight))))
+
+-- an accepted one: the copy, the turns, the pairs and the cleared row
+pub ticked-left : (n f k : ℕ) (w : Runs) (r : Ticked) (c q p l l′ : List ℕ) → p ≡ copied-at n f (k + 1) w
+    → turning-of c q l ≡ turns n f p (k + 1) (turning w) n → r ≡ answering (k + 1) (handed-out n l (k + 1 + 1)) → l′ ≡ row-cleared n l (k + 1 + 1)
+    → Left (ticked (clock-of n f k) w) r c q p l′
+unfolding ticked
+ticked-left n f k w r c q p l l′ ep et er el =
+    let t = et ∙ ap (λ z. turns n f z (k + 1) (turning w) n) ep in
+    let f : l ≡ turns n f (copied-at n f (k + 1) w) (k + 1) (turning w) n .flight = ap (λ z. z .flight) t in (
+      er ∙ ap (λ z. answering (k + 1) (handed-out n z (k + 1 + 1))) f,
+      (ap (λ z. z .credits) t, (ap (λ z. z .queues) t, (ep, el ∙ ap (λ z. row-cleared n z (k + 1 + 1)) f))),
+    )
+
+module _ (n f k : ℕ) (w : Runs) (r : ℕ) (e : r ≡ tick-refusal (clock-of n f k) w) where
+  -- a tick whose refusal is 0
+  pub tick-ran : r ≤ 0 → tick (clock-of n f k) w ≡ ticked (clock-of n f k) w
+  unfolding tick
+  tick-ran h = rw (← e, eq-eqb r 0 (omega arith))
+
+  -- any other
+  pub tick-refused : 1 ≤ r
+      → Left (tick (clock-of n f k) w) (record { refusal = r; slot = k; outputs = replicate 32 0; «first_pass» = 0 }) (w .credits) (w .queues) (w .copy) (w .flight)
+  unfolding tick outputs-of pass-word-of
+  tick-refused h = rw (← e, ne-eqb r 0 (omega arith), listed-none 32, marked-none 32) (refl, (refl, (refl, (refl, refl))))

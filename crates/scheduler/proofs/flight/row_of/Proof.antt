@@ -1,0 +1,22 @@
+-- `flight::row_of` meets its contract: the row lies within the 2n rows, which are few words. Assumes nothing.
+use mathlib.Core.Path.{refl}
+use borrow.Author.Needs.{needs}
+use native.Mathlib.Omega.{arith}
+use Rattle.scheduler.proofs.FlightLaws.{rows-few, row-within}
+use Rattle.scheduler.proofs.flight.row_of.Statement.{statement}
+use Rattle.scheduler.proofs.flight.row_of.Tie as tie
+
+mul-result : tie.Need-mul-result
+mul-result c = search needs
+
+rem-result : tie.Need-rem-result
+rem-result c = search needs
+
+mul-result-2 : tie.Need-mul-result-2
+mul-result-2 c = let a = c .args in omega (arith, rows-few (a .ports) (omega arith), row-within (a .ports) (a .slot) (omega arith))
+
+returns : tie.Need-returns
+returns c = (refl, row-within (c .args .ports) (c .args .slot) (omega arith))
+
+pub row-of-spec : {M : Type 1} → statement M
+row-of-spec = tie.close (tie.spec mul-result rem-result mul-result-2 returns)

@@ -1,0 +1,74 @@
+-- `pipeline_turns::reload_row` meets its contract: the row is the front of the part that is copied over. Assumes nothing.
+use native.Mathlib.Omega.{arith}
+use borrow.Author.Needs.{needs}
+use Rattle.scheduler.proofs.PipelinedRows.{row-loaded}
+use Rattle.scheduler.proofs.PipelinedTurns.{reloads, keeps}
+use Rattle.scheduler.proofs.pipeline_turns.reload_row.Statement.{statement}
+use Rattle.scheduler.proofs.pipeline_turns.reload_row.Tie as tie
+
+is-first-of-frame-requires : tie.Need-is-first-of-frame-requires
+is-first-of-frame-requires c κs = search needs
+
+row-of-input-requires : tie.Need-row-of-input-requires
+row-of-input-requires c κs = search needs
+
+mul-copy-words : tie.Need-mul-copy-words
+mul-copy-words c = search needs
+
+sub-copy-words : tie.Need-sub-copy-words
+sub-copy-words c = search needs
+
+part-copy-words-start : tie.Need-part-copy-words-start
+part-copy-words-start c = search needs
+
+part-copy-words-end : tie.Need-part-copy-words-end
+part-copy-words-end c = search needs
+
+mul-copy-words-2 : tie.Need-mul-copy-words-2
+mul-copy-words-2 c = search needs
+
+sub-copy-words-2 : tie.Need-sub-copy-words-2
+sub-copy-words-2 c = search needs
+
+part-copy-words-start-2 : tie.Need-part-copy-words-start-2
+part-copy-words-start-2 c = search needs
+
+part-copy-words-end-2 : tie.Need-part-copy-words-end-2
+part-copy-words-end-2 c = search needs
+
+copy-words-requires : tie.Need-copy-words-requires
+copy-words-requires c κs = search needs
+
+same-length : tie.Need-same-length
+same-length c = search needs
+
+returns : tie.Need-returns
+returns c = λ q f.
+    let w = c .before .before in
+    let r = w .before .before .before in
+    let t = r .before in
+    let s = t .before .before .before .before in
+    reloads _ _ _ _ q f _ _ _ _ (t .before .is-first-of-frame .ensures) (t .if1 .taken)
+    (row-loaded _ _ _ _ (omega arith) _ (s .args .copy .now) (r .row-of-input .ensures .0) (omega arith) (w .copy-words .ensures))
+
+returns-2 : tie.Need-returns-2
+returns-2 c = λ q f. keeps _ _ _ _ q f _ _ _ (c .before .is-first-of-frame .ensures) (c .if1 .left)
+
+pub reload-row-spec : {M : Type 1} → statement M
+reload-row-spec =
+    tie.close
+    (tie.spec
+    is-first-of-frame-requires
+    row-of-input-requires
+    mul-copy-words
+    sub-copy-words
+    part-copy-words-start
+    part-copy-words-end
+    mul-copy-words-2
+    sub-copy-words-2
+    part-copy-words-start-2
+    part-copy-words-end-2
+    copy-words-requires
+    same-length
+    returns
+    returns-2)

@@ -1,0 +1,164 @@
+// The pipelined form: a tick works on slots ahead and hands out the pairs of the slot after its own.
+ghost use mathlib.Core.Path.{_≡_};
+ghost use mathlib.Core.List.{List};
+ghost use Prim.Native.Nat.{ℕ, _+_, _*_, _≤_, _<_};
+ghost use lib.ListN.{length};
+ghost use Rattle.wsgs.specs.Basics.{between};
+ghost use Rattle.wsgs.specs.Answers.{clock-of, pipelined-runs-of, ticked-of};
+ghost use Rattle.wsgs.specs.Pipelined;
+ghost use Rattle.scheduler.specs.Turnings.{Lent};
+use super::flight::clear_row;
+use super::flight::hand_out;
+use super::pipeline_turns::all_turns;
+use super::pipeline_turns::is_first_of_frame;
+use words::copy_words;
+use wsgs::Ticked;
+
+// Whether a number is one of low to high.
+fn is_between(low: u32, high: u32, number: u32) -> bool
+    ensures { λ r. ⌜ r ≡ between low high number ⌝ }
+{
+    low <= number && number <= high
+}
+
+// Whether the lent runs are long enough.
+fn runs_suffice(
+    ports: usize,
+    bookings: &[u32],
+    credits: &[u32],
+    queues: &[u32],
+    copy: &[u32],
+    flight: &[u32],
+) -> bool
+    requires { ⌜ ports ≤ 32 ⌝ }
+    ensures { λ r. ⌜ r ≡ Pipelined.runs-suffice ports (pipelined-runs-of (now (bookings .entry)) (now (credits .entry)) (now (queues .entry)) (now (copy .entry)) (now (flight .entry))) ⌝ }
+{
+    let pairs = ports * ports;
+    if bookings.len() < pairs {
+        return false;
+    }
+    if credits.len() < pairs {
+        return false;
+    }
+    if queues.len() < pairs {
+        return false;
+    }
+    if copy.len() < pairs {
+        return false;
+    }
+    2 * ports * ports <= flight.len()
+}
+
+// The number of the first question of a tick that is answered no, or 0.
+fn tick_refusal(
+    ports: u32,
+    frame: u32,
+    slot: u32,
+    bookings: &[u32],
+    credits: &[u32],
+    queues: &[u32],
+    copy: &[u32],
+    flight: &[u32],
+) -> u32
+    ensures { λ r. ⌜ r ≡ Pipelined.tick-refusal (clock-of ports frame slot) (pipelined-runs-of (now (bookings .entry)) (now (credits .entry)) (now (queues .entry)) (now (copy .entry)) (now (flight .entry))) ⌝ }
+{
+    if !is_between(1, 32, ports) {
+        return 1;
+    }
+    if !is_between(1, 10000, frame) {
+        return 2;
+    }
+    if frame < ports {
+        return 3;
+    }
+    if !runs_suffice(ports as usize, bookings, credits, queues, copy, flight) {
+        return 4;
+    }
+    if slot >= 4000000000 {
+        return 7;
+    }
+    0
+}
+
+// Where the slot 2N after a time is the first of a frame, the frame copy becomes the bookings.
+fn copy_bookings(ports: usize, frame: u64, time: u64, bookings: &[u32], copy: &mut [u32])
+    requires { ⌜ 1 ≤ ports ⌝ }
+    requires { ⌜ ports ≤ 32 ⌝ }
+    requires { ⌜ 1 ≤ frame ⌝ }
+    requires { ⌜ time ≤ 4000000000 ⌝ }
+    requires { ⌜ ports * ports ≤ length (now bookings) ⌝ }
+    requires { ⌜ ports * ports ≤ length (now copy) ⌝ }
+    ensures { λ _. ⌜ ((c q f : List ℕ) → now (copy .exit) ≡ Pipelined.copied-at ports frame time (pipelined-runs-of (now (bookings .entry)) c q (now (copy .entry)) f)) ⌝ }
+{
+    if is_first_of_frame(frame, time + 2 * ports as u64) {
+        copy_words(bookings, copy, ports * ports);
+    }
+}
+
+// An accepted tick: the copy, the turns of all inputs, then the pairs of the next slot, whose row is set to 0.
+fn run_tick(
+    ports: usize,
+    frame: u64,
+    slot: u32,
+    bookings: &[u32],
+    credits: &mut [u32],
+    queues: &mut [u32],
+    copy: &mut [u32],
+    flight: &mut [u32],
+) -> Ticked
+    requires { ⌜ 1 ≤ ports ⌝ }
+    requires { ⌜ Lent ports (now copy) (now credits) (now queues) (now flight) ⌝ }
+    requires { ⌜ ports * ports ≤ length (now bookings) ⌝ }
+    requires { ⌜ 1 ≤ frame ⌝ }
+    requires { ⌜ slot < 4000000000 ⌝ }
+    ensures answer { λ r. ⌜ r ≡ ticked-of (Pipelined.ticked (clock-of ports frame slot) (pipelined-runs-of (now (bookings .entry)) (now (credits .entry)) (now (queues .entry)) (now (copy .entry)) (now (flight .entry)))) ⌝ }
+    ensures credits_exit { λ _. ⌜ now (credits .exit) ≡ Pipelined.ticked (clock-of ports frame slot) (pipelined-runs-of (now (bookings .entry)) (now (credits .entry)) (now (queues .entry)) (now (copy .entry)) (now (flight .entry))) .runs .credits ⌝ }
+    ensures queues_exit { λ _. ⌜ now (queues .exit) ≡ Pipelined.ticked (clock-of ports frame slot) (pipelined-runs-of (now (bookings .entry)) (now (credits .entry)) (now (queues .entry)) (now (copy .entry)) (now (flight .entry))) .runs .queues ⌝ }
+    ensures copy_exit { λ _. ⌜ now (copy .exit) ≡ Pipelined.ticked (clock-of ports frame slot) (pipelined-runs-of (now (bookings .entry)) (now (credits .entry)) (now (queues .entry)) (now (copy .entry)) (now (flight .entry))) .runs .copy ⌝ }
+    ensures flight_exit { λ _. ⌜ now (flight .exit) ≡ Pipelined.ticked (clock-of ports frame slot) (pipelined-runs-of (now (bookings .entry)) (now (credits .entry)) (now (queues .entry)) (now (copy .entry)) (now (flight .entry))) .runs .flight ⌝ }
+{
+    let time = slot + 1;
+    copy_bookings(ports, frame, time as u64, bookings, copy);
+    all_turns(ports, frame, time as u64, copy, credits, queues, flight);
+    let answer = hand_out(ports, time, flight);
+    clear_row(ports, time as u64 + 1, flight);
+    answer
+}
+
+// A tick: the questions, then the work. The clock goes in and out as its three numbers.
+pub fn tick(
+    ports: u32,
+    frame: u32,
+    slot: u32,
+    bookings: &[u32],
+    credits: &mut [u32],
+    queues: &mut [u32],
+    copy: &mut [u32],
+    flight: &mut [u32],
+) -> Ticked
+    ensures answer { λ r. ⌜ r ≡ ticked-of (Pipelined.tick (clock-of ports frame slot) (pipelined-runs-of (now (bookings .entry)) (now (credits .entry)) (now (queues .entry)) (now (copy .entry)) (now (flight .entry)))) ⌝ }
+    ensures credits_exit { λ _. ⌜ now (credits .exit) ≡ Pipelined.tick (clock-of ports frame slot) (pipelined-runs-of (now (bookings .entry)) (now (credits .entry)) (now (queues .entry)) (now (copy .entry)) (now (flight .entry))) .runs .credits ⌝ }
+    ensures queues_exit { λ _. ⌜ now (queues .exit) ≡ Pipelined.tick (clock-of ports frame slot) (pipelined-runs-of (now (bookings .entry)) (now (credits .entry)) (now (queues .entry)) (now (copy .entry)) (now (flight .entry))) .runs .queues ⌝ }
+    ensures copy_exit { λ _. ⌜ now (copy .exit) ≡ Pipelined.tick (clock-of ports frame slot) (pipelined-runs-of (now (bookings .entry)) (now (credits .entry)) (now (queues .entry)) (now (copy .entry)) (now (flight .entry))) .runs .copy ⌝ }
+    ensures flight_exit { λ _. ⌜ now (flight .exit) ≡ Pipelined.tick (clock-of ports frame slot) (pipelined-runs-of (now (bookings .entry)) (now (credits .entry)) (now (queues .entry)) (now (copy .entry)) (now (flight .entry))) .runs .flight ⌝ }
+{
+    let refusal = tick_refusal(ports, frame, slot, bookings, credits, queues, copy, flight);
+    if refusal > 0 {
+        return Ticked {
+            refusal,
+            slot,
+            outputs: [0; 32],
+            first_pass: 0,
+        };
+    }
+    run_tick(
+        ports as usize,
+        frame as u64,
+        slot,
+        bookings,
+        credits,
+        queues,
+        copy,
+        flight,
+    )
+}
