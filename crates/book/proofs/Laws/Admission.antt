@@ -1,0 +1,79 @@
+-- Laws of amounts: which of questions 8 to 11 refuses one that is in range, and that the slots of a rate are few. Assumes nothing.
+use mathlib.Core.Path.{_≡_}
+use mathlib.Core.Bool.{true}
+use mathlib.Core.List.{List}
+use Prim.Native.Nat.{ℕ, suc, _+_, _-_, _*_, _/_, _≤_, _<_}
+use native.Mathlib.Nat.{mul-le-mul-left, mul-le-mul-right, mul-comm, suc-mul, div-lt-iff-lt-mul}
+use native.Mathlib.Omega.{arith}
+use borrow.Author.Tests.{le-leb, lt-leb}
+use Rattle.wsgs.specs.declared.Clock.{Clock}
+use Rattle.wsgs.specs.Words.{word, row-sum, column-sum}
+use Rattle.wsgs.specs.Basics.{between}
+use Rattle.wsgs.specs.Questions.{rate-in-range}
+use Rattle.wsgs.specs.Book.{rate-slots}
+use Rattle.wsgs.proofs.Laws.Tests.{both, in-range}
+use Rattle.book.specs.Asked.{sums-refusal, held-refusal, queue-refusal, Rated}
+
+module _ (c : Clock) (a : List ℕ) (i j d : ℕ) where
+  -- a row that is full
+  pub row-full : c .frame + 1 < 2 * (row-sum (c .ports) a i + d) → 8 ≡ sums-refusal c a i j d
+  unfolding sums-refusal
+  row-full h = rw (lt-leb _ _ h)
+
+  module _ (row : 2 * (row-sum (c .ports) a i + d) ≤ c .frame + 1) where
+    -- a column that is full
+    pub column-full : c .frame + 1 < 2 * (column-sum (c .ports) a j + d) → 9 ≡ sums-refusal c a i j d
+    unfolding sums-refusal
+    column-full h = rw (le-leb _ _ row, lt-leb _ _ h)
+
+    -- neither
+    pub both-admit : 2 * (column-sum (c .ports) a j + d) ≤ c .frame + 1 → 0 ≡ sums-refusal c a i j d
+    unfolding sums-refusal
+    both-admit h = rw (le-leb _ _ row, le-leb _ _ h)
+
+  -- fewer slots booked than are taken off
+  pub held-short : word (c .ports) a i j < d → 10 ≡ held-refusal c a i j d
+  unfolding held-refusal
+  held-short h = rw (lt-leb _ _ h)
+
+  -- as many
+  pub held-enough : d ≤ word (c .ports) a i j → 0 ≡ held-refusal c a i j d
+  unfolding held-refusal
+  held-enough h = rw (le-leb _ _ h)
+
+  -- a queue that is full
+  pub queue-full : 1000000 < word (c .ports) a i j + d → 11 ≡ queue-refusal c a i j d
+  unfolding queue-refusal
+  queue-full h = rw (lt-leb _ _ h)
+
+  -- one that is not
+  pub queue-takes : word (c .ports) a i j + d ≤ 1000000 → 0 ≡ queue-refusal c a i j d
+  unfolding queue-refusal
+  queue-takes h = rw (le-leb _ _ h)
+
+-- an amount in range
+pub amount-few : (high d : ℕ) → between 1 high d ≡ true → d ≤ high
+amount-few high d e = in-range 1 high d (rw e tt) .1
+
+-- a rate in range
+pub rated : (f line rate : ℕ) → f ≤ 10000 → rate-in-range line rate .yes ≡ true → Rated f line rate
+rated f line rate h e =
+    let p = both (between 1 100000000 line) (between 1 line rate) (rw e tt) in
+    let l = in-range 1 100000000 line (p .0) in
+    record { frame = h; some = l .0; fast = l .1; part = in-range 1 line rate (p .1) .1 }
+
+module _ (f line rate : ℕ) (r : Rated f line rate) where
+  -- what a rate asks for is at most what its line has
+  pub rate-bound : rate * f ≤ line * f
+  rate-bound = mul-le-mul-right f (r .part)
+
+  -- and that is a small number
+  pub line-bound : line * f ≤ 1000000000000
+  line-bound = omega (arith, mul-le-mul-left line (r .frame))
+
+  -- so its slots are at most a frame
+  pub rate-few : rate-slots f line rate ≤ f
+  unfolding rate-slots
+  rate-few =
+      let h : rate * f + (line - 1) < suc f * line = omega (arith, rate-bound, suc-mul f line, mul-comm f line) in
+      omega (arith, div-lt-iff-lt-mul {k = line} {x = rate * f + (line - 1)} {y = suc f} (r .some) .1 h)

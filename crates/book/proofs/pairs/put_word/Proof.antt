@@ -1,0 +1,28 @@
+-- `book::pairs::put_word` meets its contract: the place lies inside the run. Assumes nothing.
+use mathlib.Core.Path.{ap}
+use native.Mathlib.Omega.{arith}
+use borrow.Author.Needs.{needs}
+use lib.ListN.{set}
+use Rattle.wsgs.specs.Words.{put}
+use Rattle.book.proofs.Laws.Places.{place-inside, square-small}
+use Rattle.book.proofs.pairs.put_word.Statement.{statement}
+use Rattle.book.proofs.pairs.put_word.Tie as tie
+
+place-of-requires : tie.Need-place-of-requires
+place-of-requires c κs = search needs
+
+mul-run : tie.Need-mul-run
+mul-run c = let s = c .before .before in omega (arith, place-inside _ _ _ (s .pre .1 .0) (s .pre .1 .1), square-small _ (s .pre .0 .few))
+
+slice-write-run : tie.Need-slice-write-run
+slice-write-run c = let s = c .before .before in omega (arith, place-inside _ _ _ (s .pre .1 .0) (s .pre .1 .1))
+
+same-length : tie.Need-same-length
+same-length c = search needs
+
+returns : tie.Need-returns
+unfolding put
+returns c = let s = c .before .before .args in ap (λ k. set (s .run .now) k (s .new)) (c .place-of .ensures)
+
+pub put-word-spec : {M : Type 1} → statement M
+put-word-spec = tie.close (tie.spec place-of-requires mul-run slice-write-run same-length returns)

@@ -1,0 +1,25 @@
+-- `book::pairs::word_of` meets its contract: the place lies inside the run. Assumes nothing.
+use mathlib.Core.Path.{ap}
+use native.Mathlib.Omega.{arith}
+use borrow.Author.Needs.{needs}
+use lib.ListN.{getD}
+use Rattle.wsgs.specs.Words.{word}
+use Rattle.book.proofs.Laws.Places.{place-inside, square-small}
+use Rattle.book.proofs.pairs.word_of.Statement.{statement}
+use Rattle.book.proofs.pairs.word_of.Tie as tie
+
+place-of-requires : tie.Need-place-of-requires
+place-of-requires c κs = search needs
+
+mul-result : tie.Need-mul-result
+mul-result c = let s = c .before .before in omega (arith, place-inside _ _ _ (s .pre .1 .0) (s .pre .1 .1), square-small _ (s .pre .0 .few))
+
+shared-slice-read-result : tie.Need-shared-slice-read-result
+shared-slice-read-result c = let s = c .before .before .before in omega (arith, place-inside _ _ _ (s .pre .1 .0) (s .pre .1 .1))
+
+returns : tie.Need-returns
+unfolding word
+returns c = ap (λ k. getD (c .before .before .before .args .run .now) k 0) (c .before .place-of .ensures)
+
+pub word-of-spec : {M : Type 1} → statement M
+word-of-spec = tie.close (tie.spec place-of-requires mul-result shared-slice-read-result returns)
