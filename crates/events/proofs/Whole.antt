@@ -14,7 +14,7 @@ use Rattle.wsgs.specs.declared.Reading.the-variants.{Asks, Unreadable}
 use Rattle.wsgs.specs.Basics.{pick, between}
 use Rattle.wsgs.specs.Text.{CR, LF, reversed, records-from, records, read-record, heading}
 use Rattle.wsgs.specs.Program.{Machine, Step, run-ticks, obey, obey-all, program, fresh}
-use Rattle.events.specs.Feeding.{State, Out, after, with-machine, ended, appended, slots-of, obeyed, kept-record, take-byte, drained, finish, ending, Calls, Begins}
+use Rattle.events.specs.Feeding.{State, Out, after, with-machine, ended, appended, slots-of, begun, obeyed, kept-record, take-byte, drained, finish, ending, Calls, Begins}
 use Rattle.events.proofs.Feeding.{after-after, drained-first, drained-none, finish-byte, finish-none, calls-print, and-parts}
 use Rattle.events.proofs.Kept.{without-last, Holds, holds-none, holds-more, reads-same}
 
@@ -40,27 +40,42 @@ runs-slots m (Asks Tick x y z) h = by-tests (m .running) (between 1 10000 z) ref
     by-tests false c p q l = absurd (omega arith)
 
 -- a record that has ended, with the slots that it leaves, is obeyed
+module _ (m : Machine) (r : Reading) where
+  begun-slots : 0 < slots-of m r → begun m r ≡ record { machine = m; printed = [] }
+  unfolding begun
+  begun-slots h = rw (lt-ltb 0 (slots-of m r) h, begun)
+
+  begun-once : slots-of m r ≡ 0 → begun m r ≡ obey m r
+  unfolding begun
+  begun-once e = rw (le-ltb 0 (slots-of m r) (omega arith), begun)
+
 module _ (s : State) (r : Reading) where
+  abbrev m : Machine
+  m = s .machine
+
   abbrev done : Step → Out
   done o = record { state = ended s (o .machine) 0; printed = o .printed }
 
-  obeyed-slots : 0 < slots-of (s .machine) r → obeyed s r ≡ record { state = ended s (s .machine) (slots-of (s .machine) r); printed = [] }
-  unfolding obeyed
-  obeyed-slots h = rw (lt-ltb 0 (slots-of (s .machine) r) h, obeyed)
+  -- a step with slots still to run
+  abbrev left : Step → ℕ → Out
+  left o n = record { state = ended s (o .machine) n; printed = o .printed }
 
-  obeyed-once : slots-of (s .machine) r ≤ 0 → obeyed s r ≡ done (obey (s .machine) r)
-  unfolding obeyed
-  obeyed-once h = rw (le-ltb 0 (slots-of (s .machine) r) h, obeyed)
+  idle : (o : Step) → after (o .printed) (drained (ended s (o .machine) 0)) ≡ done o
+  idle o =
+      ap (after (o .printed)) (drained-none (ended s (o .machine) 0) refl)
+      ∙ ap (λ t. record { state = ended s (o .machine) 0; printed = t }) (append-nil (o .printed))
 
-  obeyed-whole : after (obeyed s r .printed) (drained (obeyed s r .state)) ≡ done (obey (s .machine) r)
-  obeyed-whole = go (decLt 0 (slots-of (s .machine) r))
+  obeyed-whole : after (obeyed s r .printed) (drained (obeyed s r .state)) ≡ done (obey m r)
+  obeyed-whole = go (decLt 0 (slots-of m r))
     where
-      go : Dec (0 < slots-of (s .machine) r) → after (obeyed s r .printed) (drained (obeyed s r .state)) ≡ done (obey (s .machine) r)
-      go (yes h) = rw (obeyed-slots h) (ap done (runs-slots (s .machine) r h))
+      go : Dec (0 < slots-of m r) → after (obeyed s r .printed) (drained (obeyed s r .state)) ≡ done (obey m r)
+      go (yes h) =
+          ap (λ (o : Step). after (o .printed) (drained (left o (slots-of m r) .state))) (begun-slots m r h) ∙ ap done (runs-slots m r h)
       go (no h) =
-          let o : Step = obey (s .machine) r in
-          rw (obeyed-once (omega arith))
-          (ap (after (o .printed)) (drained-none (done o .state) refl) ∙ ap (λ t. record { state = done o .state; printed = t }) (append-nil (o .printed)))
+          let e : slots-of m r ≡ 0 = omega arith in
+          ap (λ (o : Step). after (o .printed) (drained (left o (slots-of m r) .state))) (begun-once m r e)
+          ∙ ap (λ n. after (obey m r .printed) (drained (left (obey m r) n .state))) e
+          ∙ idle (obey m r)
 
   -- so the input goes on after it
   obeyed-then : (xs : List ℕ)

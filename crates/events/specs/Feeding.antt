@@ -89,14 +89,15 @@ slots-of m (Asks Release x y z) = 0
 slots-of m (Asks Arrive x y z) = 0
 slots-of m (Asks Tick x y z) = pick (m .running && between 1 10000 z) z 0
 
--- a record that has ended: its slots are left to run, and any other is obeyed at once
-unfoldable pub obeyed : State → Reading → Out
+-- what a record does at once: one that asks for slots leaves them to be run, and any other is obeyed
+unfoldable pub begun : Machine → Reading → Step
 unfolding obey
+begun m r = elim (ltb 0 (slots-of m r)) [ true ↦ record { machine = m; printed = [] } | false ↦ obey m r ]
+
+-- a record that has ended
+abbrev pub obeyed : State → Reading → Out
 obeyed s r =
-    elim (ltb 0 (slots-of (s .machine) r)) [
-      | true ↦ record { state = ended s (s .machine) (slots-of (s .machine) r); printed = [] }
-      | false ↦ let o : Step = obey (s .machine) r in record { state = ended s (o .machine) 0; printed = o .printed }
-    ]
+    let b : Step = begun (s .machine) r in record { state = ended s (b .machine) (slots-of (s .machine) r); printed = b .printed }
 
 -- the record so far without its last byte, which is a CR
 abbrev pub kept-record : State → List ℕ
@@ -104,7 +105,7 @@ kept-record s = take (min (s .count - 1) 65) (s .buffer)
 
 -- THE SECOND STEP: a byte. LF after CR ends a record, and the first record is a heading.
 unfoldable pub take-byte : State → ℕ → Out
-unfolding obeyed read-record
+unfolding begun read-record
 take-byte s x =
     elim (s .after-CR && eqb x LF) [
       | true ↦
