@@ -15,7 +15,7 @@ use Rattle.wsgs.specs.Basics.{pick}
 use Rattle.wsgs.specs.Ledger.{slot-of-tick}
 use Rattle.wsgs.specs.Switch.{Switch, Outcome, apply, tick}
 use Rattle.wsgs.specs.Program.{Machine, Step, run-ticks, match-lines, refusal-of}
-use Rattle.events.specs.Feeding.{State, Out, after, with-machine, run-slot, take-byte, drained, finish, Fed, noted, most-printed, goes-on, step, steps, work, fed, Calls, none, call}
+use Rattle.events.specs.Feeding.{State, Out, after, with-machine, slot-run, slots-after, run-slot, take-byte, drained, finish, Fed, noted, most-printed, goes-on, step-out, step, steps, work, fed, Calls, none, call}
 
 -- what is printed before what is printed before
 pub after-after : (t u : List ℕ) (o : Out) → after t (after u o) ≡ after (t ++ u) o
@@ -43,13 +43,13 @@ module _ (s : State) (d : ℕ) (e : s .slots-left ≡ suc d) where
   lines = match-lines (slot-of-tick (m .form) (o .after .clock .slot)) (o .matching) (o .after .clock .ports)
 
   slot-yes : eqb (o .refusal) 0 ≡ true → drained s ≡ after (run-slot s .printed) (drained (run-slot s .state))
-  unfolding run-slot run-ticks
+  unfolding slot-run slots-after run-ticks
   slot-yes h =
       let back : suc d - 1 ≡ d = omega arith in
       rw (e, run-ticks, h, back)
 
   slot-no : eqb (o .refusal) 0 ≡ false → drained s ≡ after (run-slot s .printed) (drained (run-slot s .state))
-  unfolding run-slot run-ticks
+  unfolding slot-run slots-after run-ticks
   slot-no h = rw (e, run-ticks, h, append-nil)
 
   by-answer : (b : Bool) → eqb (o .refusal) 0 ≡ b → drained s ≡ after (run-slot s .printed) (drained (run-slot s .state))
@@ -135,12 +135,12 @@ module _ (room : ℕ) (block : List ℕ) where
   -- the step by what is left to run
   module _ (f : Fed) where
     pub step-slot : 0 < f .state .slots-left → step room block f ≡ noted f (run-slot (f .state)) (f .taken)
-    unfolding step
-    step-slot l = rw (lt-ltb 0 (f .state .slots-left) l, step)
+    unfolding step-out
+    step-slot l = rw (lt-ltb 0 (f .state .slots-left) l, step-out)
 
     pub step-byte : f .state .slots-left ≡ 0 → step room block f ≡ noted f (take-byte (f .state) (getD block (f .taken) 0)) (f .taken + 1)
-    unfolding step
-    step-byte e = rw (le-ltb 0 (f .state .slots-left) (omega arith), step)
+    unfolding step-out
+    step-byte e = rw (le-ltb 0 (f .state .slots-left) (omega arith), step-out)
 
   -- what is printed and what is still to be printed for the rest of the block
   abbrev whole : Fed → Out
@@ -157,10 +157,10 @@ module _ (room : ℕ) (block : List ℕ) where
       go : Dec (f .state .slots-left ≡ 0) → whole (step room block f) ≡ whole f
       go (yes e) =
           let x = getD block (f .taken) 0 in
-          rw (step-byte f e)
-          (noted-keeps f (take-byte (f .state) x) (f .taken + 1)
-          (rw (drop-cons block (f .taken) 0 (ready f g .byte e), add-one (f .taken)) (finish-byte (f .state) x (drop (suc (f .taken)) block) e)))
-      go (no d) = rw (step-slot f (omega arith)) (noted-keeps f (run-slot (f .state)) (f .taken) (finish-slot (f .state) _ (omega arith)))
+          ap whole (step-byte f e)
+          ∙ noted-keeps f (take-byte (f .state) x) (f .taken + 1)
+          (rw (drop-cons block (f .taken) 0 (ready f g .byte e), add-one (f .taken)) (finish-byte (f .state) x (drop (suc (f .taken)) block) e))
+      go (no d) = ap whole (step-slot f (omega arith)) ∙ noted-keeps f (run-slot (f .state)) (f .taken) (finish-slot (f .state) _ (omega arith))
 
   -- so do several, and a call
   steps-keep : (n : ℕ) (f : Fed) → whole (steps room block n f) ≡ whole f

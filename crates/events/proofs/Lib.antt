@@ -7,3 +7,4 @@ pub mod Printing
 pub mod Feeding
 pub mod Kept
 pub mod Whole
+pub mod Effects

@@ -41,11 +41,11 @@ runs-slots m (Asks Tick x y z) h = by-tests (m .running) (between 1 10000 z) ref
 
 -- a record that has ended, with the slots that it leaves, is obeyed
 module _ (m : Machine) (r : Reading) where
-  begun-slots : 0 < slots-of m r → begun m r ≡ record { machine = m; printed = [] }
+  pub begun-slots : 0 < slots-of m r → begun m r ≡ record { machine = m; printed = [] }
   unfolding begun
   begun-slots h = rw (lt-ltb 0 (slots-of m r) h, begun)
 
-  begun-once : slots-of m r ≡ 0 → begun m r ≡ obey m r
+  pub begun-once : slots-of m r ≡ 0 → begun m r ≡ obey m r
   unfolding begun
   begun-once e = rw (le-ltb 0 (slots-of m r) (omega arith), begun)
 

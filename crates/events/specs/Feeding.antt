@@ -67,17 +67,29 @@ appended s x =
     }
 
 -- THE FIRST STEP: a slot of a tick record. The first slot that is refused prints its line and ends the record.
-unfoldable pub run-slot : State → Out
+abbrev pub ticked : Machine → Outcome
+ticked m = apply (tick (m .form)) (m .switch)
+
+unfoldable pub slot-run : Machine → Step
 unfolding apply match-lines
-run-slot s =
-    let m : Machine = s .machine in
-    let o : Outcome = apply (tick (m .form)) (m .switch) in
+slot-run m =
+    let o : Outcome = ticked m in
     pick (eqb (o .refusal) 0)
     (record {
-      state = with-machine s (record { running = m .running; form = m .form; switch = o .after }) (s .slots-left - 1);
+      machine = record { running = m .running; form = m .form; switch = o .after };
       printed = match-lines (slot-of-tick (m .form) (o .after .clock .slot)) (o .matching) (o .after .clock .ports);
     })
-    (record { state = with-machine s m 0; printed = refusal-of m 0 0 (o .refusal) })
+    (record { machine = m; printed = refusal-of m 0 0 (o .refusal) })
+
+-- of n slots to run, those that are left after it
+unfoldable pub slots-after : Machine → ℕ → ℕ
+unfolding apply
+slots-after m n = pick (eqb (ticked m .refusal) 0) (n - 1) 0
+
+abbrev pub run-slot : State → Out
+run-slot s =
+    let t : Step = slot-run (s .machine) in
+    record { state = with-machine s (t .machine) (slots-after (s .machine) (s .slots-left)); printed = t .printed }
 
 -- the slots that a record asks a machine to run: those of a tick record that asks for 1 to 10,000
 abbrev pub slots-of : Machine → Reading → ℕ
@@ -116,6 +128,14 @@ take-byte s x =
       | false ↦ record { state = appended s x; printed = [] }
     ]
 
+-- A STEP at place k of a block: a slot where one is to run, else a byte
+unfoldable pub step-out : List ℕ → State → ℕ → Out
+unfolding slot-run slots-after take-byte
+step-out block s k = elim (ltb 0 (s .slots-left)) [ true ↦ run-slot s | false ↦ take-byte s (getD block k 0) ]
+
+abbrev pub step-taken : State → ℕ → ℕ
+step-taken s k = pick (ltb 0 (s .slots-left)) k (k + 1)
+
 -- A CALL OF `feed`: the state, how many bytes of the block are taken, and what is printed so far.
 pub record Fed : Type 0 where
   pub state : State
@@ -136,17 +156,12 @@ module _ (room : ℕ) (block : List ℕ) where
       (ltb 0 (f .state .slots-left) || ltb (f .taken) (length block))
       && (leb 65 (length (f .state .buffer)) && leb (length (f .text) + most-printed) room)
 
-  unfoldable pub step : Fed → Fed
-  unfolding run-slot take-byte
-  step f =
-      elim (ltb 0 (f .state .slots-left)) [
-        | true ↦ noted f (run-slot (f .state)) (f .taken)
-        | false ↦ noted f (take-byte (f .state) (getD block (f .taken) 0)) (f .taken + 1)
-      ]
+  abbrev pub step : Fed → Fed
+  step f = noted f (step-out block (f .state) (f .taken)) (step-taken (f .state) (f .taken))
 
   -- steps as long as it goes on, at most so many
   unfoldable pub steps : ℕ → Fed → Fed
-  unfolding step
+  unfolding step-out
   steps zero f = f
   steps (suc n) f = elim (goes-on f) [ true ↦ steps n (step f) | false ↦ f ]
 

@@ -1,0 +1,65 @@
+-- The declared types beside the lent runs, as the definitions have them. Assumes nothing.
+use mathlib.Core.Path.{_≡_}
+use mathlib.Core.Bool.{Bool, true, false, _&&_}
+use mathlib.Core.List.{List, []}
+use Prim.Native.Nat.{ℕ}
+use lib.Dec.{eqb}
+use Rattle.wsgs.specs.declared.Clock.{Clock}
+use Rattle.wsgs.specs.declared.Reading.{Reading}
+use Rattle.wsgs.specs.declared.Started.{Started}
+use Rattle.wsgs.specs.Basics.{pick, between}
+use Rattle.wsgs.specs.Switch.{Form, direct, pipelined}
+use Rattle.wsgs.specs.Program.{refused-line}
+use Rattle.wsgs.specs.Program
+use Rattle.events.specs.declared.Machine.{Machine}
+use Rattle.events.specs.declared.Progress.{Progress}
+use Rattle.events.specs.declared.Obeyed.{Obeyed}
+use Rattle.events.specs.Lines.{Wrote}
+use Rattle.events.specs.Feeding.{State, slots-of, begun}
+
+abbrev pub form-of : Bool → Form
+form-of true = pipelined
+form-of false = direct
+
+-- a machine with its runs
+abbrev pub machine-of : Machine → (bookings credits queues copy flight : List ℕ) → Program.Machine
+machine-of m a c q p f =
+    record {
+      running = m .running;
+      form = form-of (m .pipelined);
+      switch = record { clock = m .clock; bookings = a; credits = c; queues = q; copy = p; flight = f };
+    }
+
+-- what is kept, with the buffer of the record so far and the runs
+abbrev pub state-of : Progress → (buffer bookings credits queues copy flight : List ℕ) → State
+state-of k b a c q p f =
+    record {
+      machine = machine-of (k .machine) a c q p f;
+      past-heading = k .«past_heading»;
+      after-CR = k .«after_cr»;
+      count = k .count;
+      buffer = b;
+      slots-left = k .«slots_left»;
+    }
+
+-- the line of a refusal: its middle fields are 0 where no start or pipe has been accepted; and of a call, which prints nothing where it
+-- is accepted
+abbrev pub refusal-text : Machine → ℕ → ℕ → ℕ → List ℕ
+refusal-text m x y number = pick (m .running) (refused-line (m .clock .slot) x y number) (refused-line 0 0 0 number)
+
+abbrev pub call-text : Machine → ℕ → ℕ → ℕ → List ℕ
+call-text m x y number = pick (eqb number 0) [] (refusal-text m x y number)
+
+-- the machine after a start or pipe
+abbrev pub started-machine : Machine → Bool → Started → Machine
+started-machine m form s = pick (eqb (s .refusal) 0) (record { running = true; pipelined = form; clock = s .clock }) m
+
+-- the slots that a tick record asks for
+abbrev pub slots-asked : Bool → ℕ → ℕ
+slots-asked running z = pick (running && between 1 10000 z) z 0
+
+-- a record has done at once what it does: to the machine, the slots left to run, and the text written
+pub record Obeys (m : Program.Machine) (reading : Reading) (r : Obeyed) (m′ : Program.Machine) (out : List ℕ) (at : ℕ) (out′ : List ℕ) : Type 0 where
+  pub machine : m′ ≡ begun m reading .machine
+  pub slots : r .slots ≡ slots-of m reading
+  pub wrote : Wrote out at (begun m reading .printed) (r .next) out′
