@@ -8,3 +8,4 @@ pub mod Feeding
 pub mod Kept
 pub mod Whole
 pub mod Effects
+pub mod Ticks

@@ -70,7 +70,7 @@ module _ (slot i output : ℕ) (first : Bool) where
       go (no d) = rw (← the-line d) (omega (arith, line-short (bytes "match") slot i output (pick first 1 2)))
 
 -- the lines of a slot, one input more
-matches-suc : (slot : ℕ) (a : Matching) (x : ℕ)
+pub matches-suc : (slot : ℕ) (a : Matching) (x : ℕ)
     → match-lines slot a (suc x) ≡ match-lines slot a x ++ match-line slot (suc x) (a .output (suc x)) (a .first (suc x))
 unfolding match-lines match-line
 matches-suc slot a x = refl

@@ -2,20 +2,22 @@
 use mathlib.Core.Path.{_≡_}
 use mathlib.Core.Bool.{Bool, true, false, _&&_}
 use mathlib.Core.List.{List, []}
-use Prim.Native.Nat.{ℕ}
+use Prim.Native.Nat.{ℕ, _-_}
 use lib.Dec.{eqb}
 use Rattle.wsgs.specs.declared.Clock.{Clock}
 use Rattle.wsgs.specs.declared.Reading.{Reading}
 use Rattle.wsgs.specs.declared.Started.{Started}
+use Rattle.wsgs.specs.declared.Ticked.{Ticked}
 use Rattle.wsgs.specs.Basics.{pick, between}
+use Rattle.wsgs.specs.Ledger.{slot-of-tick}
 use Rattle.wsgs.specs.Switch.{Form, direct, pipelined}
-use Rattle.wsgs.specs.Program.{refused-line}
+use Rattle.wsgs.specs.Program.{refused-line, match-lines}
 use Rattle.wsgs.specs.Program
 use Rattle.events.specs.declared.Machine.{Machine}
 use Rattle.events.specs.declared.Progress.{Progress}
 use Rattle.events.specs.declared.Obeyed.{Obeyed}
-use Rattle.events.specs.Lines.{Wrote}
-use Rattle.events.specs.Feeding.{State, slots-of, begun}
+use Rattle.events.specs.Lines.{Wrote, matching-of}
+use Rattle.events.specs.Feeding.{State, slots-of, begun, slot-run, slots-after}
 
 abbrev pub form-of : Bool → Form
 form-of true = pipelined
@@ -63,3 +65,26 @@ pub record Obeys (m : Program.Machine) (reading : Reading) (r : Obeyed) (m′ : 
   pub machine : m′ ≡ begun m reading .machine
   pub slots : r .slots ≡ slots-of m reading
   pub wrote : Wrote out at (begun m reading .printed) (r .next) out′
+
+-- the machine at another slot
+abbrev pub advanced : Machine → ℕ → Machine
+advanced m slot = record { running = m .running; pipelined = m .pipelined; clock = record { ports = m .clock .ports; frame = m .clock .frame; slot = slot } }
+
+-- what a tick's answer prints
+abbrev pub answer-text : Machine → Ticked → List ℕ
+answer-text m t =
+    pick (eqb (t .refusal) 0)
+    (match-lines (slot-of-tick (form-of (m .pipelined)) (t .slot)) (matching-of (t .outputs) (t .«first_pass»)) (m .clock .ports))
+    (refusal-text m 0 0 (t .refusal))
+
+-- what it leaves of the machine and of n slots to run
+pub record Answers (m : Machine) (n : ℕ) (t : Ticked) (r : Obeyed) (out : List ℕ) (at : ℕ) (out′ : List ℕ) : Type 0 where
+  pub machine : r .machine ≡ pick (eqb (t .refusal) 0) (advanced m (t .slot)) m
+  pub slots : r .slots ≡ pick (eqb (t .refusal) 0) (n - 1) 0
+  pub wrote : Wrote out at (answer-text m t) (r .next) out′
+
+-- a slot has been run
+pub record Ran (m : Program.Machine) (n : ℕ) (r : Obeyed) (m′ : Program.Machine) (out : List ℕ) (at : ℕ) (out′ : List ℕ) : Type 0 where
+  pub machine : m′ ≡ slot-run m .machine
+  pub slots : r .slots ≡ slots-after m n
+  pub wrote : Wrote out at (slot-run m .printed) (r .next) out′

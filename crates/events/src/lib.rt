@@ -3,6 +3,7 @@ mod calls;
 pub mod lines;
 mod printer;
 pub mod reader;
+mod slots;
 
 use wsgs::Clock;
 
