@@ -224,7 +224,6 @@ module _ (m : Machine) (a c q p f : List ℕ) where
       Obeys (machine-of m a c q p f) reading (record { machine = m′; slots = 0; next = next }) (machine-of m′ a′ c′ q′ p′ f′) out at out′
 
 module _ (m : Machine) (a c q p f : List ℕ) {out out′ : List ℕ} {at next : ℕ} (x y z : ℕ) where
-
   module _ (started : Started) (m′ : Machine) (w : Wrote out at (call-text m x y (started .refusal)) next out′) where
     pub start-obeys : (a′ c′ q′ : List ℕ) → let d = Direct.start x y (m .clock) (direct-runs-of a c q) in
         started ≡ started-of d → a′ ≡ d .runs .bookings → c′ ≡ d .runs .credits → q′ ≡ d .runs .queues → m′ ≡ started-machine m false started

@@ -14,7 +14,7 @@ use Rattle.wsgs.specs.declared.Reading.the-variants.{Asks, Unreadable}
 use Rattle.wsgs.specs.Basics.{pick, between}
 use Rattle.wsgs.specs.Text.{CR, LF, reversed, records-from, records, read-record, heading}
 use Rattle.wsgs.specs.Program.{Machine, Step, run-ticks, obey, obey-all, program, fresh}
-use Rattle.events.specs.Feeding.{State, Out, after, with-machine, ended, appended, slots-of, begun, obeyed, kept-record, take-byte, drained, finish, ending, Calls, Begins}
+use Rattle.events.specs.Feeding.{State, Out, after, with-machine, ended, appended, slots-of, begun, obeyed, kept-record, record-end, take-byte, drained, finish, ending, Calls, Begins}
 use Rattle.events.proofs.Feeding.{after-after, drained-first, drained-none, finish-byte, finish-none, calls-print, and-parts}
 use Rattle.events.proofs.Kept.{without-last, Holds, holds-none, holds-more, reads-same}
 
@@ -87,18 +87,22 @@ module _ (s : State) (r : Reading) where
       ∙ ap (λ (o : Out). after (o .printed) (finish (o .state) xs)) obeyed-whole
 
 -- the step of a byte
-module _ (s : State) (x : ℕ) where
-  byte-ends : (s .after-CR && eqb x LF) ≡ true → s .past-heading ≡ true → take-byte s x ≡ obeyed s (read-record (kept-record s))
-  unfolding take-byte
-  byte-ends e h = rw (e, h, take-byte)
+module _ (s : State) where
+  pub end-read : s .past-heading ≡ true → record-end s ≡ obeyed s (read-record (kept-record s))
+  unfolding record-end
+  end-read h = rw (h, record-end)
 
-  byte-heads : (s .after-CR && eqb x LF) ≡ true → s .past-heading ≡ false → take-byte s x ≡ record { state = ended s (s .machine) 0; printed = [] }
-  unfolding take-byte
-  byte-heads e h = rw (e, h, take-byte)
+  pub end-heading : s .past-heading ≡ false → record-end s ≡ record { state = ended s (s .machine) 0; printed = [] }
+  unfolding record-end
+  end-heading h = rw (h, record-end)
 
-  byte-more : (s .after-CR && eqb x LF) ≡ false → take-byte s x ≡ record { state = appended s x; printed = [] }
+  pub byte-ends : (x : ℕ) → (s .after-CR && eqb x LF) ≡ true → take-byte s x ≡ record-end s
   unfolding take-byte
-  byte-more e = rw (e, take-byte)
+  byte-ends x e = rw (e, take-byte)
+
+  pub byte-more : (x : ℕ) → (s .after-CR && eqb x LF) ≡ false → take-byte s x ≡ record { state = appended s x; printed = [] }
+  unfolding take-byte
+  byte-more x e = rw (e, take-byte)
 
 -- a byte that ends a record, one that ends the heading, and any other
 module _ (s : State) (x : ℕ) (xs : List ℕ) (idle : s .slots-left ≡ 0) where
@@ -108,10 +112,10 @@ module _ (s : State) (x : ℕ) (xs : List ℕ) (idle : s .slots-left ≡ 0) wher
   ends-record e h = finish-byte s x xs idle ∙ ap (λ (o : Out). after (o .printed) (finish (o .state) xs)) is ∙ obeyed-then s (read-record (kept-record s)) xs
     where
       is : take-byte s x ≡ obeyed s (read-record (kept-record s))
-      is = byte-ends s x e h
+      is = byte-ends s x e ∙ end-read s h
 
   ends-heading : (s .after-CR && eqb x LF) ≡ true → s .past-heading ≡ false → finish s (x ∷ xs) ≡ finish (ended s (s .machine) 0) xs
-  ends-heading e h = finish-byte s x xs idle ∙ ap (λ (o : Out). after (o .printed) (finish (o .state) xs)) (byte-heads s x e h)
+  ends-heading e h = finish-byte s x xs idle ∙ ap (λ (o : Out). after (o .printed) (finish (o .state) xs)) (byte-ends s x e ∙ end-heading s h)
 
   goes-on : (s .after-CR && eqb x LF) ≡ false → finish s (x ∷ xs) ≡ finish (appended s x) xs
   goes-on e = finish-byte s x xs idle ∙ ap (λ (o : Out). after (o .printed) (finish (o .state) xs)) (byte-more s x e)

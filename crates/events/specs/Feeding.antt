@@ -116,17 +116,17 @@ abbrev pub kept-record : State → List ℕ
 kept-record s = take (min (s .count - 1) 65) (s .buffer)
 
 -- THE SECOND STEP: a byte. LF after CR ends a record, and the first record is a heading.
-unfoldable pub take-byte : State → ℕ → Out
+unfoldable pub record-end : State → Out
 unfolding begun read-record
-take-byte s x =
-    elim (s .after-CR && eqb x LF) [
-      | true ↦
-          elim (s .past-heading) [
-            | true ↦ obeyed s (read-record (kept-record s))
-            | false ↦ record { state = ended s (s .machine) 0; printed = [] }
-          ]
-      | false ↦ record { state = appended s x; printed = [] }
+record-end s =
+    elim (s .past-heading) [
+      | true ↦ obeyed s (read-record (kept-record s))
+      | false ↦ record { state = ended s (s .machine) 0; printed = [] }
     ]
+
+unfoldable pub take-byte : State → ℕ → Out
+unfolding record-end
+take-byte s x = elim (s .after-CR && eqb x LF) [ true ↦ record-end s | false ↦ record { state = appended s x; printed = [] } ]
 
 -- A STEP at place k of a block: a slot where one is to run, else a byte
 unfoldable pub step-out : List ℕ → State → ℕ → Out

@@ -17,7 +17,7 @@ use Rattle.events.specs.declared.Machine.{Machine}
 use Rattle.events.specs.declared.Progress.{Progress}
 use Rattle.events.specs.declared.Obeyed.{Obeyed}
 use Rattle.events.specs.Lines.{Wrote, matching-of}
-use Rattle.events.specs.Feeding.{State, slots-of, begun, slot-run, slots-after}
+use Rattle.events.specs.Feeding.{State, Out, slots-of, begun, slot-run, slots-after}
 
 abbrev pub form-of : Bool → Form
 form-of true = pipelined
@@ -88,3 +88,27 @@ pub record Ran (m : Program.Machine) (n : ℕ) (r : Obeyed) (m′ : Program.Mach
   pub machine : m′ ≡ slot-run m .machine
   pub slots : r .slots ≡ slots-after m n
   pub wrote : Wrote out at (slot-run m .printed) (r .next) out′
+
+-- what is kept after a record has ended, and with another machine and other slots to run
+abbrev pub ended-progress : Machine → ℕ → Progress
+ended-progress m slots = record { machine = m; «past_heading» = true; «after_cr» = false; count = 0; «slots_left» = slots }
+
+abbrev pub moved-progress : Progress → Machine → ℕ → Progress
+moved-progress k m slots =
+    record { machine = m; «past_heading» = k .«past_heading»; «after_cr» = k .«after_cr»; count = k .count; «slots_left» = slots }
+
+-- what the program keeps at its beginning: a machine that does not run, direct, and a clock of zeros
+abbrev pub first-progress : Progress
+first-progress =
+    record {
+      machine = record { running = false; pipelined = false; clock = record { ports = 0; frame = 0; slot = 0 } };
+      «past_heading» = false;
+      «after_cr» = false;
+      count = 0;
+      «slots_left» = 0;
+    }
+
+-- the state is the one that an outcome leaves, and what it prints is written
+pub record Leaves (o : Out) (s : State) (out : List ℕ) (at next : ℕ) (out′ : List ℕ) : Type 0 where
+  pub state : s ≡ o .state
+  pub wrote : Wrote out at (o .printed) next out′

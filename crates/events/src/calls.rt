@@ -8,7 +8,6 @@ use wsgs::Operation;
 use wsgs::Output;
 use wsgs::Reading;
 use wsgs::Started;
-
 ghost use mathlib.Core.Path.{_≡_};
 ghost use mathlib.Core.List.{List};
 ghost use Prim.Native.Nat.{ℕ, _+_, _≤_};
@@ -130,12 +129,20 @@ fn book_record(
 {
     if !machine.running {
         let next = unread(out, at);
-        return Obeyed { machine, slots: 0, next };
+        return Obeyed {
+            machine,
+            slots: 0,
+            next,
+        };
     }
     let clock = machine.clock;
     let refusal = book::book(clock, bookings, Input(x), Output(y), BookedSlots(z));
     let next = answer(machine, out, at, x, y, refusal);
-    Obeyed { machine, slots: 0, next }
+    Obeyed {
+        machine,
+        slots: 0,
+        next,
+    }
 }
 
 // A record that releases.
@@ -153,12 +160,20 @@ fn release_record(
 {
     if !machine.running {
         let next = unread(out, at);
-        return Obeyed { machine, slots: 0, next };
+        return Obeyed {
+            machine,
+            slots: 0,
+            next,
+        };
     }
     let clock = machine.clock;
     let refusal = book::release(clock, bookings, Input(x), Output(y), BookedSlots(z));
     let next = answer(machine, out, at, x, y, refusal);
-    Obeyed { machine, slots: 0, next }
+    Obeyed {
+        machine,
+        slots: 0,
+        next,
+    }
 }
 
 // A record of packets that arrive.
@@ -176,12 +191,20 @@ fn arrive_record(
 {
     if !machine.running {
         let next = unread(out, at);
-        return Obeyed { machine, slots: 0, next };
+        return Obeyed {
+            machine,
+            slots: 0,
+            next,
+        };
     }
     let clock = machine.clock;
     let refusal = book::arrive(clock, queues, Input(x), Output(y), z);
     let next = answer(machine, out, at, x, y, refusal);
-    Obeyed { machine, slots: 0, next }
+    Obeyed {
+        machine,
+        slots: 0,
+        next,
+    }
 }
 
 // The slots that a tick record asks for, if it asks for 1 to 10,000 of a machine that runs.
@@ -212,10 +235,18 @@ fn tick_record(machine: Machine, x: u64, y: u64, z: u64, out: &mut [u8], at: usi
     }
     if !machine.running {
         let next = unread(out, at);
-        return Obeyed { machine, slots: 0, next };
+        return Obeyed {
+            machine,
+            slots: 0,
+            next,
+        };
     }
     let next = refuse(machine, out, at, x, y, 6);
-    Obeyed { machine, slots: 0, next }
+    Obeyed {
+        machine,
+        slots: 0,
+        next,
+    }
 }
 
 // A record: it is obeyed, or its slots are left to run.
@@ -235,12 +266,25 @@ pub fn obey(
 {
     let Reading::Asks(operation, x, y, z) = reading else {
         let next = unread(out, at);
-        return Obeyed { machine, slots: 0, next };
+        return Obeyed {
+            machine,
+            slots: 0,
+            next,
+        };
     };
     match operation {
         Operation::Start => start_record(machine, x, y, out, at, bookings, credits, queues),
         Operation::Pipe => pipe_record(
-            machine, x, y, out, at, bookings, credits, queues, copy, flight,
+            machine,
+            x,
+            y,
+            out,
+            at,
+            bookings,
+            credits,
+            queues,
+            copy,
+            flight,
         ),
         Operation::Book => book_record(machine, x, y, z, out, at, bookings),
         Operation::Release => release_record(machine, x, y, z, out, at, bookings),

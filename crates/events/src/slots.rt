@@ -4,7 +4,6 @@ use crate::Obeyed;
 use crate::calls::refuse;
 use crate::printer::put_matches;
 use wsgs::Ticked;
-
 ghost use mathlib.Core.Path.{_≡_};
 ghost use mathlib.Core.Bool.{true, false};
 ghost use mathlib.Core.List.{List};
@@ -42,7 +41,11 @@ fn answered(machine: Machine, slots: u64, ticked: Ticked, out: &mut [u8], at: us
 {
     if ticked.refusal != 0 {
         let next = refuse(machine, out, at, 0, 0, ticked.refusal);
-        return Obeyed { machine, slots: 0, next };
+        return Obeyed {
+            machine,
+            slots: 0,
+            next,
+        };
     }
     let clock = machine.clock;
     let outputs = ticked.outputs;
@@ -131,7 +134,15 @@ pub fn run_slot(
 {
     if machine.pipelined {
         return pipelined_slot(
-            machine, slots, out, at, bookings, credits, queues, copy, flight,
+            machine,
+            slots,
+            out,
+            at,
+            bookings,
+            credits,
+            queues,
+            copy,
+            flight,
         );
     }
     direct_slot(machine, slots, out, at, bookings, credits, queues)

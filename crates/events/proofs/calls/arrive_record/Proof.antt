@@ -33,8 +33,8 @@ returns-2 c =
     let call = c .before .before .before .before .before .before in
     let m = call .before .before .before .before .before .before .before .args .machine in
     λ a k p f.
-        arrive-obeys _ a k _ p f _ _ _ (not-false (m .running) (call .before .before .before .if1 .left)) _ (c .before .before .answer .ensures) _
-        (call .arrive .ensures .0) (call .arrive .ensures .1)
+    arrive-obeys _ a k _ p f _ _ _ (not-false (m .running) (call .before .before .before .if1 .left)) _ (c .before .before .answer .ensures) _
+    (call .arrive .ensures .0) (call .arrive .ensures .1)
 
 pub arrive-record-spec : {M : Type 1} → statement M
 arrive-record-spec =

@@ -33,8 +33,8 @@ returns-2 c =
     let call = c .before .before .before .before .before .before in
     let m = call .before .before .before .before .before .before .before .args .machine in
     λ k q p f.
-        book-obeys _ _ k q p f _ _ _ (not-false (m .running) (call .before .before .before .if1 .left)) _ (c .before .before .answer .ensures) _
-        (call .book .ensures .0) (call .book .ensures .1)
+    book-obeys _ _ k q p f _ _ _ (not-false (m .running) (call .before .before .before .if1 .left)) _ (c .before .before .answer .ensures) _
+    (call .book .ensures .0) (call .book .ensures .1)
 
 pub book-record-spec : {M : Type 1} → statement M
 book-record-spec =

@@ -35,8 +35,8 @@ returns : tie.Need-returns
 returns c =
     let call = c .before .before .before .before .before .before .before .before .before .before .before .before .before .before .before .start-pipelined .ensures in
     λ z.
-        pipe-obeys _ _ _ _ _ _ _ _ z _ _ (c .before .before .before .answer .ensures) _ _ _ _ _ (call .0) (call .1 .0) (call .1 .1 .0)
-        (call .1 .1 .1 .0) (call .1 .1 .1 .1 .0) (call .1 .1 .1 .1 .1) (c .after-start .ensures)
+    pipe-obeys _ _ _ _ _ _ _ _ z _ _ (c .before .before .before .answer .ensures) _ _ _ _ _ (call .0) (call .1 .0) (call .1 .1 .0)
+    (call .1 .1 .1 .0) (call .1 .1 .1 .1 .0) (call .1 .1 .1 .1 .1) (c .after-start .ensures)
 
 pub pipe-record-spec : {M : Type 1} → statement M
 pipe-record-spec =

@@ -33,8 +33,8 @@ returns-2 c =
     let call = c .before .before .before .before .before .before in
     let m = call .before .before .before .before .before .before .before .args .machine in
     λ k q p f.
-        release-obeys _ _ k q p f _ _ _ (not-false (m .running) (call .before .before .before .if1 .left)) _ (c .before .before .answer .ensures) _
-        (call .release .ensures .0) (call .release .ensures .1)
+    release-obeys _ _ k q p f _ _ _ (not-false (m .running) (call .before .before .before .if1 .left)) _ (c .before .before .answer .ensures) _
+    (call .release .ensures .0) (call .release .ensures .1)
 
 pub release-record-spec : {M : Type 1} → statement M
 release-record-spec =

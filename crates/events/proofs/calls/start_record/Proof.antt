@@ -29,8 +29,8 @@ returns : tie.Need-returns
 returns c =
     let call = c .before .before .before .before .before .before .before .before .before .before .before .start-direct .ensures in
     λ z p f.
-        start-obeys _ _ _ _ p f _ _ z _ _ (c .before .before .before .answer .ensures) _ _ _ (call .0) (call .1 .0) (call .1 .1 .0)
-        (call .1 .1 .1) (c .after-start .ensures)
+    start-obeys _ _ _ _ p f _ _ z _ _ (c .before .before .before .answer .ensures) _ _ _ (call .0) (call .1 .0) (call .1 .1 .0)
+    (call .1 .1 .1) (c .after-start .ensures)
 
 pub start-record-spec : {M : Type 1} → statement M
 start-record-spec =
