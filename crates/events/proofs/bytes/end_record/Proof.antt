@@ -1,0 +1,77 @@
+-- The end of the heading, or of another record.
+use mathlib.Core.Path.{sym}
+use native.Mathlib.Omega.{arith}
+use borrow.Author.Tests.{not-true, not-false}
+use lib.Seq.{length-take-le}
+use Rattle.events.proofs.Leaving.{heading-left, record-left}
+use borrow.Author.Needs.{needs}
+use Rattle.events.proofs.bytes.end_record.Statement.{statement}
+use Rattle.events.proofs.bytes.end_record.Tie as tie
+
+ended-requires : tie.Need-ended-requires
+ended-requires c κs = search needs
+
+returns : tie.Need-returns
+returns c =
+    let s = c .before .before .before .before .before .before .before .before .before .before .before .args in
+    heading-left (s .progress) (s .buffer .now) (s .bookings .now) (s .credits .now) (s .queues .now) (s .copy .now) (s .flight .now) _ (not-true (s .progress .«past_heading») (c .before .if1 .taken)) (c .ended .ensures) (omega arith)
+
+kept-length-requires : tie.Need-kept-length-requires
+kept-length-requires c κs = search needs
+
+slice-aggregate-read-record : tie.Need-slice-aggregate-read-record
+slice-aggregate-read-record c = sym (length-take-le _ _ (omega (arith, c .before .kept-length .ensures)))
+
+read-record-requires : tie.Need-read-record-requires
+read-record-requires c κs = search needs
+
+obey-requires : tie.Need-obey-requires
+obey-requires c κs = search needs
+
+ended-requires-2 : tie.Need-ended-requires-2
+ended-requires-2 c κs = search needs
+
+same-length : tie.Need-same-length
+same-length c = search needs
+
+same-length-2 : tie.Need-same-length-2
+same-length-2 c = search needs
+
+same-length-3 : tie.Need-same-length-3
+same-length-3 c = search needs
+
+same-length-4 : tie.Need-same-length-4
+same-length-4 c = search needs
+
+same-length-5 : tie.Need-same-length-5
+same-length-5 c = search needs
+
+same-length-6 : tie.Need-same-length-6
+same-length-6 c = search needs
+
+returns-2 : tie.Need-returns-2
+returns-2 c =
+    let call = c .before .before .before .before .before .before .before .before .before .before .before .before .before .before in
+    let length = call .before .before .before .before .before .before .before .before .before in
+    let s = length .before .before .before .before .before .before .before .before .before .before .before .args in
+    record-left (s .progress) (s .buffer .now) (s .bookings .now) (s .credits .now) (s .queues .now) (s .copy .now) (s .flight .now) _ _ _ _ _ _ _ _ _ (not-false (s .progress .«past_heading») (length .before .if1 .left)) (length .kept-length .ensures)
+    (call .before .before .before .before .before .before .before .read-record .ensures) (call .obey .ensures) (c .ended2 .ensures)
+
+pub end-record-spec : {M : Type 1} → statement M
+end-record-spec =
+    tie.close
+    (tie.spec
+    ended-requires
+    returns
+    kept-length-requires
+    slice-aggregate-read-record
+    read-record-requires
+    obey-requires
+    ended-requires-2
+    same-length
+    same-length-2
+    same-length-3
+    same-length-4
+    same-length-5
+    same-length-6
+    returns-2)

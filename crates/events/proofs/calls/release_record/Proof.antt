@@ -1,0 +1,50 @@
+-- A record that releases.
+use borrow.Author.Tests.{not-true, not-false}
+use Rattle.events.proofs.Effects.{idle-release, release-obeys}
+use borrow.Author.Needs.{needs}
+use Rattle.events.proofs.calls.release_record.Statement.{statement}
+use Rattle.events.proofs.calls.release_record.Tie as tie
+
+unread-requires : tie.Need-unread-requires
+unread-requires c κs = search needs
+
+same-length : tie.Need-same-length
+same-length c = search needs
+
+returns : tie.Need-returns
+returns c =
+    let m = c .before .before .before .before .before .before .before .before .args .machine in
+    λ k q p f. idle-release _ _ k q p f _ _ _ (not-true (m .running) (c .before .before .before .before .if1 .taken)) (c .before .before .unread .ensures)
+
+release-requires : tie.Need-release-requires
+release-requires c κs = search needs
+
+answer-requires : tie.Need-answer-requires
+answer-requires c κs = search needs
+
+same-length-2 : tie.Need-same-length-2
+same-length-2 c = search needs
+
+same-length-3 : tie.Need-same-length-3
+same-length-3 c = search needs
+
+returns-2 : tie.Need-returns-2
+returns-2 c =
+    let call = c .before .before .before .before .before .before in
+    let m = call .before .before .before .before .before .before .before .args .machine in
+    λ k q p f.
+    release-obeys _ _ k q p f _ _ _ (not-false (m .running) (call .before .before .before .if1 .left)) _ (c .before .before .answer .ensures) _
+    (call .release .ensures .0) (call .release .ensures .1)
+
+pub release-record-spec : {M : Type 1} → statement M
+release-record-spec =
+    tie.close
+    (tie.spec
+    unread-requires
+    same-length
+    returns
+    release-requires
+    answer-requires
+    same-length-2
+    same-length-3
+    returns-2)

@@ -1,0 +1,50 @@
+-- A slot of the pipelined form.
+use mathlib.Core.Path.{ap, sym, _∙_}
+use native.Mathlib.Omega.{arith}
+use Rattle.wsgs.specs.declared.Ticked.{Ticked}
+use Rattle.events.proofs.Ticks.{pipelined-few, pipelined-ran}
+use borrow.Author.Needs.{needs}
+use Rattle.events.proofs.slots.pipelined_slot.Statement.{statement}
+use Rattle.events.proofs.slots.pipelined_slot.Tie as tie
+
+tick-requires : tie.Need-tick-requires
+tick-requires c κs = search needs
+
+answered-requires : tie.Need-answered-requires
+answered-requires c κs =
+    (omega arith, (omega arith, λ h. pipelined-few _ _ (sym (ap (λ (t : Ticked). t .refusal) (c .before .before .before .before .before .before .before .before .before .tick .ensures .0)) ∙ h)))
+
+same-length : tie.Need-same-length
+same-length c = search needs
+
+same-length-2 : tie.Need-same-length-2
+same-length-2 c = search needs
+
+same-length-3 : tie.Need-same-length-3
+same-length-3 c = search needs
+
+same-length-4 : tie.Need-same-length-4
+same-length-4 c = search needs
+
+same-length-5 : tie.Need-same-length-5
+same-length-5 c = search needs
+
+returns : tie.Need-returns
+returns c =
+    let call = c .before .before .before .before .before .before .before .before .before .before .before .before in
+    let e = call .tick .ensures in
+    pipelined-ran _ _ _ _ _ _ _ _ _ (c .before .before .answered .ensures) _ _ _ _ (call .before .before .before .before .before .before .before .before .before .before .before .before .pre .0) (e .0) (e .1 .0) (e .1 .1 .0) (e .1 .1 .1 .0)
+    (e .1 .1 .1 .1)
+
+pub pipelined-slot-spec : {M : Type 1} → statement M
+pipelined-slot-spec =
+    tie.close
+    (tie.spec
+    tick-requires
+    answered-requires
+    same-length
+    same-length-2
+    same-length-3
+    same-length-4
+    same-length-5
+    returns)
