@@ -1,10 +1,11 @@
 -- A call of `feed` takes fewer steps than its work counts, so that the steps counted are enough, and one step leaves less. Assumes nothing.
 use mathlib.Core.Path.{_≡_, refl, sym, ap, ap₂, _∙_}
-use mathlib.Core.Bool.{Bool, true, false, _&&_, _||_}
+use mathlib.Core.Bool.{Bool, true, false, _&&_, _||_, or-true}
 use mathlib.Core.List.{List, [], _++_}
 use Prim.Native.Nat.{ℕ, zero, suc, _+_, _-_, _*_, _≤_, _<_}
 use native.Mathlib.Decide.{ℕ-discrete}
 use native.Mathlib.Omega.{arith}
+use borrow.Author.Tests.{lt-ltb, le-leb}
 use lib.Dec.{eqb, ltb, leb}
 use lib.ListN.{length, getD}
 use Rattle.wsgs.specs.declared.Operation.the-variants.{Start, Pipe, Book, Release, Arrive, Tick}
@@ -14,7 +15,7 @@ use Rattle.wsgs.specs.Basics.{pick, between}
 use Rattle.wsgs.specs.Text.{LF, read-record}
 use Rattle.wsgs.specs.Program.{Machine}
 use Rattle.wsgs.proofs.Laws.Tests.{in-range}
-use Rattle.events.specs.Feeding.{State, Out, slots-of, obeyed, kept-record, record-end, ticked, slots-after, run-slot, take-byte, Fed, goes-on, step-out, step-taken, step, steps, work, fed}
+use Rattle.events.specs.Feeding.{State, Out, slots-of, obeyed, kept-record, record-end, ticked, slots-after, run-slot, take-byte, Fed, most-printed, goes-on, step-out, step-taken, step, steps, work, fed}
 use Rattle.events.specs.Lines.{Wrote, written}
 use Rattle.events.specs.View.{Leaves}
 use Rattle.events.proofs.Feeding.{Ready, ready, step-slot, step-byte}
@@ -119,6 +120,63 @@ module _ (room : ℕ) (block : List ℕ) where
 
   rest-stops : (f : Fed) → goes-on room block f ≡ false → rest f ≡ f
   rest-stops f g = stops-at (work room block f) f g
+
+-- A CALL takes no more bytes than the block has, and leaves less work where it goes on
+module _ (room : ℕ) (block : List ℕ) where
+  taken-within : (n : ℕ) (f : Fed) → f .taken ≤ length block → steps room block n f .taken ≤ length block
+  unfolding steps
+  taken-within zero f h = h
+  taken-within (suc n) f h = go (goes-on room block f) refl (taken-within n (step room block f))
+    where
+      one : goes-on room block f ≡ true → step room block f .taken ≤ length block
+      one g = by (ℕ-discrete (f .state .slots-left) 0)
+        where
+          by : Dec (f .state .slots-left ≡ 0) → step room block f .taken ≤ length block
+          by (yes e) = rw (ap (λ (f : Fed). f .taken) (step-byte room block f e)) (omega (arith, ready room block f g .byte e))
+          by (no d) = rw (ap (λ (f : Fed). f .taken) (step-slot room block f (omega arith))) h
+
+      go : (t : Bool) → goes-on room block f ≡ t
+          → (step room block f .taken ≤ length block → steps room block n (step room block f) .taken ≤ length block)
+          → steps room block (suc n) f .taken ≤ length block
+      go true g rest = rw (g, steps) (rest (one g))
+      go false g rest = rw (g, steps) h
+
+  no-more-work : (n : ℕ) (f : Fed) → work room block (steps room block n f) ≤ work room block f
+  unfolding steps
+  no-more-work zero f = omega arith
+  no-more-work (suc n) f = go (goes-on room block f) refl (no-more-work n (step room block f))
+    where
+      go : (t : Bool) → goes-on room block f ≡ t → work room block (steps room block n (step room block f)) ≤ work room block (step room block f)
+          → work room block (steps room block (suc n) f) ≤ work room block f
+      go true g rest = rw (ap (work room block) (goes-at room block n f g)) (omega (arith, less-work room block f g))
+      go false g rest = rw (ap (work room block) (stops-at room block (suc n) f g)) (omega arith)
+
+  module _ (s : State) where
+    abbrev begins : Fed
+    begins = record { state = s; taken = 0; text = [] }
+
+    pub fed-within : fed room block s .taken ≤ length block
+    unfolding fed
+    fed-within = taken-within (work room block begins) begins (omega arith)
+
+    pub fed-less : 65 ≤ length (s .buffer) → 2912 ≤ room → (s .slots-left ≡ 0 → 0 < length block)
+        → fed room block s .state .slots-left + (length block - fed room block s .taken) * 10001 < s .slots-left + length block * 10001
+    unfolding fed
+    fed-less b r w =
+        let g : goes-on room block begins ≡ true = going in
+        let same : length block - 0 ≡ length block = omega arith in
+        rw (ap (work room block) (sym (rest-goes room block begins g)))
+        (omega (arith, no-more-work (work room block (step room block begins)) (step room block begins), less-work room block begins g, ap (λ n. n * 10001) same))
+      where
+        some : (ltb 0 (s .slots-left) || ltb 0 (length block)) ≡ true
+        some = by (ℕ-discrete (s .slots-left) 0)
+          where
+            by : Dec (s .slots-left ≡ 0) → (ltb 0 (s .slots-left) || ltb 0 (length block)) ≡ true
+            by (yes e) = rw (lt-ltb 0 (length block) (w e)) (or-true (ltb 0 (s .slots-left)))
+            by (no d) = rw (lt-ltb 0 (s .slots-left) (omega arith))
+
+        going : goes-on room block begins ≡ true
+        going = rw (some, le-leb 65 (length (s .buffer)) b, le-leb (0 + most-printed) room (omega arith))
 
 -- THE LOOP: what is written so far, and what the rest of the call does
 module _ (block : List ℕ) (s₀ : State) (out₀ : List ℕ) where

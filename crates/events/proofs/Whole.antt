@@ -7,7 +7,7 @@ use native.Mathlib.Decide.{decLt}
 use native.Mathlib.Omega.{arith}
 use borrow.Author.Tests.{lt-ltb, le-ltb, eq-eqb, ne-eqb}
 use lib.Dec.{eqb, ltb}
-use lib.ListN.{length}
+use lib.ListN.{length, replicate}
 use Rattle.wsgs.specs.declared.Operation.the-variants.{Start, Pipe, Book, Release, Arrive, Tick}
 use Rattle.wsgs.specs.declared.Reading.{Reading}
 use Rattle.wsgs.specs.declared.Reading.the-variants.{Asks, Unreadable}
@@ -15,6 +15,7 @@ use Rattle.wsgs.specs.Basics.{pick, between}
 use Rattle.wsgs.specs.Text.{CR, LF, reversed, records-from, records, read-record, heading}
 use Rattle.wsgs.specs.Program.{Machine, Step, run-ticks, obey, obey-all, program, fresh}
 use Rattle.events.specs.Feeding.{State, Out, after, with-machine, ended, appended, slots-of, begun, obeyed, kept-record, record-end, take-byte, drained, finish, ending, Calls, Begins}
+use Rattle.events.specs.View.{state-of, first-progress}
 use Rattle.events.proofs.Feeding.{after-after, drained-first, drained-none, finish-byte, finish-none, calls-print, and-parts}
 use Rattle.events.proofs.Kept.{without-last, Holds, holds-none, holds-more, reads-same}
 
@@ -225,3 +226,8 @@ module _ {s s′ s″ : State} {input text end : List ℕ} (b : Begins s) (c : C
       (sym all-printed
       ∙ prints input s [] (b .slots-left) (holds-none s (b .count) (b .buffer))
       ∙ rw (b .machine, b .past-heading, b .after-CR))
+
+-- the program begins so, with runs for 32 ports
+pub begins : (buffer : List ℕ) → 65 ≤ length buffer
+    → Begins (state-of first-progress buffer (replicate 1024 0) (replicate 1024 0) (replicate 1024 0) (replicate 1024 0) (replicate 2048 0))
+begins buffer h = record { machine = refl; past-heading = refl; after-CR = refl; count = refl; buffer = h; slots-left = refl }

@@ -2,8 +2,20 @@
 use crate::printer;
 ghost use mathlib.Core.Path.{_≡_};
 ghost use lib.ListN.{length};
+ghost use Rattle.wsgs.specs.Text.{heading};
 ghost use Rattle.wsgs.specs.Program.{refused-line, match-lines};
 ghost use Rattle.events.specs.Lines.{written, with-room, matching-of};
+
+// The heading.
+pub fn heading_line(out: &mut [u8]) -> usize
+    ensures { λ r. ⌜ r ≡ length (with-room 31 (now (out .entry)) heading) ⌝ }
+    ensures { λ _. ⌜ now (out .exit) ≡ written 0 (with-room 31 (now (out .entry)) heading) (now (out .entry)) ⌝ }
+{
+    if out.len() < 31 {
+        return 0;
+    }
+    printer::put(out, 0, b"kind,slot,input,output,detail\r\n")
+}
 
 // A refusal's line.
 pub fn refusal_line(out: &mut [u8], slot: u64, x: u64, y: u64, number: u64) -> usize
