@@ -1,0 +1,72 @@
+use borrow.Author.Needs.{needs}
+use Rattle.kivdrag.proofs.read_block.Statement.{statement}
+use Rattle.kivdrag.proofs.read_block.Tie as tie
+
+read-requires : tie.Need-read-requires
+read-requires c κs = search needs
+
+same-length : tie.Need-same-length
+same-length c = search needs
+
+returns : tie.Need-returns
+returns c = search needs
+
+count-requires : tie.Need-count-requires
+count-requires c κs = search needs
+
+slice-reshare-prefix-feed-block : tie.Need-slice-reshare-prefix-feed-block
+slice-reshare-prefix-feed-block c = search needs
+
+slice-aggregate-feed-block : tie.Need-slice-aggregate-feed-block
+slice-aggregate-feed-block c = search needs
+
+feed-block-requires : tie.Need-feed-block-requires
+feed-block-requires c κs = search needs
+
+same-length-2 : tie.Need-same-length-2
+same-length-2 c = search needs
+
+same-length-3 : tie.Need-same-length-3
+same-length-3 c = search needs
+
+same-length-4 : tie.Need-same-length-4
+same-length-4 c = search needs
+
+same-length-5 : tie.Need-same-length-5
+same-length-5 c = search needs
+
+same-length-6 : tie.Need-same-length-6
+same-length-6 c = search needs
+
+same-length-7 : tie.Need-same-length-7
+same-length-7 c = search needs
+
+same-length-8 : tie.Need-same-length-8
+same-length-8 c = search needs
+
+same-length-9 : tie.Need-same-length-9
+same-length-9 c = search needs
+
+returns-2 : tie.Need-returns-2
+returns-2 c = search needs
+
+pub read-block-spec : {M : Type 1} → statement M
+read-block-spec =
+    tie.close
+    (tie.spec
+    read-requires
+    same-length
+    returns
+    count-requires
+    slice-reshare-prefix-feed-block
+    slice-aggregate-feed-block
+    feed-block-requires
+    same-length-2
+    same-length-3
+    same-length-4
+    same-length-5
+    same-length-6
+    same-length-7
+    same-length-8
+    same-length-9
+    returns-2)

@@ -1,0 +1,107 @@
+-- The input is read to its end. The loop's invariant: the lent slices keep their lengths. The measure: the turns left.
+use mathlib.Core.Path.{_≡_, refl, _∙_}
+use native.Mathlib.Omega.{arith}
+use lib.ListN.{length}
+use borrow.Author.Needs.{needs}
+use Rattle.kivdrag.proofs.read_input.Statement.{statement}
+use Rattle.kivdrag.proofs.read_input.Tie as tie
+
+abbrev Inv-loop : tie.InvT-loop
+Inv-loop block₀ buffer₀ out₀ bookings₀ credits₀ queues₀ copy₀ flight₀ turn₀ turns₀ block buffer out bookings credits queues copy flight turn turns =
+    (length block ≡ length block₀)
+    × (length buffer ≡ length buffer₀)
+    × (length out ≡ length out₀)
+    × (length bookings ≡ length bookings₀)
+    × (length credits ≡ length credits₀)
+    × (length queues ≡ length queues₀)
+    × (length copy ≡ length copy₀)
+    × (length flight ≡ length flight₀)
+
+abbrev μ-loop : tie.MeasureT-loop
+μ-loop block₀ buffer₀ out₀ bookings₀ credits₀ queues₀ copy₀ flight₀ turn₀ turns₀ block buffer out bookings credits queues copy flight turn turns =
+    turns
+
+begin-requires : tie.Need-begin-requires Inv-loop μ-loop
+begin-requires c κs = search needs
+
+loop-holds : tie.Need-loop-holds Inv-loop μ-loop
+loop-holds c = (refl, refl, refl, refl, refl, refl, refl, refl)
+
+reads-on-requires : tie.Need-reads-on-requires Inv-loop μ-loop
+reads-on-requires c κs = search needs
+
+read-block-requires : tie.Need-read-block-requires Inv-loop μ-loop
+read-block-requires c κs =
+    let l = c .before .before .before .before .before .before .before .before .before .before .before in
+    let start = l .before .before .before .before .before .before .before .before .before .before in
+    omega (arith, start .pre .0, start .pre .1, l .loop .inv .1, l .loop .inv .2)
+
+sub-turns : tie.Need-sub-turns Inv-loop μ-loop
+sub-turns c = let way = c .before .before .before .before .before .before .before .before .before .before .before .before .before .before .before .before .before .before .before .before .before .before .before .before .before .before in omega (arith, way .before .reads-on .ensures (way .if1 .taken))
+
+loop-less : tie.Need-loop-less Inv-loop μ-loop
+loop-less c = let way = c .before .before .before .before .before .before .before .before .before .before .before .before .before .before .before .before .before .before .before .before .before .before .before .before .before .before in omega (arith, way .before .reads-on .ensures (way .if1 .taken))
+
+loop-again : tie.Need-loop-again Inv-loop μ-loop
+loop-again c =
+    let call = c .before .before .before .before .before .before .before .before .before .before .before .before .before .before .before .before in
+    let h = call .before .before .before .before .before .before .before .before .before .before .before .before .loop .inv in (
+      call .read-block .kept .1 .0 ∙ h .0,
+      call .read-block .kept .1 .1 .0 ∙ h .1,
+      call .read-block .kept .1 .1 .1 .0 ∙ h .2,
+      call .read-block .kept .1 .1 .1 .1 .0 ∙ h .3,
+      call .read-block .kept .1 .1 .1 .1 .1 .0 ∙ h .4,
+      call .read-block .kept .1 .1 .1 .1 .1 .1 .0 ∙ h .5,
+      call .read-block .kept .1 .1 .1 .1 .1 .1 .1 .0 ∙ h .6,
+      call .read-block .kept .1 .1 .1 .1 .1 .1 .1 .1 .0 ∙ h .7,
+    )
+
+same-length : tie.Need-same-length Inv-loop μ-loop
+same-length c = c .before .before .loop .inv .0
+
+same-length-2 : tie.Need-same-length-2 Inv-loop μ-loop
+same-length-2 c = c .before .before .loop .inv .1
+
+same-length-3 : tie.Need-same-length-3 Inv-loop μ-loop
+same-length-3 c = c .before .before .loop .inv .2
+
+same-length-4 : tie.Need-same-length-4 Inv-loop μ-loop
+same-length-4 c = c .before .before .loop .inv .3
+
+same-length-5 : tie.Need-same-length-5 Inv-loop μ-loop
+same-length-5 c = c .before .before .loop .inv .4
+
+same-length-6 : tie.Need-same-length-6 Inv-loop μ-loop
+same-length-6 c = c .before .before .loop .inv .5
+
+same-length-7 : tie.Need-same-length-7 Inv-loop μ-loop
+same-length-7 c = c .before .before .loop .inv .6
+
+same-length-8 : tie.Need-same-length-8 Inv-loop μ-loop
+same-length-8 c = c .before .before .loop .inv .7
+
+returns : tie.Need-returns Inv-loop μ-loop
+returns c = search needs
+
+pub read-input-spec : {M : Type 1} → statement M
+read-input-spec =
+    tie.close
+    (tie.spec
+    Inv-loop
+    μ-loop
+    begin-requires
+    loop-holds
+    reads-on-requires
+    read-block-requires
+    sub-turns
+    loop-less
+    loop-again
+    same-length
+    same-length-2
+    same-length-3
+    same-length-4
+    same-length-5
+    same-length-6
+    same-length-7
+    same-length-8
+    returns)
