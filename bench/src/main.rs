@@ -75,6 +75,31 @@ fn by_hand(pipelined: bool, s: &mut Switch) -> plain::Answer {
     }
 }
 
+/// The second program's switch of the same contents, and its tick.
+enum Second {
+    Direct(second::Clock, second::Direct),
+    Pipelined(second::Clock, second::Pipelined),
+}
+
+impl Second {
+    fn of(pipelined: bool, s: &Switch) -> Second {
+        let clock = second::Clock { ports: s.clock[0], frame: s.clock[1], last: s.clock[2] };
+        let (bookings, credits, queues) = (s.bookings.clone(), s.credits.clone(), s.queues.clone());
+        if pipelined {
+            Second::Pipelined(clock, second::Pipelined { bookings, credits, queues, copy: s.copy.clone(), flight: s.flight.clone() })
+        } else {
+            Second::Direct(clock, second::Direct { bookings, credits, queues })
+        }
+    }
+
+    fn tick(&mut self) -> second::Answer {
+        match self {
+            Second::Direct(clock, w) => second::tick_direct(clock, w),
+            Second::Pipelined(clock, w) => second::tick_pipelined(clock, w),
+        }
+    }
+}
+
 /// Both give the same answers and words for some thousand ticks.
 fn agree(pipelined: bool, s: &Switch) {
     let (mut a, mut b) = (s.clone(), s.clone());
@@ -105,25 +130,27 @@ fn read_once(s: &Switch) -> u64 {
 }
 
 fn main() {
-    let mut values = String::from("form,ports,load,proved_ns,plain_ns,read_ns\n");
-    println!("| form | N | load | proved, ns | plain Rust, ns | ratio | matrices read once, ns | ratio to that |\n|---|---|---|---|---|---|---|---|");
+    let mut values = String::from("form,ports,load,proved_ns,plain_ns,second_ns,read_ns\n");
+    println!("| form | N | load | proved, ns | plain Rust, ns | ratio | second program, ns | ratio | matrices read once, ns | ratio |");
+    println!("|---|---|---|---|---|---|---|---|---|---|");
     for pipelined in [false, true] {
         let form = if pipelined { "pipelined" } else { "direct" };
         for n in [4, 8, 16, 32] {
             for (load, percent) in LOADS {
                 let s = loaded(n, percent);
                 agree(pipelined, &s);
-                let (mut a, mut b, c) = (s.clone(), s.clone(), s.clone());
+                let (mut a, mut b, c, mut d) = (s.clone(), s.clone(), s.clone(), Second::of(pipelined, &s));
                 let t = nanoseconds(20_000, &mut [
                     &mut || drop(black_box(proved(pipelined, black_box(&mut a)).first)),
                     &mut || drop(black_box(by_hand(pipelined, black_box(&mut b)).first)),
+                    &mut || drop(black_box(black_box(&mut d).tick().first)),
                     &mut || drop(black_box(read_once(black_box(&c)))),
                 ]);
                 println!(
-                    "| {form} | {n} | {load} | {:.0} | {:.0} | {:.2} | {:.0} | {:.1} |",
-                    t[0], t[1], t[0] / t[1], t[2], t[0] / t[2]
+                    "| {form} | {n} | {load} | {:.0} | {:.0} | {:.2} | {:.0} | {:.2} | {:.0} | {:.1} |",
+                    t[0], t[1], t[0] / t[1], t[2], t[0] / t[2], t[3], t[0] / t[3]
                 );
-                writeln!(values, "{form},{n},{load},{:.1},{:.1},{:.1}", t[0], t[1], t[2]).unwrap();
+                writeln!(values, "{form},{n},{load},{:.1},{:.1},{:.1},{:.1}", t[0], t[1], t[2], t[3]).unwrap();
             }
         }
     }
@@ -143,7 +170,7 @@ fn main() {
             },
         ]);
         println!("| booking by slots | {n} | {:.1} | {:.1} |", 1e3 / t[0], 1e3 / t[1]);
-        writeln!(values, "booking,{n},,{:.1},{:.1},", t[0], t[1]).unwrap();
+        writeln!(values, "booking,{n},,{:.1},{:.1},,", t[0], t[1]).unwrap();
     }
     if let Some(path) = std::env::args().nth(1) {
         std::fs::write(path, values).expect("the values are written");
