@@ -1,8 +1,5 @@
--- Laws of questions, of pairs and amounts, of the calls on a pair, of starts, and of places and sums.
-pub mod Questions
-pub mod Pairs
+-- Laws of amounts, of the calls on a pair, of starts, and of sums.
 pub mod Amounts
 pub mod Calls
 pub mod Starts
-pub mod Places
 pub mod Sums

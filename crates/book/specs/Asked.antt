@@ -3,20 +3,7 @@ use mathlib.Core.List.{List, [], _∷_}
 use Prim.Native.Nat.{ℕ, _*_, _≤_}
 use lib.ListN.{length}
 use Rattle.wsgs.specs.declared.Clock.{Clock}
-use Rattle.wsgs.specs.Questions.{Question, first-no, ports-in-range, frame-in-range, enough-booked, queue-can-take, on-pair, on-sums}
-
--- the first two questions of every call
-abbrev pub on-sizes : ℕ → ℕ → List Question
-on-sizes n f = ports-in-range n ∷ frame-in-range f ∷ []
-
--- the refusal of sizes, and of a pair
-unfoldable pub sizes-refusal : ℕ → ℕ → ℕ
-unfolding first-no
-sizes-refusal n f = first-no (on-sizes n f)
-
-unfoldable pub pair-refusal : Clock → List ℕ → ℕ → ℕ → ℕ
-unfolding first-no
-pair-refusal c m i j = first-no (on-pair c m i j [])
+use Rattle.wsgs.specs.Questions.{first-no, enough-booked, queue-can-take, on-sums}
 
 -- the refusal of a booking, a release and an arrival whose amount is in range
 unfoldable pub sums-refusal : Clock → List ℕ → ℕ → ℕ → ℕ → ℕ
@@ -30,13 +17,6 @@ held-refusal c a i j d = first-no (enough-booked (c .ports) a i j d ∷ [])
 unfoldable pub queue-refusal : Clock → List ℕ → ℕ → ℕ → ℕ → ℕ
 unfolding first-no
 queue-refusal c q i j d = first-no (queue-can-take (c .ports) q i j d ∷ [])
-
--- sizes in range
-pub record Sizes (n f : ℕ) : Type 0 where
-  pub some-port : 1 ≤ n
-  pub few-ports : n ≤ 32
-  pub some-slot : 1 ≤ f
-  pub few-slots : f ≤ 10000
 
 -- a run holds a matrix over the pairs of 1 to 32 ports
 pub record Holds (n : ℕ) (m : List ℕ) : Type 0 where

@@ -1,11 +1,10 @@
-// Admission: slots are booked where the sums of row and column leave room, and taken off where they are booked. A rate is a number of slots.
+// Admission: slots are booked where the sums of row and column leave room, and taken off where they are booked.
 ghost use mathlib.Core.Path.{_≡_};
 ghost use Prim.Native.Nat.{_+_, _-_, _≤_};
 ghost use Rattle.wsgs.specs.Words.{word, put};
 ghost use Rattle.wsgs.specs.Questions.{accepted};
-ghost use Rattle.wsgs.specs.Book.{rate-slots};
 ghost use Rattle.wsgs.specs.Claims.{Reached};
-ghost use Rattle.book.specs.Asked.{sums-refusal, held-refusal, Rated};
+ghost use Rattle.book.specs.Asked.{sums-refusal, held-refusal};
 use crate::bookings::booked;
 use crate::bookings::column_sum;
 use crate::bookings::row_sum;
@@ -72,13 +71,4 @@ pub fn withdraw(
         BookedSlots(held.0 - slots.0),
     );
     0
-}
-
-// The slots of a rate, rounded up.
-pub fn rate_slots(frame: u64, line: u64, rate: u64) -> BookedSlots
-    requires { ⌜ Rated frame line rate ⌝ }
-    ensures is { λ r. ⌜ r .0 ≡ rate-slots frame line rate ⌝ }
-    ensures fits { λ r. ⌜ r .0 ≤ frame ⌝ }
-{
-    BookedSlots((rate * frame + (line - 1)) / line)
 }

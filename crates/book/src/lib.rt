@@ -8,22 +8,22 @@ ghost use Rattle.wsgs.specs.Book.{book-refusal, book-words, rate-refusal, rate-
 mod admission;
 mod bookings;
 mod pairs;
-mod questions;
 mod queues;
+mod rates;
 mod starts;
 
 use admission::admit;
-use admission::rate_slots;
 use admission::withdraw;
-use questions::are_rates;
+use questions::direct_refusal;
 use questions::is_between;
 use questions::pair_refusal;
+use questions::pipelined_refusal;
 use queues::enqueue;
+use rates::are_rates;
+use rates::rate_slots;
 use starts::clear_ahead;
 use starts::clear_matrices;
-use starts::direct_refusal;
 use starts::first_clock;
-use starts::pipelined_refusal;
 use wsgs::BookedSlots;
 use wsgs::Clock;
 use wsgs::Input;

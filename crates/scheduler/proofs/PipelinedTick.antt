@@ -1,64 +1,23 @@
--- A pipelined tick: its questions, and that its parts together are the definition's. Assumes nothing.
+-- A pipelined tick: what an accepted one found, and that its parts together are the definition's. Assumes nothing.
 use mathlib.Core.Path.{_≡_, refl, _∙_, ap}
 use mathlib.Core.Bool.{Bool, true, false}
 use mathlib.Core.List.{List, [], _∷_}
 use Prim.Native.Nat.{ℕ, _+_, _*_, _≤_, _<_}
 use native.Mathlib.Omega.{arith}
-use borrow.Author.Tests.{eq-eqb, ne-eqb, le-leb, lt-leb, lt-ltb, le-ltb}
-use lib.Dec.{leb, leb→le, ltb→lt}
+use borrow.Author.Tests.{eq-eqb, ne-eqb}
+use lib.Dec.{ltb→lt}
 use lib.ListN.{length, replicate}
 use Rattle.wsgs.specs.declared.Ticked.{Ticked}
-use Rattle.wsgs.specs.Basics.{between}
 use Rattle.wsgs.specs.Words.{copied}
 use Rattle.wsgs.specs.Frames.{first-of-frame}
 use Rattle.wsgs.specs.Questions.{clock-can-advance}
 use Rattle.wsgs.specs.Steps.{outputs-of, pass-word-of}
 use Rattle.wsgs.specs.Answers.{clock-of}
-use Rattle.wsgs.specs.Pipelined.{Runs, turning, runs-suffice, questions, tick-refusal, copied-at, turns, handed-out, row-cleared, ticked, tick}
-use Rattle.wsgs.proofs.Laws.Tests.{both, in-range}
-use Rattle.wsgs.proofs.Refusals.{all-yes}
+use Rattle.wsgs.specs.Pipelined.{Runs, turning, questions, tick-refusal, copied-at, turns, handed-out, row-cleared, ticked, tick}
+use Rattle.wsgs.proofs.Laws.Questions.{all-yes, pipelined-yes}
 use Rattle.scheduler.specs.Turnings.{turning-of, Lent, answering, Left}
 use Rattle.scheduler.proofs.Listed.{listed-none}
 use Rattle.scheduler.proofs.Marked.{marked-none}
-
--- ports in range are few
-pub few : (n : ℕ) (b : Bool) → b ≡ between 1 32 n → b ≡ true → n ≤ 32
-few n b e h = in-range 1 32 n (rw (← e, h) tt) .1
-
--- THE QUESTIONS of a tick of n ports and frames of f slots after slot k, on the runs w
-module _ (n f k : ℕ) (w : Runs) where
-  abbrev refusal : ℕ
-  refusal = tick-refusal (clock-of n f k) w
-
-  -- each answer in turn
-  module _ (b : Bool) (e : b ≡ between 1 32 n) where
-    pub no-1 : b ≡ false → 1 ≡ refusal
-    unfolding tick-refusal
-    no-1 h = rw (← e, h)
-
-    module _ (yes-1 : b ≡ true) (b₂ : Bool) (e₂ : b₂ ≡ between 1 10000 f) where
-      pub no-2 : b₂ ≡ false → 2 ≡ refusal
-      unfolding tick-refusal
-      no-2 h = rw (← e, yes-1, ← e₂, h)
-
-      module _ (yes-2 : b₂ ≡ true) where
-        pub no-3 : f < n → 3 ≡ refusal
-        unfolding tick-refusal
-        no-3 h = rw (← e, yes-1, ← e₂, yes-2, lt-leb n f h)
-
-        module _ (yes-3 : n ≤ f) (b₄ : Bool) (e₄ : b₄ ≡ runs-suffice n w) where
-          pub no-4 : b₄ ≡ false → 4 ≡ refusal
-          unfolding tick-refusal
-          no-4 h = rw (← e, yes-1, ← e₂, yes-2, le-leb n f yes-3, ← e₄, h)
-
-          module _ (yes-4 : b₄ ≡ true) where
-            pub no-7 : 4000000000 ≤ k → 7 ≡ refusal
-            unfolding tick-refusal
-            no-7 h = rw (← e, yes-1, ← e₂, yes-2, le-leb n f yes-3, ← e₄, yes-4, le-ltb k 4000000000 h)
-
-            pub no-none : k < 4000000000 → 0 ≡ refusal
-            unfolding tick-refusal
-            no-none h = rw (← e, yes-1, ← e₂, yes-2, le-leb n f yes-3, ← e₄, yes-4, lt-ltb k 4000000000 h)
 
 -- THE FRAME COPY at time k
 module _ (n f k : ℕ) (w : Runs) (b : Bool) (e : b ≡ first-of-frame f (k + 2 * n)) where
@@ -81,18 +40,15 @@ pub record Accepted (n f k : ℕ) (w : Runs) : Type 0 where
 pub accepted-found : (n f k : ℕ) (w : Runs) → tick-refusal (clock-of n f k) w ≡ 0 → Accepted n f k w
 unfolding tick-refusal
 accepted-found n f k w e =
-    let y = all-yes (questions n f w (clock-can-advance k ∷ [])) (omega arith) e in
-    let p = in-range 1 32 n (y .0) in
-    let a = both (leb (n * n) (length (w .bookings))) _ (y .1 .1 .1 .0) in
-    let c = both (leb (n * n) (length (w .credits))) _ (a .1) in
-    let q = both (leb (n * n) (length (w .queues))) _ (c .1) in
-    let m = both (leb (n * n) (length (w .copy))) _ (q .1) in
+    let qs = clock-can-advance k ∷ [] in
+    let y = pipelined-yes n f w qs (all-yes (questions n f w qs) (omega arith) e) .1 in
+    let sized = y .long .sized in
     record {
-      some-port = p .0;
-      lent = record { ports = p .1; copy = leb→le _ _ (m .0); credits = leb→le _ _ (c .0); queues = leb→le _ _ (q .0); flight = leb→le _ _ (m .1) };
-      bookings = leb→le _ _ (a .0);
-      some-slot = in-range 1 10000 f (y .1 .0) .0;
-      slots-left = ltb→lt k 4000000000 (y .1 .1 .1 .1 .0);
+      some-port = y .ports .0;
+      lent = record { ports = y .ports .1; copy = y .long .copy; credits = sized .credits; queues = sized .queues; flight = sized .flight };
+      bookings = y .long .bookings;
+      some-slot = y .frame .0;
+      slots-left = ltb→lt k 4000000000 (y .later .0);
     }
 
 -- WHAT AN ACCEPTED TICK LEAVES: the copy, the turns, the pairs and the cleared row

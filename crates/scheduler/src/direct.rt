@@ -11,6 +11,7 @@ ghost use Rattle.scheduler.specs.Passes.{SlotRun};
 use super::passes::Passed;
 use super::passes::pass_one;
 use super::passes::pass_two;
+use questions::direct_refusal;
 use wsgs::Ticked;
 
 // The number of the first question of a tick that is answered no, or 0.
@@ -24,15 +25,9 @@ fn tick_refusal(
 ) -> u32
     ensures { λ r. ⌜ r ≡ Direct.tick-refusal (clock-of ports frame slot) (direct-runs-of (now (bookings .entry)) (now (credits .entry)) (now (queues .entry))) ⌝ }
 {
-    if ports < 1 || ports > 32 {
-        return 1;
-    }
-    if frame < 1 || frame > 10000 {
-        return 2;
-    }
-    let pairs = (ports * ports) as usize;
-    if bookings.len() < pairs || credits.len() < pairs || queues.len() < pairs {
-        return 4;
+    let refusal = direct_refusal(ports as u64, frame as u64, bookings, credits, queues);
+    if refusal != 0 {
+        return refusal;
     }
     if slot >= 4000000000 {
         return 7;

@@ -3,7 +3,6 @@ ghost use mathlib.Core.Path.{_≡_};
 ghost use mathlib.Core.List.{List};
 ghost use Prim.Native.Nat.{ℕ, _+_, _*_, _≤_, _<_};
 ghost use lib.ListN.{length};
-ghost use Rattle.wsgs.specs.Basics.{between};
 ghost use Rattle.wsgs.specs.Answers.{clock-of, pipelined-runs-of, ticked-of};
 ghost use Rattle.wsgs.specs.Pipelined;
 ghost use Rattle.scheduler.specs.Turnings.{Lent, Left};
@@ -11,43 +10,9 @@ use super::flight::clear_row;
 use super::flight::hand_out;
 use super::pipeline_turns::all_turns;
 use super::pipeline_turns::is_first_of_frame;
+use questions::pipelined_refusal;
 use words::copy_words;
 use wsgs::Ticked;
-
-// Whether a number is one of low to high.
-fn is_between(low: u32, high: u32, number: u32) -> bool
-    ensures { λ r. ⌜ r ≡ between low high number ⌝ }
-{
-    low <= number && number <= high
-}
-
-// Whether the lent runs are long enough.
-fn runs_suffice(
-    ports: usize,
-    bookings: &[u32],
-    credits: &[u32],
-    queues: &[u32],
-    copy: &[u32],
-    flight: &[u32],
-) -> bool
-    requires { ⌜ ports ≤ 32 ⌝ }
-    ensures { λ r. ⌜ r ≡ Pipelined.runs-suffice ports (pipelined-runs-of (now (bookings .entry)) (now (credits .entry)) (now (queues .entry)) (now (copy .entry)) (now (flight .entry))) ⌝ }
-{
-    let pairs = ports * ports;
-    if bookings.len() < pairs {
-        return false;
-    }
-    if credits.len() < pairs {
-        return false;
-    }
-    if queues.len() < pairs {
-        return false;
-    }
-    if copy.len() < pairs {
-        return false;
-    }
-    2 * ports * ports <= flight.len()
-}
 
 // The number of the first question of a tick that is answered no, or 0.
 fn tick_refusal(
@@ -62,17 +27,17 @@ fn tick_refusal(
 ) -> u32
     ensures { λ r. ⌜ r ≡ Pipelined.tick-refusal (clock-of ports frame slot) (pipelined-runs-of (now (bookings .entry)) (now (credits .entry)) (now (queues .entry)) (now (copy .entry)) (now (flight .entry))) ⌝ }
 {
-    if !is_between(1, 32, ports) {
-        return 1;
-    }
-    if !is_between(1, 10000, frame) {
-        return 2;
-    }
-    if frame < ports {
-        return 3;
-    }
-    if !runs_suffice(ports as usize, bookings, credits, queues, copy, flight) {
-        return 4;
+    let refusal = pipelined_refusal(
+        ports as u64,
+        frame as u64,
+        bookings,
+        credits,
+        queues,
+        copy,
+        flight,
+    );
+    if refusal != 0 {
+        return refusal;
     }
     if slot >= 4000000000 {
         return 7;

@@ -11,8 +11,9 @@ use Rattle.wsgs.specs.declared.Clock.{Clock}
 use Rattle.wsgs.specs.Words.{word, put}
 use Rattle.wsgs.specs.Questions.{Question, first-no, slots-in-range, packets-in-range, rate-in-range, enough-booked, queue-can-take, on-pair, on-sums, accepted}
 use Rattle.wsgs.specs.Book.{book-refusal, book-words, rate-slots, rate-refusal, rate-words, release-refusal, release-words, arrive-refusal, arrive-words}
-use Rattle.book.specs.Asked.{pair-refusal, sums-refusal, held-refusal, queue-refusal}
-use Rattle.book.proofs.Laws.Questions.{asked-no, asked-yes, all-yes, some-no}
+use Rattle.wsgs.proofs.Laws.Questions.{asked-no, asked-yes, rest-decides, some-no}
+use Rattle.questions.specs.Asked.{pair-refusal}
+use Rattle.book.specs.Asked.{sums-refusal, held-refusal, queue-refusal}
 
 -- what a call answers and leaves: where the pair is refused, where the amount is, and else
 pub record Decides (pair : ℕ) (amount : Question) (rest : ℕ) (changed m : List ℕ) (refusal : ℕ) (words : List ℕ) : Type 0 where
@@ -31,7 +32,7 @@ module _ (c : Clock) (m : List ℕ) (i j : ℕ) (amount : Question) (later : Lis
   -- the questions on the pair have been passed
   beyond : 0 ≡ pair-refusal c m i j → first-no (amount ∷ later) ≡ refusal
   unfolding pair-refusal
-  beyond p = all-yes (on-pair c m i j []) (amount ∷ later) (omega arith) p
+  beyond p = rest-decides (on-pair c m i j []) (amount ∷ later) (omega arith) p
 
   decides : Decides (pair-refusal c m i j) amount (first-no later) changed m refusal (accepted refusal changed m)
   unfolding pair-refusal

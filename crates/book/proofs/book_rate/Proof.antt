@@ -4,11 +4,11 @@ use mathlib.Core.Bool.{true}
 use native.Mathlib.Omega.{arith}
 use borrow.Author.Needs.{needs}
 use Rattle.wsgs.specs.Questions.{rate-in-range}
-use Rattle.book.specs.Asked.{pair-refusal}
+use Rattle.questions.specs.Asked.{pair-refusal}
 use Rattle.book.proofs.Laws.Amounts.{rated}
 use Rattle.book.proofs.Laws.Calls.{rate-decides}
-use Rattle.book.proofs.Laws.Pairs.{pair-asked}
-use Rattle.book.proofs.Laws.Questions.{said-no, said-yes}
+use Rattle.questions.proofs.Laws.Pairs.{pair-asked}
+use Rattle.questions.proofs.Laws.Answers.{said-no, said-yes}
 use Rattle.book.proofs.book_rate.Statement.{statement}
 use Rattle.book.proofs.book_rate.Tie as tie
 

@@ -3,10 +3,10 @@ use mathlib.Core.Path.{_≡_, sym, _∙_}
 use mathlib.Core.Bool.{true}
 use borrow.Author.Needs.{needs}
 use Rattle.wsgs.specs.Questions.{slots-in-range}
-use Rattle.book.specs.Asked.{pair-refusal}
+use Rattle.questions.specs.Asked.{pair-refusal}
 use Rattle.book.proofs.Laws.Calls.{release-decides}
-use Rattle.book.proofs.Laws.Pairs.{pair-asked}
-use Rattle.book.proofs.Laws.Questions.{said-no, said-yes}
+use Rattle.questions.proofs.Laws.Pairs.{pair-asked}
+use Rattle.questions.proofs.Laws.Answers.{said-no, said-yes}
 use Rattle.book.proofs.release.Statement.{statement}
 use Rattle.book.proofs.release.Tie as tie
 

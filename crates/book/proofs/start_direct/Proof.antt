@@ -3,8 +3,9 @@ use mathlib.Core.Path.{_≡_, sym, _∙_}
 use borrow.Author.Needs.{needs}
 use Rattle.wsgs.specs.Answers.{direct-runs-of}
 use Rattle.wsgs.specs.Direct
-use Rattle.book.specs.Asked.{Sizes}
-use Rattle.book.proofs.Laws.Starts.{direct-asked, direct-stays, direct-clears}
+use Rattle.questions.specs.Asked.{Sizes}
+use Rattle.questions.proofs.Laws.Runs.{direct-asked}
+use Rattle.book.proofs.Laws.Starts.{direct-stays, direct-clears}
 use Rattle.book.proofs.start_direct.Statement.{statement}
 use Rattle.book.proofs.start_direct.Tie as tie
 

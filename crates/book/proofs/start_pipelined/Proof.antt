@@ -3,8 +3,9 @@ use mathlib.Core.Path.{_≡_, sym, _∙_}
 use borrow.Author.Needs.{needs}
 use Rattle.wsgs.specs.Answers.{pipelined-runs-of}
 use Rattle.wsgs.specs.Pipelined
-use Rattle.book.specs.Asked.{Sizes}
-use Rattle.book.proofs.Laws.Starts.{pipelined-asked, pipelined-stays, pipelined-clears}
+use Rattle.questions.specs.Asked.{Sizes}
+use Rattle.questions.proofs.Laws.Runs.{pipelined-asked}
+use Rattle.book.proofs.Laws.Starts.{pipelined-stays, pipelined-clears}
 use Rattle.book.proofs.start_pipelined.Statement.{statement}
 use Rattle.book.proofs.start_pipelined.Tie as tie
 

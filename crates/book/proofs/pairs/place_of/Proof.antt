@@ -3,7 +3,7 @@ use mathlib.Core.Path.{refl}
 use native.Mathlib.Omega.{arith}
 use borrow.Author.Needs.{needs}
 use Rattle.wsgs.specs.Words.{place}
-use Rattle.book.proofs.Laws.Places.{row-end, square-small}
+use Rattle.wsgs.proofs.Laws.Words.{row-within, square-small}
 use Rattle.book.proofs.pairs.place_of.Statement.{statement}
 use Rattle.book.proofs.pairs.place_of.Tie as tie
 
@@ -13,7 +13,7 @@ sub-result c = search needs
 mul-result : tie.Need-mul-result
 mul-result c =
     let s = c .before in
-    omega (arith, row-end _ _ _ (s .pre .1 .0) (s .pre .1 .1), square-small _ (s .pre .0))
+    omega (arith, row-within _ _ (s .pre .1 .0), square-small _ (s .pre .0))
 
 sub-result-2 : tie.Need-sub-result-2
 sub-result-2 c = search needs
@@ -21,7 +21,7 @@ sub-result-2 c = search needs
 add-result : tie.Need-add-result
 add-result c =
     let s = c .before .before in
-    omega (arith, row-end _ _ _ (s .pre .1 .0) (s .pre .1 .1), square-small _ (s .pre .0))
+    omega (arith, row-within _ _ (s .pre .1 .0), square-small _ (s .pre .0))
 
 returns : tie.Need-returns
 unfolding place

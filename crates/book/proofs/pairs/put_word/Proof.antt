@@ -4,7 +4,7 @@ use native.Mathlib.Omega.{arith}
 use borrow.Author.Needs.{needs}
 use lib.ListN.{set}
 use Rattle.wsgs.specs.Words.{put}
-use Rattle.book.proofs.Laws.Places.{place-inside, square-small}
+use Rattle.wsgs.proofs.Laws.Words.{place-inside, square-small}
 use Rattle.book.proofs.pairs.put_word.Statement.{statement}
 use Rattle.book.proofs.pairs.put_word.Tie as tie
 

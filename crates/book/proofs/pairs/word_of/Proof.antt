@@ -4,7 +4,7 @@ use native.Mathlib.Omega.{arith}
 use borrow.Author.Needs.{needs}
 use lib.ListN.{getD}
 use Rattle.wsgs.specs.Words.{word}
-use Rattle.book.proofs.Laws.Places.{place-inside, square-small}
+use Rattle.wsgs.proofs.Laws.Words.{place-inside, square-small}
 use Rattle.book.proofs.pairs.word_of.Statement.{statement}
 use Rattle.book.proofs.pairs.word_of.Tie as tie
 

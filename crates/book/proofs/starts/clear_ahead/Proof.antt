@@ -1,7 +1,7 @@
 -- `book::starts::clear_ahead` meets its contract. Assumes nothing.
 use native.Mathlib.Omega.{arith}
 use borrow.Author.Needs.{needs}
-use Rattle.book.proofs.Laws.Places.{square-small, rows-small}
+use Rattle.wsgs.proofs.Laws.Words.{square-small, rows-small}
 use Rattle.book.proofs.starts.clear_ahead.Statement.{statement}
 use Rattle.book.proofs.starts.clear_ahead.Tie as tie
 

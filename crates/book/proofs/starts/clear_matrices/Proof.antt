@@ -1,7 +1,7 @@
 -- `book::starts::clear_matrices` meets its contract. Assumes nothing.
 use native.Mathlib.Omega.{arith}
 use borrow.Author.Needs.{needs}
-use Rattle.book.proofs.Laws.Places.{square-small}
+use Rattle.wsgs.proofs.Laws.Words.{square-small}
 use Rattle.book.proofs.starts.clear_matrices.Statement.{statement}
 use Rattle.book.proofs.starts.clear_matrices.Tie as tie
 

@@ -1,0 +1,113 @@
+-- Laws of the questions on the sizes and runs of a form: which of them refuses, and what has been asked where none does. Assumes nothing.
+use mathlib.Core.Path.{_≡_, refl, sym, _∙_, ap, ap₂}
+use mathlib.Core.Bool.{Bool, true, false, not, _&&_}
+use mathlib.Core.List.{List, [], _∷_}
+use mathlib.Core.Logic.{_≢_}
+use Prim.Native.Nat.{ℕ, _*_, _≤_, _<_}
+use native.Mathlib.Omega.{arith}
+use lib.Dec.{leb}
+use lib.ListN.{length}
+use borrow.Author.Tests.{le-leb, lt-leb}
+use Rattle.wsgs.specs.Questions.{Question, first-no, frame-covers-ports, long-enough, holds-pairs}
+use Rattle.wsgs.specs.Answers.{direct-runs-of}
+use Rattle.wsgs.specs.Direct
+use Rattle.wsgs.specs.Pipelined
+use Rattle.wsgs.proofs.Laws.Questions.{none-left, asked-no, asked-yes, all-yes, rest-decides, some-no, DirectLong, PipelinedLong, direct-yes, pipelined-yes}
+use Rattle.questions.specs.Asked.{Sizes, on-sizes, sizes-refusal}
+use Rattle.questions.proofs.Laws.Answers.{said-no, said-yes}
+
+-- DIRECT
+module _ (n f : ℕ) (w : Direct.Runs) where
+  abbrev long : Question
+  long = long-enough (Direct.runs-suffice n w)
+
+  -- sizes that are refused
+  pub direct-sized : (r : ℕ) → r ≡ sizes-refusal n f → r ≢ 0 → r ≡ Direct.start-refusal n f w
+  unfolding sizes-refusal Direct.start-refusal
+  direct-sized r = some-no (on-sizes n f) (long ∷ []) r
+
+  module _ (sized : 0 ≡ sizes-refusal n f) where
+    after-sizes : first-no (long ∷ []) ≡ Direct.start-refusal n f w
+    unfolding sizes-refusal Direct.start-refusal
+    after-sizes = rest-decides (on-sizes n f) (long ∷ []) (omega arith) sized
+
+    -- a run too short
+    pub direct-short : (b : Bool) → b ≡ Direct.runs-suffice n w → not b ≡ true → 4 ≡ Direct.start-refusal n f w
+    direct-short b e h = asked-no _ _ (said-no e h) ∙ after-sizes
+
+    -- none
+    pub direct-long : (b : Bool) → b ≡ Direct.runs-suffice n w → not b ≡ false → 0 ≡ Direct.start-refusal n f w
+    direct-long b e h = none-left ∙ asked-yes _ _ (said-yes e h) ∙ after-sizes
+
+  -- what has been asked where none refuses
+  pub direct-asked : 0 ≡ Direct.start-refusal n f w → Sizes n f × DirectLong n w
+  unfolding Direct.start-refusal
+  direct-asked e =
+      let a = direct-yes n f w [] (all-yes (Direct.questions n f w []) (omega arith) (sym e)) in
+      (record { some-port = a .ports .0; few-ports = a .ports .1; some-slot = a .frame .0; few-slots = a .frame .1 }, a .long)
+
+-- the runs of a pipelined switch: those of a direct one, the copy and the words in flight
+module _ (n : ℕ) (w : Pipelined.Runs) where
+  abbrev direct-runs : Direct.Runs
+  direct-runs = direct-runs-of (w .bookings) (w .credits) (w .queues)
+
+  abbrev last : Bool
+  last = leb (2 * n * n) (length (w .flight))
+
+  split : (Direct.runs-suffice n direct-runs && (holds-pairs n (w .copy) && last)) ≡ Pipelined.runs-suffice n w
+  split = five (holds-pairs n (w .bookings)) (holds-pairs n (w .credits)) (holds-pairs n (w .queues)) _
+    where
+      five : (a b c d : Bool) → ((a && (b && c)) && d) ≡ (a && (b && (c && d)))
+      five true true c d = refl
+      five true false c d = refl
+      five false b c d = refl
+
+  -- one of the first three is too short
+  pub short-direct : (b : Bool) → b ≡ Direct.runs-suffice n direct-runs → not b ≡ true → false ≡ Pipelined.runs-suffice n w
+  short-direct b e h = ap (λ x. x && (holds-pairs n (w .copy) && last)) (sym (said-no e h)) ∙ split
+
+  module _ (b : Bool) (e : b ≡ Direct.runs-suffice n direct-runs) (h : not b ≡ false) (d : Bool) (f : d ≡ holds-pairs n (w .copy)) where
+    -- the copy is
+    pub short-copy : not d ≡ true → false ≡ Pipelined.runs-suffice n w
+    short-copy g = ap₂ (λ x y. x && (y && last)) (sym (said-yes e h)) (sym (said-no f g)) ∙ split
+
+    -- and else the words in flight decide
+    pub flight-decides : not d ≡ false → last ≡ Pipelined.runs-suffice n w
+    flight-decides g = ap₂ (λ x y. x && (y && last)) (sym (said-yes e h)) (sym (said-yes f g)) ∙ split
+
+-- PIPELINED
+module _ (n f : ℕ) (w : Pipelined.Runs) where
+  abbrev later : List Question
+  later = frame-covers-ports n f ∷ long-enough (Pipelined.runs-suffice n w) ∷ []
+
+  -- sizes that are refused
+  pub pipelined-sized : (r : ℕ) → r ≡ sizes-refusal n f → r ≢ 0 → r ≡ Pipelined.start-refusal n f w
+  unfolding sizes-refusal Pipelined.start-refusal
+  pipelined-sized r = some-no (on-sizes n f) later r
+
+  module _ (sized : 0 ≡ sizes-refusal n f) where
+    later-decides : first-no later ≡ Pipelined.start-refusal n f w
+    unfolding sizes-refusal Pipelined.start-refusal
+    later-decides = rest-decides (on-sizes n f) later (omega arith) sized
+
+    -- a frame shorter than the ports
+    pub pipelined-uncovered : f < n → 3 ≡ Pipelined.start-refusal n f w
+    pipelined-uncovered h = asked-no _ _ (lt-leb n f h) ∙ later-decides
+
+    -- a run too short
+    pub pipelined-short : n ≤ f → (b : Bool) → b ≡ Pipelined.runs-suffice n w → not b ≡ true → 4 ≡ Pipelined.start-refusal n f w
+    pipelined-short h b e d = asked-no _ _ (said-no e d) ∙ asked-yes _ _ (le-leb n f h) ∙ later-decides
+
+    -- none
+    pub pipelined-long : n ≤ f → (b : Bool) → b ≡ Pipelined.runs-suffice n w → not b ≡ false → 0 ≡ Pipelined.start-refusal n f w
+    pipelined-long h b e d = none-left ∙ asked-yes _ _ (said-yes e d) ∙ asked-yes _ _ (le-leb n f h) ∙ later-decides
+
+  -- what has been asked where none refuses
+  pub pipelined-asked : 0 ≡ Pipelined.start-refusal n f w → Sizes n f × (n ≤ f) × PipelinedLong n w
+  unfolding Pipelined.start-refusal
+  pipelined-asked e =
+      let a = pipelined-yes n f w [] (all-yes (Pipelined.questions n f w []) (omega arith) (sym e)) in (
+        record { some-port = a .1 .ports .0; few-ports = a .1 .ports .1; some-slot = a .1 .frame .0; few-slots = a .1 .frame .1 },
+        a .0,
+        a .1 .long,
+      )

@@ -1,0 +1,25 @@
+-- The questions that calls on a pair, starts and ticks open with. Assumes nothing.
+use mathlib.Core.List.{List, [], _∷_}
+use Prim.Native.Nat.{ℕ, _≤_}
+use Rattle.wsgs.specs.declared.Clock.{Clock}
+use Rattle.wsgs.specs.Questions.{Question, first-no, ports-in-range, frame-in-range, on-pair}
+
+-- the first two questions of every call
+abbrev pub on-sizes : ℕ → ℕ → List Question
+on-sizes n f = ports-in-range n ∷ frame-in-range f ∷ []
+
+-- the refusal of sizes, and of a pair
+unfoldable pub sizes-refusal : ℕ → ℕ → ℕ
+unfolding first-no
+sizes-refusal n f = first-no (on-sizes n f)
+
+unfoldable pub pair-refusal : Clock → List ℕ → ℕ → ℕ → ℕ
+unfolding first-no
+pair-refusal c m i j = first-no (on-pair c m i j [])
+
+-- sizes in range
+pub record Sizes (n f : ℕ) : Type 0 where
+  pub some-port : 1 ≤ n
+  pub few-ports : n ≤ 32
+  pub some-slot : 1 ≤ f
+  pub few-slots : f ≤ 10000

@@ -1,0 +1,109 @@
+// The questions that calls share, in their order. A refusal is the number of the first that is answered no, and 0 for none.
+mod runs;
+
+ghost use mathlib.Core.Path.{_≡_};
+ghost use Rattle.wsgs.specs.Basics.{between};
+ghost use Rattle.wsgs.specs.Questions.{pair-in-range};
+ghost use Rattle.wsgs.specs.Answers.{direct-runs-of, pipelined-runs-of};
+ghost use Rattle.wsgs.specs.Direct;
+ghost use Rattle.wsgs.specs.Pipelined;
+ghost use Rattle.questions.specs.Asked.{sizes-refusal, pair-refusal};
+use runs::direct_runs_suffice;
+use runs::holds_pairs;
+use runs::pipelined_runs_suffice;
+use wsgs::Clock;
+use wsgs::Input;
+use wsgs::Output;
+
+// Whether a number is one of low to high.
+pub fn is_between(low: u64, high: u64, number: u64) -> bool
+    ensures { λ r. ⌜ r ≡ between low high number ⌝ }
+{
+    low <= number && number <= high
+}
+
+// Whether both are ports.
+fn are_ports(ports: u64, input: Input, output: Output) -> bool
+    ensures { λ r. ⌜ r ≡ pair-in-range ports (input .0) (output .0) .yes ⌝ }
+{
+    if !is_between(1, ports, input.0) {
+        return false;
+    }
+    is_between(1, ports, output.0)
+}
+
+// The number of ports and the length of a frame: questions 1 and 2.
+fn sizes_refusal(ports: u64, frame: u64) -> u32
+    ensures { λ r. ⌜ r ≡ sizes-refusal ports frame ⌝ }
+{
+    if !is_between(1, 32, ports) {
+        return 1;
+    }
+    if !is_between(1, 10_000, frame) {
+        return 2;
+    }
+    0
+}
+
+// A call on a pair of a run: questions 1, 2, 4 and 5.
+pub fn pair_refusal(clock: Clock, run: &[u32], input: Input, output: Output) -> u32
+    ensures { λ r. ⌜ r ≡ pair-refusal clock (now (run .entry)) (input .0) (output .0) ⌝ }
+{
+    let ports = clock.ports as u64;
+    let refusal = sizes_refusal(ports, clock.frame as u64);
+    if refusal != 0 {
+        return refusal;
+    }
+    if !holds_pairs(ports, run) {
+        return 4;
+    }
+    if !are_ports(ports, input, output) {
+        return 5;
+    }
+    0
+}
+
+// The sizes and the runs of a direct switch, at its start and at each tick: questions 1, 2 and 4.
+pub fn direct_refusal(
+    ports: u64,
+    frame: u64,
+    bookings: &[u32],
+    credits: &[u32],
+    queues: &[u32],
+) -> u32
+    ensures { λ r. ⌜ r ≡ Direct.start-refusal ports frame (direct-runs-of (now (bookings .entry)) (now (credits .entry)) (now (queues .entry))) ⌝ }
+{
+    let refusal = sizes_refusal(ports, frame);
+    if refusal != 0 {
+        return refusal;
+    }
+    if !direct_runs_suffice(ports, bookings, credits, queues) {
+        return 4;
+    }
+    0
+}
+
+// Those of a pipelined switch: questions 1 to 4.
+pub fn pipelined_refusal(
+    ports: u64,
+    frame: u64,
+    bookings: &[u32],
+    credits: &[u32],
+    queues: &[u32],
+    copy: &[u32],
+    flight: &[u32],
+) -> u32
+    ensures { λ r. ⌜ r ≡ Pipelined.start-refusal ports frame (pipelined-runs-of (now (bookings .entry)) (now (credits .entry)) (now (queues .entry)) (now (copy .entry)) (now (flight .entry))) ⌝ }
+{
+    let refusal = sizes_refusal(ports, frame);
+    if refusal != 0 {
+        return refusal;
+    }
+    if frame < ports {
+        return 3;
+    }
+    if !pipelined_runs_suffice(ports, bookings, credits, queues, copy, flight) {
+        return 4;
+    }
+    0
+}

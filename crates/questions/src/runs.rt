@@ -1,0 +1,50 @@
+// Whether lent runs are long enough for the words of so many ports.
+ghost use mathlib.Core.Path.{_≡_};
+ghost use Prim.Native.Nat.{_≤_};
+ghost use Rattle.wsgs.specs.Questions.{holds-pairs};
+ghost use Rattle.wsgs.specs.Answers.{direct-runs-of, pipelined-runs-of};
+ghost use Rattle.wsgs.specs.Direct;
+ghost use Rattle.wsgs.specs.Pipelined;
+
+// Whether a run holds the words of all pairs.
+pub fn holds_pairs(ports: u64, run: &[u32]) -> bool
+    requires { ⌜ ports ≤ 32 ⌝ }
+    ensures { λ r. ⌜ r ≡ holds-pairs ports (now (run .entry)) ⌝ }
+{
+    (ports * ports) as usize <= run.len()
+}
+
+// Whether the runs of a direct switch are long enough.
+pub fn direct_runs_suffice(ports: u64, bookings: &[u32], credits: &[u32], queues: &[u32]) -> bool
+    requires { ⌜ ports ≤ 32 ⌝ }
+    ensures { λ r. ⌜ r ≡ Direct.runs-suffice ports (direct-runs-of (now (bookings .entry)) (now (credits .entry)) (now (queues .entry))) ⌝ }
+{
+    if !holds_pairs(ports, bookings) {
+        return false;
+    }
+    if !holds_pairs(ports, credits) {
+        return false;
+    }
+    holds_pairs(ports, queues)
+}
+
+// Whether those of a pipelined switch are.
+pub fn pipelined_runs_suffice(
+    ports: u64,
+    bookings: &[u32],
+    credits: &[u32],
+    queues: &[u32],
+    copy: &[u32],
+    flight: &[u32],
+) -> bool
+    requires { ⌜ ports ≤ 32 ⌝ }
+    ensures { λ r. ⌜ r ≡ Pipelined.runs-suffice ports (pipelined-runs-of (now (bookings .entry)) (now (credits .entry)) (now (queues .entry)) (now (copy .entry)) (now (flight .entry))) ⌝ }
+{
+    if !direct_runs_suffice(ports, bookings, credits, queues) {
+        return false;
+    }
+    if !holds_pairs(ports, copy) {
+        return false;
+    }
+    (2 * ports * ports) as usize <= flight.len()
+}
