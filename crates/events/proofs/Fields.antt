@@ -16,8 +16,8 @@ use Rattle.wsgs.specs.declared.Field.the-variants.{Number, Bad}
 use Rattle.wsgs.specs.declared.Named.{Named}
 use Rattle.wsgs.specs.declared.Named.the-variants.{Known, Unknown}
 use Rattle.wsgs.specs.declared.Reading.the-variants.{Unreadable}
-use Rattle.wsgs.specs.Text.{comma, reversed, fields-from, fields, look-up, names, read-field, read-record}
-use Rattle.events.specs.Records.{first-comma, reading-of}
+use Rattle.wsgs.specs.Text.{comma, reversed, fields-from, fields, look-up, names, read-field, reading-of, read-record}
+use Rattle.events.specs.Records.{first-comma}
 use Rattle.events.proofs.Texts.{comma-first, comma-later}
 
 -- what stands after place k of a text, as a part of a slice

@@ -1,7 +1,7 @@
 // A byte of the input: one more of the record so far, or the end of the record.
 use crate::Machine;
 use crate::Progress;
-use crate::Stepped;
+use crate::TakenByte;
 use crate::calls::obey;
 use crate::reader::read_record;
 ghost use mathlib.Core.Path.{_≡_};
@@ -51,14 +51,14 @@ fn end_record(
     queues: &mut [u32],
     copy: &mut [u32],
     flight: &mut [u32],
-) -> Stepped
+) -> TakenByte
     requires { ⌜ 65 ≤ length (now buffer) ⌝ }
     requires { ⌜ at + 93 ≤ length (now out) ⌝ }
     ensures { λ r. ⌜ Leaves (record-end (state-of progress (now (buffer .entry)) (now (bookings .entry)) (now (credits .entry)) (now (queues .entry)) (now (copy .entry)) (now (flight .entry)))) (state-of (r .progress) (now (buffer .entry)) (now (bookings .exit)) (now (credits .exit)) (now (queues .exit)) (now (copy .exit)) (now (flight .exit))) (now (out .entry)) at (r .next) (now (out .exit)) ⌝ }
 {
     let machine = progress.machine;
     if !progress.past_heading {
-        return Stepped {
+        return TakenByte {
             progress: ended(machine, 0),
             next: at,
         };
@@ -77,7 +77,7 @@ fn end_record(
         flight,
     );
     let after = obeyed.machine;
-    Stepped {
+    TakenByte {
         progress: ended(after, obeyed.slots),
         next: obeyed.next,
     }
@@ -135,7 +135,7 @@ pub fn take_byte(
     queues: &mut [u32],
     copy: &mut [u32],
     flight: &mut [u32],
-) -> Stepped
+) -> TakenByte
     requires { ⌜ 65 ≤ length (now buffer) ⌝ }
     requires { ⌜ at + 93 ≤ length (now out) ⌝ }
     ensures { λ r. ⌜ Leaves (take-byte (state-of progress (now (buffer .entry)) (now (bookings .entry)) (now (credits .entry)) (now (queues .entry)) (now (copy .entry)) (now (flight .entry))) byte) (state-of (r .progress) (now (buffer .exit)) (now (bookings .exit)) (now (credits .exit)) (now (queues .exit)) (now (copy .exit)) (now (flight .exit))) (now (out .entry)) at (r .next) (now (out .exit)) ⌝ }
@@ -154,5 +154,5 @@ pub fn take_byte(
         );
     }
     let progress = append(progress, byte, buffer);
-    Stepped { progress, next: at }
+    TakenByte { progress, next: at }
 }

@@ -17,9 +17,9 @@ use Rattle.wsgs.specs.Answers.{clock-of}
 use Rattle.wsgs.specs.Pipelined.{Runs, turning, runs-suffice, questions, tick-refusal, copied-at, turns, handed-out, row-cleared, ticked, tick}
 use Rattle.wsgs.proofs.Laws.Tests.{both, in-range}
 use Rattle.wsgs.proofs.Refusals.{all-yes}
+use Rattle.wsgs.proofs.Laws.Listed.{listed-none}
+use Rattle.wsgs.proofs.Laws.Marked.{marked-none}
 use Rattle.scheduler.specs.Turnings.{turning-of, Lent, answering, Left}
-use Rattle.scheduler.proofs.Listed.{listed-none}
-use Rattle.scheduler.proofs.Marked.{marked-none}
 
 -- ports in range are few
 pub few : (n : ℕ) (b : Bool) → b ≡ between 1 32 n → b ≡ true → n ≤ 32
