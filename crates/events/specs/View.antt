@@ -60,6 +60,12 @@ started-machine m form s = pick (eqb (s .refusal) 0) (record { running = true; p
 abbrev pub slots-asked : Bool → ℕ → ℕ
 slots-asked running z = pick (running && between 1 10000 z) z 0
 
+-- an unreadable record has had its line written, and has changed nothing
+pub record Unread (m : Machine) (r : Obeyed) (out : List ℕ) (at : ℕ) (out′ : List ℕ) : Type 0 where
+  pub machine : r .machine ≡ m
+  pub slots : r .slots ≡ 0
+  pub wrote : Wrote out at (refused-line 0 0 0 12) (r .next) out′
+
 -- a record has done at once what it does: to the machine, the slots left to run, and the text written
 pub record Obeys (m : Program.Machine) (reading : Reading) (r : Obeyed) (m′ : Program.Machine) (out : List ℕ) (at : ℕ) (out′ : List ℕ) : Type 0 where
   pub machine : m′ ≡ begun m reading .machine

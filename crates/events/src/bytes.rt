@@ -14,17 +14,19 @@ ghost use Rattle.wsgs.specs.Basics.{pick};
 ghost use Rattle.events.specs.Feeding.{appended, record-end, take-byte};
 ghost use Rattle.events.specs.View.{state-of, ended-progress, Leaves};
 
-// What is kept where a record has ended.
-fn ended(machine: Machine, slots: u64) -> Progress
-    ensures { λ r. ⌜ r ≡ ended-progress machine slots ⌝ }
+// What is left where a record has ended.
+fn ended(machine: Machine, slots: u64, next: usize) -> TakenByte
+    ensures { λ r. ⌜ r .progress ≡ ended-progress machine slots ⌝ }
+    ensures { λ r. ⌜ r .next ≡ next ⌝ }
 {
-    Progress {
+    let progress = Progress {
         machine,
         past_heading: true,
         after_cr: false,
         count: 0,
         slots_left: slots,
-    }
+    };
+    TakenByte { progress, next }
 }
 
 // How many bytes are kept of the record without its CR.
@@ -58,10 +60,7 @@ fn end_record(
 {
     let machine = progress.machine;
     if !progress.past_heading {
-        return TakenByte {
-            progress: ended(machine, 0),
-            next: at,
-        };
+        return ended(machine, 0, at);
     }
     let length = kept_length(progress.count);
     let reading = read_record(&buffer[..length]);
@@ -77,10 +76,7 @@ fn end_record(
         flight,
     );
     let after = obeyed.machine;
-    TakenByte {
-        progress: ended(after, obeyed.slots),
-        next: obeyed.next,
-    }
+    ended(after, obeyed.slots, obeyed.next)
 }
 
 // Keeps a byte of the record so far, if it is one of the first 65.
