@@ -1,16 +1,14 @@
 -- The first 65 bytes of a record are enough to read it, and the buffer keeps them. Assumes nothing.
 use mathlib.Core.Path.{_≡_, refl, sym, ap, _∙_}
-use mathlib.Core.List.{List, [], _∷_, _++_, append-assoc, append-nil}
-use Prim.Native.Nat.{ℕ, zero, suc, _+_, _-_, _≤_, _<_, min}
+use mathlib.Core.List.{List, [], _∷_, _++_, append-assoc}
+use Prim.Native.Nat.{ℕ, suc, _+_, _-_, _≤_, _<_, min}
 use native.Mathlib.Decide.{decLe, decLt}
-use native.Mathlib.Numerals.{add-one}
 use native.Mathlib.Omega.{arith}
-use borrow.Author.Tests.{lt-leb, lt-ltb, le-ltb}
-use lib.ListN.{length, take, set, length-append, length-take, length-set}
+use borrow.Author.Tests.{lt-ltb, le-ltb}
+use lib.ListN.{length, take, length-append, length-set}
 use lib.Seq.{take-all, take-take, take-append-le, take-suc-set, length-take-le}
 use lib.Dec.{ltb}
 use Rattle.wsgs.specs.Basics.{pick}
-use Rattle.wsgs.specs.declared.Reading.the-variants.{Unreadable}
 use Rattle.wsgs.specs.Text.{drop-last, reversed, read-record}
 use Rattle.events.specs.Feeding.{State, appended, kept-record}
 use Rattle.events.proofs.Fields.{over-64}

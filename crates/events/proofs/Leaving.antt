@@ -1,9 +1,8 @@
 -- What a byte, the end of a record and a slot leave, as the code has it. Assumes nothing.
-use mathlib.Core.Path.{_≡_, refl, sym, ap, ap₂, subst⁻¹, _∙_}
+use mathlib.Core.Path.{_≡_, sym, ap, ap₂, subst⁻¹, _∙_}
 use mathlib.Core.Bool.{Bool, true, false, _&&_, _||_, and-false, and-true}
-use mathlib.Core.List.{List, []}
+use mathlib.Core.List.{List}
 use Prim.Native.Nat.{ℕ, _+_, _-_, _≤_, _<_, min}
-use native.Mathlib.Omega.{arith}
 use borrow.Author.Tests.{lt-ltb, le-ltb, le-leb, lt-leb}
 use lib.Dec.{eqb, ltb, leb}
 use lib.ListN.{length, getD, take}
@@ -14,11 +13,10 @@ use Rattle.wsgs.specs.Program
 use Rattle.events.specs.declared.Machine.{Machine}
 use Rattle.events.specs.declared.Progress.{Progress}
 use Rattle.events.specs.declared.Obeyed.{Obeyed}
-use Rattle.events.specs.Lines.{Wrote}
-use Rattle.events.specs.Feeding.{State, Out, ended, appended, slots-of, begun, obeyed, slot-run, slots-after, run-slot, record-end, take-byte, step-out}
+use Rattle.events.specs.Feeding.{State, Out, ended, appended, obeyed, run-slot, record-end, take-byte, step-out}
 use Rattle.events.specs.View.{machine-of, state-of, Obeys, Ran, ended-progress, moved-progress, Leaves}
 use Rattle.events.proofs.Whole.{end-read, end-heading, byte-ends, byte-more}
-use Rattle.events.proofs.Writing.{wrote-none, wrote-is}
+use Rattle.events.proofs.Writing.{wrote-none}
 
 -- an outcome by another name
 pub leaves-is : {o o′ : Out} {s : State} {out out′ : List ℕ} {at next : ℕ} → o ≡ o′ → Leaves o′ s out at next out′ → Leaves o s out at next out′

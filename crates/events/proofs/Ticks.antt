@@ -1,21 +1,21 @@
 -- A slot: the pairs that a tick answers are those that are printed, and what its answer leaves is what the definition of a slot does.
 -- Assumes nothing.
-use mathlib.Core.Path.{_≡_, refl, sym, ap, ap₂, _∙_}
+use mathlib.Core.Path.{_≡_, refl, sym, ap, _∙_}
 use mathlib.Core.Bool.{Bool, true, false}
-use mathlib.Core.List.{List, [], _++_}
-use Prim.Native.Nat.{ℕ, zero, suc, _+_, _-_, _/_, _%_, _^_, _≤_, _<_}
+use mathlib.Core.List.{List}
+use Prim.Native.Nat.{ℕ, zero, suc, _-_, _≤_, _<_}
 use native.Mathlib.Decide.{ℕ-discrete}
 use native.Mathlib.Omega.{arith}
 use borrow.Author.Tests.{eq-eqb, ne-eqb}
-use lib.Dec.{eqb, leb→le}
+use lib.Dec.{eqb}
 use Rattle.wsgs.specs.declared.Answer.{Answer}
 use Rattle.wsgs.specs.declared.Clock.{Clock}
 use Rattle.wsgs.specs.Answers.{answer-of, direct-runs-of, pipelined-runs-of}
-use Rattle.wsgs.specs.Basics.{pick, bit, between}
+use Rattle.wsgs.specs.Basics.{bit, between}
 use Rattle.wsgs.specs.Questions.{first-no}
-use Rattle.wsgs.specs.Steps.{Matching, listed, marked, outputs-of, pass-word-of}
+use Rattle.wsgs.specs.Steps.{Matching, outputs-of, pass-word-of}
 use Rattle.wsgs.specs.Ledger.{slot-of-tick}
-use Rattle.wsgs.specs.Switch.{Switch, Form, direct, pipelined, tick, Outcome, apply, of-direct, of-pipelined}
+use Rattle.wsgs.specs.Switch.{Switch, pipelined, tick, Outcome, apply, of-direct, of-pipelined}
 use Rattle.wsgs.specs.Program.{Step, refusal-of, match-lines}
 use Rattle.wsgs.specs.Program
 use Rattle.wsgs.specs.Direct
@@ -27,7 +27,7 @@ use Rattle.wsgs.proofs.Laws.Marked.{marked-bit}
 use Rattle.clock.specs.declared.Stepped.{Stepped}
 use Rattle.events.specs.declared.Machine.{Machine}
 use Rattle.events.specs.declared.Obeyed.{Obeyed}
-use Rattle.events.specs.Lines.{Wrote, is-set, matching-of, match-line}
+use Rattle.events.specs.Lines.{Wrote, matching-of}
 use Rattle.events.specs.Feeding.{ticked, slot-run, slots-after}
 use Rattle.events.specs.View.{form-of, machine-of, refusal-text, with-clock, answer-text, Answers, Ran}
 use Rattle.events.proofs.Printing.{matches-suc}

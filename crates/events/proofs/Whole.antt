@@ -1,22 +1,22 @@
 -- What the calls of `feed` print for an input, with what is fed at its end, is what the program prints. Assumes nothing.
 use mathlib.Core.Path.{_≡_, refl, sym, ap, _∙_}
-use mathlib.Core.Bool.{Bool, true, false, _&&_, and-false, false≢true}
+use mathlib.Core.Bool.{Bool, true, false, _&&_, and-false}
 use mathlib.Core.List.{List, [], _∷_, _++_, append-assoc, append-nil}
-use Prim.Native.Nat.{ℕ, zero, suc, _+_, _≤_, _<_, min}
+use Prim.Native.Nat.{ℕ, _≤_, _<_}
 use native.Mathlib.Decide.{decLt}
 use native.Mathlib.Omega.{arith}
 use borrow.Author.Tests.{lt-ltb, le-ltb, eq-eqb, ne-eqb}
-use lib.Dec.{eqb, ltb}
+use lib.Dec.{eqb}
 use lib.ListN.{length, replicate}
 use Rattle.wsgs.specs.declared.Operation.the-variants.{Start, Pipe, Book, Release, Arrive, Tick}
 use Rattle.wsgs.specs.declared.Reading.{Reading}
 use Rattle.wsgs.specs.declared.Reading.the-variants.{Asks, Unreadable}
 use Rattle.wsgs.specs.Basics.{pick, between}
 use Rattle.wsgs.specs.Text.{CR, LF, drop-last, reversed, records-from, records, read-record, heading}
-use Rattle.wsgs.specs.Program.{Machine, Step, run-ticks, obey, obey-all, skip-heading, program, fresh}
-use Rattle.events.specs.Feeding.{State, Out, after, with-machine, ended, appended, slots-of, begun, obeyed, kept-record, record-end, take-byte, drained, finish, ending, Calls, Begins}
+use Rattle.wsgs.specs.Program.{Machine, Step, run-ticks, obey, obey-all, skip-heading, program}
+use Rattle.events.specs.Feeding.{State, Out, after, ended, appended, slots-of, begun, obeyed, kept-record, record-end, take-byte, drained, finish, ending, Calls, Begins}
 use Rattle.events.specs.View.{state-of, first-progress}
-use Rattle.events.proofs.Feeding.{after-after, drained-first, drained-none, finish-byte, finish-none, calls-print, and-parts}
+use Rattle.events.proofs.Feeding.{after-after, drained-first, drained-none, finish-byte, finish-none, calls-print}
 use Rattle.events.proofs.Kept.{Holds, holds-none, holds-more, reads-same}
 
 -- a tick record that is obeyed by its slots
