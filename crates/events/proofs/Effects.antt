@@ -1,12 +1,12 @@
 -- What a record does at once, by its operation: what the call does, and the line of a refusal. Assumes nothing.
 use mathlib.Core.Path.{_≡_, refl, sym, ap, ap₂, subst⁻¹, _∙_}
-use mathlib.Core.Bool.{Bool, true, false, _&&_, and-false}
+use mathlib.Core.Bool.{Bool, true, false, and-false}
 use mathlib.Core.List.{List, []}
 use Prim.Native.Nat.{ℕ, zero, suc, _≤_, _<_}
-use native.Mathlib.Decide.{ℕ-discrete, decLe}
+use native.Mathlib.Decide.{ℕ-discrete}
 use native.Mathlib.Omega.{arith}
-use borrow.Author.Tests.{eq-eqb, ne-eqb, le-leb, lt-leb}
-use lib.Dec.{eqb, leb}
+use borrow.Author.Tests.{eq-eqb, ne-eqb, lt-leb}
+use lib.Dec.{leb}
 use Rattle.wsgs.specs.declared.Operation.{Operation}
 use Rattle.wsgs.specs.declared.Operation.the-variants.{Start, Pipe, Book, Release, Arrive, Tick}
 use Rattle.wsgs.specs.declared.Reading.{Reading}
@@ -18,7 +18,7 @@ use Rattle.wsgs.specs.Book.{book-refusal, book-words, release-refusal, release-
 use Rattle.wsgs.specs.Direct
 use Rattle.wsgs.specs.Pipelined
 use Rattle.wsgs.specs.Switch.{Switch, Form, direct, pipelined, Call, start, book, release, arrive, Outcome, apply}
-use Rattle.wsgs.specs.Program.{Step, refusal-of, refused-line, unread, run-call, run-ticks, obey}
+use Rattle.wsgs.specs.Program.{Step, refusal-of, unread, run-call, run-ticks, obey}
 use Rattle.wsgs.specs.Program
 use Rattle.wsgs.proofs.Refusals.{unchanged}
 use Rattle.wsgs.proofs.Laws.Tests.{range-in}
@@ -26,7 +26,7 @@ use Rattle.events.specs.declared.Machine.{Machine}
 use Rattle.events.specs.declared.Obeyed.{Obeyed}
 use Rattle.events.specs.Lines.{Wrote}
 use Rattle.events.specs.Feeding.{slots-of, begun}
-use Rattle.events.specs.View.{form-of, machine-of, refusal-text, call-text, started-machine, slots-asked, Obeys}
+use Rattle.events.specs.View.{form-of, machine-of, refusal-text, call-text, started-machine, slots-asked, Unread, Obeys}
 use Rattle.events.proofs.Whole.{begun-slots, begun-once}
 use Rattle.events.proofs.Writing.{wrote-is}
 
@@ -118,12 +118,42 @@ module _ (m : Machine) (a c q p f : List ℕ) where
           wrote = wrote-is w (t ∙ sym (ap (λ (s : Step). s .printed) b));
         }
 
-  module _ {out out′ : List ℕ} {at next : ℕ} where
-    -- an unreadable one
-    pub obeys-unread : Wrote out at (refused-line 0 0 0 12) next out′ → Obeys M Unreadable (record { machine = m; slots = 0; next = next }) M out at out′
-    unfolding obey
-    obeys-unread w = obeys Unreadable refl (unread M) refl refl w refl
+  -- an unreadable one, and one that a machine which does not run cannot obey
+  module _ {r : Obeyed} {out out′ : List ℕ} {at : ℕ} (u : Unread m r out at out′) where
+    abbrev Nothing : Reading → Type 0
+    Nothing reading = Obeys M reading r (machine-of (r .machine) a c q p f) out at out′
 
+    obeys-nothing : (reading : Reading) → slots-of M reading ≡ 0 → obey M reading ≡ unread M → Nothing reading
+    obeys-nothing reading none is =
+        let b : begun M reading ≡ unread M = begun-once M reading none ∙ is in
+        record {
+          machine = ap (λ (k : Machine). machine-of k a c q p f) (u .machine) ∙ sym (ap (λ (s : Step). s .machine) b);
+          slots = u .slots ∙ sym none;
+          wrote = wrote-is (u .wrote) (sym (ap (λ (s : Step). s .printed) b));
+        }
+
+    pub obeys-unread : Nothing Unreadable
+    unfolding obey
+    obeys-unread = obeys-nothing Unreadable refl refl
+
+    module _ (x y z : ℕ) (e : m .running ≡ false) where
+      pub idle-book : Nothing (Asks Book x y z)
+      unfolding obey
+      idle-book = obeys-nothing (Asks Book x y z) refl (rw e)
+
+      pub idle-release : Nothing (Asks Release x y z)
+      unfolding obey
+      idle-release = obeys-nothing (Asks Release x y z) refl (rw e)
+
+      pub idle-arrive : Nothing (Asks Arrive x y z)
+      unfolding obey
+      idle-arrive = obeys-nothing (Asks Arrive x y z) refl (rw e)
+
+      pub idle-tick : Nothing (Asks Tick x y z)
+      unfolding obey
+      idle-tick = obeys-nothing (Asks Tick x y z) (rw e) (rw e)
+
+  module _ {out out′ : List ℕ} {at next : ℕ} where
     module _ (x y z : ℕ) where
       -- a start and a pipe
       pub obeys-start : Wrote out at (call-text m x y (result (start direct x y) x y .refusal)) next out′
@@ -171,24 +201,6 @@ module _ (m : Machine) (a c q p f : List ℕ) where
         obeys-range e w =
             let b : between 1 10000 z ≡ false = no-range z (rw r at e) in
             obeys (Asks Tick x y z) e (record { machine = M; printed = refusal-of M x y 6 }) (range-obeyed M x y z r b) refl w refl
-
-      -- and of one that does not
-      module _ (r : m .running ≡ false) (w : Wrote out at (refused-line 0 0 0 12) next out′) where
-        pub idle-book : Obeys M (Asks Book x y z) (record { machine = m; slots = 0; next = next }) M out at out′
-        unfolding obey
-        idle-book = obeys (Asks Book x y z) refl (unread M) (rw r) refl w refl
-
-        pub idle-release : Obeys M (Asks Release x y z) (record { machine = m; slots = 0; next = next }) M out at out′
-        unfolding obey
-        idle-release = obeys (Asks Release x y z) refl (unread M) (rw r) refl w refl
-
-        pub idle-arrive : Obeys M (Asks Arrive x y z) (record { machine = m; slots = 0; next = next }) M out at out′
-        unfolding obey
-        idle-arrive = obeys (Asks Arrive x y z) refl (unread M) (rw r) refl w refl
-
-        pub idle-tick : Obeys M (Asks Tick x y z) (record { machine = m; slots = 0; next = next }) M out at out′
-        unfolding obey
-        idle-tick = obeys (Asks Tick x y z) (rw r) (unread M) (rw r) refl w refl
 
       -- a tick record whose slots are left to run
       pub obeys-tick : (n : ℕ) → n ≡ slots-asked (m .running) z → 0 < n → Wrote out at [] next out′

@@ -3,18 +3,17 @@
 use mathlib.Core.Path.{_≡_, refl, sym, ap, _∙_}
 use mathlib.Core.Bool.{Bool, true, false, _&&_, _||_, false≢true}
 use mathlib.Core.List.{List, [], _∷_, _++_, append-assoc, append-nil}
-use Prim.Native.Nat.{ℕ, zero, suc, _+_, _-_, _*_, _≤_, _<_}
+use Prim.Native.Nat.{ℕ, zero, suc, _+_, _-_, _≤_, _<_}
 use native.Mathlib.Decide.{ℕ-discrete}
 use native.Mathlib.Numerals.{add-one}
 use native.Mathlib.Omega.{arith}
 use borrow.Author.Tests.{lt-ltb, le-ltb, ltb-true, leb-true}
 use lib.Dec.{eqb, leb, ltb}
-use lib.ListN.{length, getD, take, drop, length-append}
+use lib.ListN.{length, getD, drop}
 use lib.Seq.{drop-cons}
-use Rattle.wsgs.specs.Basics.{pick}
 use Rattle.wsgs.specs.Ledger.{slot-of-tick}
-use Rattle.wsgs.specs.Switch.{Switch, Outcome, apply, tick}
-use Rattle.wsgs.specs.Program.{Machine, Step, run-ticks, match-lines, refusal-of}
+use Rattle.wsgs.specs.Switch.{Outcome, apply, tick}
+use Rattle.wsgs.specs.Program.{Machine, Step, run-ticks, match-lines}
 use Rattle.events.specs.Feeding.{State, Out, after, with-machine, slot-run, slots-after, run-slot, take-byte, drained, finish, Fed, noted, most-printed, goes-on, step-out, step, steps, work, fed, Calls, none, call}
 
 -- what is printed before what is printed before

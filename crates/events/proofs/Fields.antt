@@ -1,23 +1,17 @@
 -- A record's fields, cut off one after the other at the first comma, and what the record then says. Assumes nothing.
-use mathlib.Core.Path.{_≡_, refl, sym, ap, _∙_}
-use mathlib.Core.Bool.{Bool, true, false}
+use mathlib.Core.Path.{_≡_, refl, _∙_}
 use mathlib.Core.List.{List, [], _∷_}
-use Prim.Native.Nat.{ℕ, zero, suc, _+_, _-_, _≤_, _<_}
+use Prim.Native.Nat.{ℕ, suc, _+_, _-_, _≤_, _<_}
 use native.Mathlib.Decide.{ℕ-discrete}
-use native.Mathlib.Nat.{not-suc-le-zero, le-of-suc-le-suc}
+use native.Mathlib.Nat.{not-suc-le-zero}
 use native.Mathlib.Numerals.{add-one}
 use native.Mathlib.Omega.{arith}
 use borrow.Author.Tests.{eq-eqb, ne-eqb, le-leb, lt-leb}
-use lib.Dec.{eqb}
 use lib.ListN.{length, take, drop, length-drop}
 use lib.Seq.{take-all}
-use Rattle.wsgs.specs.declared.Field.{Field}
-use Rattle.wsgs.specs.declared.Field.the-variants.{Number, Bad}
-use Rattle.wsgs.specs.declared.Named.{Named}
-use Rattle.wsgs.specs.declared.Named.the-variants.{Known, Unknown}
 use Rattle.wsgs.specs.declared.Reading.the-variants.{Unreadable}
-use Rattle.wsgs.specs.Text.{comma, reversed, fields-from, fields, look-up, names, read-field, read-record}
-use Rattle.events.specs.Records.{first-comma, reading-of}
+use Rattle.wsgs.specs.Text.{comma, reversed, fields-from, fields, look-up, names, read-field, reading-of, read-record}
+use Rattle.events.specs.Records.{first-comma}
 use Rattle.events.proofs.Texts.{comma-first, comma-later}
 
 -- what stands after place k of a text, as a part of a slice

@@ -1,17 +1,15 @@
 -- The first 65 bytes of a record are enough to read it, and the buffer keeps them. Assumes nothing.
 use mathlib.Core.Path.{_≡_, refl, sym, ap, _∙_}
-use mathlib.Core.List.{List, [], _∷_, _++_, append-assoc, append-nil}
-use Prim.Native.Nat.{ℕ, zero, suc, _+_, _-_, _≤_, _<_, min}
+use mathlib.Core.List.{List, [], _∷_, _++_, append-assoc}
+use Prim.Native.Nat.{ℕ, suc, _+_, _-_, _≤_, _<_, min}
 use native.Mathlib.Decide.{decLe, decLt}
-use native.Mathlib.Numerals.{add-one}
 use native.Mathlib.Omega.{arith}
-use borrow.Author.Tests.{lt-leb, lt-ltb, le-ltb}
-use lib.ListN.{length, take, set, length-append, length-take, length-set}
+use borrow.Author.Tests.{lt-ltb, le-ltb}
+use lib.ListN.{length, take, length-append, length-set}
 use lib.Seq.{take-all, take-take, take-append-le, take-suc-set, length-take-le}
 use lib.Dec.{ltb}
 use Rattle.wsgs.specs.Basics.{pick}
-use Rattle.wsgs.specs.declared.Reading.the-variants.{Unreadable}
-use Rattle.wsgs.specs.Text.{reversed, read-record}
+use Rattle.wsgs.specs.Text.{drop-last, reversed, read-record}
 use Rattle.events.specs.Feeding.{State, appended, kept-record}
 use Rattle.events.proofs.Fields.{over-64}
 
@@ -39,11 +37,6 @@ first-65 r = go (decLe (length r) 65)
     go (yes h) = rw (take-all 65 r h)
     go (no h) = sym (over-64 (take 65 r) (omega (arith, length-take-le {A = ℕ} 65 r (omega arith)))) ∙ over-64 r (omega arith)
 
--- the record without its last byte
-abbrev pub without-last : List ℕ → List ℕ
-without-last [] = []
-without-last (x ∷ xs) = xs
-
 -- the state keeps a record begun, whose last byte stands first
 pub record Holds (s : State) (begun : List ℕ) : Type 0 where
   pub count : s .count ≡ min (length begun) 66
@@ -59,7 +52,7 @@ take-min k r = go (decLe (length r) k)
     go (no h) = let e : min (length r) k ≡ k = omega arith in rw e
 
 -- what is kept reads as the record does
-pub reads-same : (s : State) (begun : List ℕ) → Holds s begun → read-record (kept-record s) ≡ read-record (reversed (without-last begun) [])
+pub reads-same : (s : State) (begun : List ℕ) → Holds s begun → read-record (kept-record s) ≡ read-record (reversed (drop-last begun) [])
 unfolding reversed
 reads-same s [] h = rw (h .count)
 reads-same s (y ∷ ys) h =

@@ -1,9 +1,8 @@
 -- What a byte, the end of a record and a slot leave, as the code has it. Assumes nothing.
-use mathlib.Core.Path.{_≡_, refl, sym, ap, ap₂, subst⁻¹, _∙_}
+use mathlib.Core.Path.{_≡_, sym, ap, ap₂, subst⁻¹, _∙_}
 use mathlib.Core.Bool.{Bool, true, false, _&&_, _||_, and-false, and-true}
-use mathlib.Core.List.{List, []}
+use mathlib.Core.List.{List}
 use Prim.Native.Nat.{ℕ, _+_, _-_, _≤_, _<_, min}
-use native.Mathlib.Omega.{arith}
 use borrow.Author.Tests.{lt-ltb, le-ltb, le-leb, lt-leb}
 use lib.Dec.{eqb, ltb, leb}
 use lib.ListN.{length, getD, take}
@@ -14,11 +13,10 @@ use Rattle.wsgs.specs.Program
 use Rattle.events.specs.declared.Machine.{Machine}
 use Rattle.events.specs.declared.Progress.{Progress}
 use Rattle.events.specs.declared.Obeyed.{Obeyed}
-use Rattle.events.specs.Lines.{Wrote}
-use Rattle.events.specs.Feeding.{State, Out, ended, appended, slots-of, begun, obeyed, slot-run, slots-after, run-slot, record-end, take-byte, step-out}
+use Rattle.events.specs.Feeding.{State, Out, ended, appended, obeyed, run-slot, record-end, take-byte, step-out}
 use Rattle.events.specs.View.{machine-of, state-of, Obeys, Ran, ended-progress, moved-progress, Leaves}
 use Rattle.events.proofs.Whole.{end-read, end-heading, byte-ends, byte-more}
-use Rattle.events.proofs.Writing.{wrote-none, wrote-is}
+use Rattle.events.proofs.Writing.{wrote-none}
 
 -- an outcome by another name
 pub leaves-is : {o o′ : Out} {s : State} {out out′ : List ℕ} {at next : ℕ} → o ≡ o′ → Leaves o′ s out at next out′ → Leaves o s out at next out′
@@ -29,23 +27,23 @@ module _ (k : Progress) (b a c q p f : List ℕ) where
   S = state-of k b a c q p f
 
   -- THE END OF THE HEADING, and of any other record
-  pub heading-left : {out : List ℕ} {at : ℕ} (k′ : Progress) → k .«past_heading» ≡ false → k′ ≡ ended-progress (k .machine) 0 → at ≤ length out
-      → Leaves (record-end S) (state-of k′ b a c q p f) out at at out
-  heading-left {out = out} {at = at} k′ h e l =
-      leaves-is (end-heading S h) (record { state = ap (λ (k : Progress). state-of k b a c q p f) e; wrote = wrote-none out at l })
+  pub heading-left : {out : List ℕ} {at : ℕ} (k′ : Progress) (next : ℕ) → k .«past_heading» ≡ false → k′ ≡ ended-progress (k .machine) 0 → next ≡ at
+      → at ≤ length out → Leaves (record-end S) (state-of k′ b a c q p f) out at next out
+  heading-left {out = out} {at = at} k′ next h e en l =
+      leaves-is (end-heading S h) (record { state = ap (λ (k : Progress). state-of k b a c q p f) e; wrote = rw en (wrote-none out at l) })
 
-  pub record-left : {out out′ : List ℕ} {at : ℕ} (n : ℕ) (reading : Reading) (r : Obeyed) (k′ : Progress) (a′ c′ q′ p′ f′ : List ℕ)
+  pub record-left : {out out′ : List ℕ} {at : ℕ} (n : ℕ) (reading : Reading) (r : Obeyed) (k′ : Progress) (next : ℕ) (a′ c′ q′ p′ f′ : List ℕ)
       → k .«past_heading» ≡ true → n ≡ min (k .count - 1) 65 → reading ≡ read-record (take n b)
       → Obeys (machine-of (k .machine) a c q p f) reading r (machine-of (r .machine) a′ c′ q′ p′ f′) out at out′
-      → k′ ≡ ended-progress (r .machine) (r .slots) → Leaves (record-end S) (state-of k′ b a′ c′ q′ p′ f′) out at (r .next) out′
-  record-left {out} {out′} {at} n reading r k′ a′ c′ q′ p′ f′ h en er o ek =
+      → k′ ≡ ended-progress (r .machine) (r .slots) → next ≡ r .next → Leaves (record-end S) (state-of k′ b a′ c′ q′ p′ f′) out at next out′
+  record-left {out} {out′} {at} n reading r k′ next a′ c′ q′ p′ f′ h en er o ek el =
       let is : reading ≡ read-record (take (min (k .count - 1) 65) b) = er ∙ ap (λ n. read-record (take n b)) en in
       leaves-is (end-read S h ∙ ap (obeyed S) (sym is))
       (record {
         state =
             ap (λ (k : Progress). state-of k b a′ c′ q′ p′ f′) ek
             ∙ ap₂ (λ (m : Program.Machine) (n : ℕ). ended S m n) (o .machine) (o .slots);
-        wrote = o .wrote;
+        wrote = rw el (o .wrote);
       })
 
   -- A BYTE
@@ -58,31 +56,27 @@ module _ (k : Progress) (b a c q p f : List ℕ) where
         → Leaves (take-byte S x) s out at at out
     byte-kept {out = out} {at = at} is e t h l = leaves-is (byte-more S x (sym e ∙ t)) (record { state = h; wrote = wrote-none out at l })
 
+  -- A SLOT
+  pub slot-left : {out out′ : List ℕ} {at : ℕ} (r : Obeyed) (k′ : Progress) (c′ q′ p′ f′ : List ℕ)
+      → Ran (machine-of (k .machine) a c q p f) (k .«slots_left») r (machine-of (r .machine) a c′ q′ p′ f′) out at out′
+      → k′ ≡ moved-progress k (r .machine) (r .slots) → Leaves (run-slot S) (state-of k′ b a c′ q′ p′ f′) out at (r .next) out′
+  slot-left r k′ c′ q′ p′ f′ o ek =
+      record {
+        state =
+            ap (λ (k : Progress). state-of k b a c′ q′ p′ f′) ek
+            ∙ ap₂ (λ (m : Program.Machine) (n : ℕ). record { machine = m; past-heading = k .«past_heading»; after-CR = k .«after_cr»; count = k .count; buffer = b; slots-left = n }) (o .machine) (o .slots);
+        wrote = o .wrote;
+      }
+
   -- A STEP
-  module _ (block : List ℕ) (taken : ℕ) where
-    step-ran : 0 < k .«slots_left» → step-out block S taken ≡ run-slot S
+  module _ (block : List ℕ) (taken : ℕ) {s : State} {out out′ : List ℕ} {at next : ℕ} where
+    pub step-ran : 0 < k .«slots_left» → Leaves (run-slot S) s out at next out′ → Leaves (step-out block S taken) s out at next out′
     unfolding step-out
-    step-ran l = rw (lt-ltb 0 (k .«slots_left») l, step-out)
+    step-ran l h = leaves-is (rw (lt-ltb 0 (k .«slots_left») l, step-out)) h
 
-    step-took : k .«slots_left» ≤ 0 → step-out block S taken ≡ take-byte S (getD block taken 0)
+    pub step-took : k .«slots_left» ≤ 0 → Leaves (take-byte S (getD block taken 0)) s out at next out′ → Leaves (step-out block S taken) s out at next out′
     unfolding step-out
-    step-took l = rw (le-ltb 0 (k .«slots_left») l, step-out)
-
-    pub slot-left : {out out′ : List ℕ} {at : ℕ} (r : Obeyed) (k′ : Progress) (c′ q′ p′ f′ : List ℕ) → 0 < k .«slots_left»
-        → Ran (machine-of (k .machine) a c q p f) (k .«slots_left») r (machine-of (r .machine) a c′ q′ p′ f′) out at out′
-        → k′ ≡ moved-progress k (r .machine) (r .slots) → Leaves (step-out block S taken) (state-of k′ b a c′ q′ p′ f′) out at (r .next) out′
-    slot-left r k′ c′ q′ p′ f′ l o ek =
-        leaves-is (step-ran l)
-        (record {
-          state =
-              ap (λ (k : Progress). state-of k b a c′ q′ p′ f′) ek
-              ∙ ap₂ (λ (m : Program.Machine) (n : ℕ). record { machine = m; past-heading = k .«past_heading»; after-CR = k .«after_cr»; count = k .count; buffer = b; slots-left = n }) (o .machine) (o .slots);
-          wrote = o .wrote;
-        })
-
-    pub byte-left : {s : State} {out out′ : List ℕ} {at next : ℕ} → k .«slots_left» ≤ 0 → Leaves (take-byte S (getD block taken 0)) s out at next out′
-        → Leaves (step-out block S taken) s out at next out′
-    byte-left l h = leaves-is (step-took l) h
+    step-took l h = leaves-is (rw (le-ltb 0 (k .«slots_left») l, step-out)) h
 
 -- the bytes taken after a step
 module _ (left taken : ℕ) where

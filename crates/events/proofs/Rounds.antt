@@ -15,7 +15,7 @@ use Rattle.wsgs.specs.Basics.{pick, between}
 use Rattle.wsgs.specs.Text.{LF, read-record}
 use Rattle.wsgs.specs.Program.{Machine}
 use Rattle.wsgs.proofs.Laws.Tests.{in-range}
-use Rattle.events.specs.Feeding.{State, Out, slots-of, obeyed, kept-record, record-end, ticked, slots-after, run-slot, take-byte, Fed, most-printed, goes-on, step-out, step-taken, step, steps, work, fed}
+use Rattle.events.specs.Feeding.{State, slots-of, kept-record, record-end, ticked, slots-after, take-byte, Fed, most-printed, goes-on, step-out, step-taken, step, steps, work, fed}
 use Rattle.events.specs.Lines.{Wrote, written}
 use Rattle.events.specs.View.{Leaves}
 use Rattle.events.proofs.Feeding.{Ready, ready, step-slot, step-byte}

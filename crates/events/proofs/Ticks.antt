@@ -1,34 +1,35 @@
 -- A slot: the pairs that a tick answers are those that are printed, and what its answer leaves is what the definition of a slot does.
 -- Assumes nothing.
-use mathlib.Core.Path.{_≡_, refl, sym, ap, ap₂, _∙_}
+use mathlib.Core.Path.{_≡_, refl, sym, ap, _∙_}
 use mathlib.Core.Bool.{Bool, true, false}
-use mathlib.Core.List.{List, [], _++_}
-use Prim.Native.Nat.{ℕ, zero, suc, _+_, _-_, _/_, _%_, _^_, _≤_, _<_}
+use mathlib.Core.List.{List}
+use Prim.Native.Nat.{ℕ, zero, suc, _-_, _≤_, _<_}
 use native.Mathlib.Decide.{ℕ-discrete}
 use native.Mathlib.Omega.{arith}
 use borrow.Author.Tests.{eq-eqb, ne-eqb}
-use lib.Dec.{eqb, leb→le}
+use lib.Dec.{eqb}
+use Rattle.wsgs.specs.declared.Answer.{Answer}
 use Rattle.wsgs.specs.declared.Clock.{Clock}
-use Rattle.wsgs.specs.declared.Ticked.{Ticked}
-use Rattle.wsgs.specs.Answers.{ticked-of, clock-of, direct-runs-of, pipelined-runs-of}
-use Rattle.wsgs.specs.Basics.{pick, bit, between}
+use Rattle.wsgs.specs.Answers.{answer-of, direct-runs-of, pipelined-runs-of}
+use Rattle.wsgs.specs.Basics.{bit, between}
 use Rattle.wsgs.specs.Questions.{first-no}
-use Rattle.wsgs.specs.Steps.{Matching, listed, marked, outputs-of, pass-word-of}
+use Rattle.wsgs.specs.Steps.{Matching, outputs-of, pass-word-of}
 use Rattle.wsgs.specs.Ledger.{slot-of-tick}
-use Rattle.wsgs.specs.Switch.{Switch, Form, direct, pipelined, tick, Outcome, apply, of-direct, of-pipelined}
+use Rattle.wsgs.specs.Switch.{Switch, pipelined, tick, Outcome, apply, of-direct, of-pipelined}
 use Rattle.wsgs.specs.Program.{Step, refusal-of, match-lines}
 use Rattle.wsgs.specs.Program
 use Rattle.wsgs.specs.Direct
 use Rattle.wsgs.specs.Pipelined
 use Rattle.wsgs.proofs.Refusals.{unchanged}
 use Rattle.wsgs.proofs.Laws.Tests.{in-range}
-use Rattle.scheduler.proofs.Listed.{listed-at}
-use Rattle.scheduler.proofs.Marked.{marked-bit}
+use Rattle.wsgs.proofs.Laws.Listed.{listed-at}
+use Rattle.wsgs.proofs.Laws.Marked.{marked-bit}
+use Rattle.clock.specs.declared.Stepped.{Stepped}
 use Rattle.events.specs.declared.Machine.{Machine}
 use Rattle.events.specs.declared.Obeyed.{Obeyed}
-use Rattle.events.specs.Lines.{Wrote, is-set, matching-of, match-line}
+use Rattle.events.specs.Lines.{Wrote, matching-of}
 use Rattle.events.specs.Feeding.{ticked, slot-run, slots-after}
-use Rattle.events.specs.View.{form-of, machine-of, refusal-text, advanced, answer-text, Answers, Ran}
+use Rattle.events.specs.View.{form-of, machine-of, refusal-text, with-clock, answer-text, Answers, Ran}
 use Rattle.events.proofs.Printing.{matches-suc}
 use Rattle.events.proofs.Writing.{wrote-is}
 
@@ -56,23 +57,26 @@ module _ (slot : ℕ) (a : Matching) where
       matches-suc slot answered x
       ∙ rw (same-lines x (omega arith), same-output x (omega arith), same-first x (omega arith)) (sym (matches-suc slot a x))
 
--- A TICK of the direct form: one that is accepted has few ports; the clock keeps its sizes, and the book stays
+-- A TICK of the direct form: the clock keeps its ports, few where it is accepted, and the book stays
 module _ (c : Clock) (w : Direct.Runs) where
-  pub direct-few : Direct.tick c w .refusal ≡ 0 → c .ports ≤ 32
+  direct-ports : Direct.tick c w .clock .ports ≡ c .ports
+  unfolding Direct.tick Direct.ticked
+  direct-ports = go (eqb (Direct.tick-refusal c w) 0) refl
+    where
+      go : (b : Bool) → eqb (Direct.tick-refusal c w) 0 ≡ b → Direct.tick c w .clock .ports ≡ c .ports
+      go true e = rw e
+      go false e = rw e
+
+  direct-small : Direct.tick c w .refusal ≡ 0 → c .ports ≤ 32
   unfolding Direct.tick Direct.tick-refusal first-no
-  direct-few h = go (between 1 32 (c .ports)) refl
+  direct-small h = go (between 1 32 (c .ports)) refl
     where
       go : (b : Bool) → between 1 32 (c .ports) ≡ b → c .ports ≤ 32
       go true e = in-range 1 32 (c .ports) (rw e tt) .1
       go false e = let z : _≡_ {A = ℕ} 1 0 = rw e at h in absurd (omega arith)
 
-  direct-clock : Direct.tick c w .clock ≡ clock-of (c .ports) (c .frame) (Direct.tick c w .clock .slot)
-  unfolding Direct.tick Direct.ticked
-  direct-clock = go (eqb (Direct.tick-refusal c w) 0) refl
-    where
-      go : (b : Bool) → eqb (Direct.tick-refusal c w) 0 ≡ b → Direct.tick c w .clock ≡ clock-of (c .ports) (c .frame) (Direct.tick c w .clock .slot)
-      go true e = rw e
-      go false e = rw e
+  pub direct-few : Direct.tick c w .refusal ≡ 0 → Direct.tick c w .clock .ports ≤ 32
+  direct-few h = rw direct-ports (direct-small h)
 
   direct-book : Direct.tick c w .runs .bookings ≡ w .bookings
   unfolding Direct.tick Direct.ticked
@@ -84,22 +88,24 @@ module _ (c : Clock) (w : Direct.Runs) where
 
 -- and of the pipelined form
 module _ (c : Clock) (w : Pipelined.Runs) where
-  pub pipelined-few : Pipelined.tick c w .refusal ≡ 0 → c .ports ≤ 32
+  pipelined-ports : Pipelined.tick c w .clock .ports ≡ c .ports
+  unfolding Pipelined.tick Pipelined.ticked
+  pipelined-ports = go (eqb (Pipelined.tick-refusal c w) 0) refl
+    where
+      go : (b : Bool) → eqb (Pipelined.tick-refusal c w) 0 ≡ b → Pipelined.tick c w .clock .ports ≡ c .ports
+      go true e = rw e
+      go false e = rw e
+
+  pipelined-small : Pipelined.tick c w .refusal ≡ 0 → c .ports ≤ 32
   unfolding Pipelined.tick Pipelined.tick-refusal first-no
-  pipelined-few h = go (between 1 32 (c .ports)) refl
+  pipelined-small h = go (between 1 32 (c .ports)) refl
     where
       go : (b : Bool) → between 1 32 (c .ports) ≡ b → c .ports ≤ 32
       go true e = in-range 1 32 (c .ports) (rw e tt) .1
       go false e = let z : _≡_ {A = ℕ} 1 0 = rw e at h in absurd (omega arith)
 
-  pipelined-clock : Pipelined.tick c w .clock ≡ clock-of (c .ports) (c .frame) (Pipelined.tick c w .clock .slot)
-  unfolding Pipelined.tick Pipelined.ticked
-  pipelined-clock = go (eqb (Pipelined.tick-refusal c w) 0) refl
-    where
-      go : (b : Bool) → eqb (Pipelined.tick-refusal c w) 0 ≡ b
-          → Pipelined.tick c w .clock ≡ clock-of (c .ports) (c .frame) (Pipelined.tick c w .clock .slot)
-      go true e = rw e
-      go false e = rw e
+  pub pipelined-few : Pipelined.tick c w .refusal ≡ 0 → Pipelined.tick c w .clock .ports ≤ 32
+  pipelined-few h = rw pipelined-ports (pipelined-small h)
 
   pipelined-book : Pipelined.tick c w .runs .bookings ≡ w .bookings
   unfolding Pipelined.tick Pipelined.ticked
@@ -136,11 +142,9 @@ module _ (M : Program.Machine) (o : Outcome) (is : ticked M ≡ o) where
   stays d = sym (ap (λ (x : Outcome). x .after) is) ∙ unchanged (tick (M .form)) (M .switch) (λ e. d (sym (ap (λ (x : Outcome). x .refusal) is) ∙ e)) .0
 
 -- what its answer leaves is what a slot does
-module _ (m : Machine) (a c q p f : List ℕ) (n : ℕ) (o : Outcome) (is : ticked (machine-of m a c q p f) ≡ o) (t : Ticked)
-    (refusal : t .refusal ≡ o .refusal) (slot : t .slot ≡ o .after .clock .slot) (outputs : t .outputs ≡ outputs-of (o .matching))
-    (passes : t .«first_pass» ≡ pass-word-of (o .matching))
-    (clock : o .after .clock ≡ clock-of (m .clock .ports) (m .clock .frame) (o .after .clock .slot))
-    (few : o .refusal ≡ 0 → m .clock .ports ≤ 32) where
+module _ (m : Machine) (a c q p f : List ℕ) (n : ℕ) (o : Outcome) (is : ticked (machine-of m a c q p f) ≡ o) (t : Stepped)
+    (refusal : t .answer .refusal ≡ o .refusal) (clock : t .clock ≡ o .after .clock) (outputs : t .answer .outputs ≡ outputs-of (o .matching))
+    (passes : t .answer .«first_pass» ≡ pass-word-of (o .matching)) (few : o .refusal ≡ 0 → o .after .clock .ports ≤ 32) where
   abbrev M : Program.Machine
   M = machine-of m a c q p f
 
@@ -151,24 +155,20 @@ module _ (m : Machine) (a c q p f : List ℕ) (n : ℕ) (o : Outcome) (is : tick
   module _ (r : Obeyed) {out out′ : List ℕ} {at : ℕ} (w : Answers m n t r out at out′) where
     ran-yes : o .refusal ≡ 0 → Ran M n r (with-runs (r .machine)) out at out′
     ran-yes e =
-        let zero : eqb (t .refusal) 0 ≡ true = eq-eqb (t .refusal) 0 (refusal ∙ e) in
-        let now : r .machine ≡ advanced m (o .after .clock .slot) = w .machine ∙ rw (zero, slot) in
+        let zero : eqb (t .answer .refusal) 0 ≡ true = eq-eqb (t .answer .refusal) 0 (refusal ∙ e) in
+        let now : r .machine ≡ with-clock m (o .after .clock) = w .machine ∙ rw (zero, clock) in
         let text : answer-text m t ≡ slot-run M .printed =
-        rw (zero, slot, outputs, passes, slot-yes M o is e)
-        (same-lines (slot-of-tick (form-of (m .pipelined)) (o .after .clock .slot)) (o .matching) (m .clock .ports) (few e)
-        ∙ ap (λ (k : Clock). match-lines (slot-of-tick (form-of (m .pipelined)) (o .after .clock .slot)) (o .matching) (k .ports)) (sym clock)) in
+        rw (zero, clock, outputs, passes, slot-yes M o is e)
+        (same-lines (slot-of-tick (form-of (m .pipelined)) (o .after .clock .slot)) (o .matching) (o .after .clock .ports) (few e)) in
         record {
-          machine =
-              ap with-runs now
-              ∙ ap (λ (k : Clock). record { running = m .running; form = form-of (m .pipelined); switch = record { clock = k; bookings = o .after .bookings; credits = o .after .credits; queues = o .after .queues; copy = o .after .copy; flight = o .after .flight } }) (sym clock)
-              ∙ sym (ap (λ (s : Step). s .machine) (slot-yes M o is e));
+          machine = ap with-runs now ∙ sym (ap (λ (s : Step). s .machine) (slot-yes M o is e));
           slots = w .slots ∙ rw zero (left-yes M o is n e);
           wrote = wrote-is (w .wrote) text;
         }
 
     ran-no : (o .refusal ≡ 0 → ⊥) → Ran M n r (with-runs (r .machine)) out at out′
     ran-no d =
-        let some : eqb (t .refusal) 0 ≡ false = ne-eqb (t .refusal) 0 (λ e. d (sym refusal ∙ e)) in
+        let some : eqb (t .answer .refusal) 0 ≡ false = ne-eqb (t .answer .refusal) 0 (λ e. d (sym refusal ∙ e)) in
         let now : r .machine ≡ m = w .machine ∙ rw some in
         record {
           machine =
@@ -187,53 +187,52 @@ module _ (m : Machine) (a c q p f : List ℕ) (n : ℕ) (o : Outcome) (is : tick
         go (no d) = ran-no d
 
 -- so is a direct slot's, and a pipelined one's
-module _ (m : Machine) (a c q p f : List ℕ) (n : ℕ) (t : Ticked) (r : Obeyed) {out out′ : List ℕ} {at : ℕ} (w : Answers m n t r out at out′) where
+module _ (m : Machine) (a c q p f : List ℕ) (n : ℕ) (t : Stepped) (r : Obeyed) {out out′ : List ℕ} {at : ℕ} (w : Answers m n t r out at out′) where
   direct-leaves : (a′ c′ q′ : List ℕ) → let d = Direct.tick (m .clock) (direct-runs-of a c q) in
-      m .pipelined ≡ false → t ≡ ticked-of d → a′ ≡ d .runs .bookings → c′ ≡ d .runs .credits → q′ ≡ d .runs .queues
+      m .pipelined ≡ false → t .answer ≡ answer-of d → t .clock ≡ d .clock → a′ ≡ d .runs .bookings → c′ ≡ d .runs .credits → q′ ≡ d .runs .queues
       → Ran (machine-of m a c q p f) n r (machine-of (r .machine) a′ c′ q′ p f) out at out′
   unfolding apply
-  direct-leaves a′ c′ q′ form e ea ec eq =
+  direct-leaves a′ c′ q′ form e clock ea ec eq =
       let s : Switch = machine-of m a c q p f .switch in
       let d = Direct.tick (m .clock) (direct-runs-of a c q) in
       rw (ea, ec, eq)
-      (ran m a c q p f n (of-direct s d) (ap (λ b. apply (tick (form-of b)) s) form) t (ap (λ (t : Ticked). t .refusal) e) (ap (λ (t : Ticked). t .slot) e)
-      (ap (λ (t : Ticked). t .outputs) e) (ap (λ (t : Ticked). t .«first_pass») e) (direct-clock (m .clock) (direct-runs-of a c q))
-      (direct-few (m .clock) (direct-runs-of a c q)) r w)
+      (ran m a c q p f n (of-direct s d) (ap (λ b. apply (tick (form-of b)) s) form) t (ap (λ (x : Answer). x .refusal) e) clock
+      (ap (λ (x : Answer). x .outputs) e) (ap (λ (x : Answer). x .«first_pass») e) (direct-few (m .clock) (direct-runs-of a c q)) r w)
 
   pub direct-ran : (c′ q′ : List ℕ) → let d = Direct.tick (m .clock) (direct-runs-of a c q) in
-      m .pipelined ≡ false → t ≡ ticked-of d → c′ ≡ d .runs .credits → q′ ≡ d .runs .queues
+      m .pipelined ≡ false → t .answer ≡ answer-of d → t .clock ≡ d .clock → c′ ≡ d .runs .credits → q′ ≡ d .runs .queues
       → Ran (machine-of m a c q p f) n r (machine-of (r .machine) a c′ q′ p f) out at out′
-  direct-ran c′ q′ form e ec eq = direct-leaves a c′ q′ form e (sym (direct-book (m .clock) (direct-runs-of a c q))) ec eq
+  direct-ran c′ q′ form e clock ec eq = direct-leaves a c′ q′ form e clock (sym (direct-book (m .clock) (direct-runs-of a c q))) ec eq
 
   pipelined-leaves : (a′ c′ q′ p′ f′ : List ℕ) → let d = Pipelined.tick (m .clock) (pipelined-runs-of a c q p f) in
-      m .pipelined ≡ true → t ≡ ticked-of d → a′ ≡ d .runs .bookings → c′ ≡ d .runs .credits → q′ ≡ d .runs .queues → p′ ≡ d .runs .copy
-      → f′ ≡ d .runs .flight → Ran (machine-of m a c q p f) n r (machine-of (r .machine) a′ c′ q′ p′ f′) out at out′
+      m .pipelined ≡ true → t .answer ≡ answer-of d → t .clock ≡ d .clock → a′ ≡ d .runs .bookings → c′ ≡ d .runs .credits → q′ ≡ d .runs .queues
+      → p′ ≡ d .runs .copy → f′ ≡ d .runs .flight → Ran (machine-of m a c q p f) n r (machine-of (r .machine) a′ c′ q′ p′ f′) out at out′
   unfolding apply
-  pipelined-leaves a′ c′ q′ p′ f′ form e ea ec eq ep ef =
+  pipelined-leaves a′ c′ q′ p′ f′ form e clock ea ec eq ep ef =
       let s : Switch = machine-of m a c q p f .switch in
       let w′ = pipelined-runs-of a c q p f in
       rw (ea, ec, eq, ep, ef)
-      (ran m a c q p f n (of-pipelined (Pipelined.tick (m .clock) w′)) (ap (λ b. apply (tick (form-of b)) s) form) t (ap (λ (t : Ticked). t .refusal) e)
-      (ap (λ (t : Ticked). t .slot) e) (ap (λ (t : Ticked). t .outputs) e) (ap (λ (t : Ticked). t .«first_pass») e) (pipelined-clock (m .clock) w′)
-      (pipelined-few (m .clock) w′) r w)
+      (ran m a c q p f n (of-pipelined (Pipelined.tick (m .clock) w′)) (ap (λ b. apply (tick (form-of b)) s) form) t (ap (λ (x : Answer). x .refusal) e)
+      clock (ap (λ (x : Answer). x .outputs) e) (ap (λ (x : Answer). x .«first_pass») e) (pipelined-few (m .clock) w′) r w)
 
   pub pipelined-ran : (c′ q′ p′ f′ : List ℕ) → let d = Pipelined.tick (m .clock) (pipelined-runs-of a c q p f) in
-      m .pipelined ≡ true → t ≡ ticked-of d → c′ ≡ d .runs .credits → q′ ≡ d .runs .queues → p′ ≡ d .runs .copy → f′ ≡ d .runs .flight
-      → Ran (machine-of m a c q p f) n r (machine-of (r .machine) a c′ q′ p′ f′) out at out′
-  pipelined-ran c′ q′ p′ f′ form e ec eq ep ef =
-      pipelined-leaves a c′ q′ p′ f′ form e (sym (pipelined-book (m .clock) (pipelined-runs-of a c q p f))) ec eq ep ef
+      m .pipelined ≡ true → t .answer ≡ answer-of d → t .clock ≡ d .clock → c′ ≡ d .runs .credits → q′ ≡ d .runs .queues → p′ ≡ d .runs .copy
+      → f′ ≡ d .runs .flight → Ran (machine-of m a c q p f) n r (machine-of (r .machine) a c′ q′ p′ f′) out at out′
+  pipelined-ran c′ q′ p′ f′ form e clock ec eq ep ef =
+      pipelined-leaves a c′ q′ p′ f′ form e clock (sym (pipelined-book (m .clock) (pipelined-runs-of a c q p f))) ec eq ep ef
 
 -- what a tick's answer leaves, by the code's test
-module _ (m : Machine) (n : ℕ) (t : Ticked) {out out′ : List ℕ} {at next : ℕ} where
-  pub answers-no : (t .refusal ≡ 0 → ⊥) → Wrote out at (refusal-text m 0 0 (t .refusal)) next out′
+module _ (m : Machine) (n : ℕ) (t : Stepped) {out out′ : List ℕ} {at next : ℕ} where
+  pub answers-no : (t .answer .refusal ≡ 0 → ⊥) → Wrote out at (refusal-text m 0 0 (t .answer .refusal)) next out′
       → Answers m n t (record { machine = m; slots = 0; next = next }) out at out′
   answers-no d w =
-      let some : eqb (t .refusal) 0 ≡ false = ne-eqb (t .refusal) 0 d in
+      let some : eqb (t .answer .refusal) 0 ≡ false = ne-eqb (t .answer .refusal) 0 d in
       record { machine = rw some; slots = rw some; wrote = wrote-is w (rw some) }
 
-  pub answers-yes : (shown : ℕ) (m′ : Machine) → t .refusal ≡ 0 → shown ≡ slot-of-tick (form-of (m .pipelined)) (t .slot) → m′ ≡ advanced m (t .slot)
-      → Wrote out at (match-lines shown (matching-of (t .outputs) (t .«first_pass»)) (m .clock .ports)) next out′
+  pub answers-yes : (shown : ℕ) (m′ : Machine) → t .answer .refusal ≡ 0 → shown ≡ slot-of-tick (form-of (m .pipelined)) (t .clock .slot)
+      → m′ ≡ with-clock m (t .clock)
+      → Wrote out at (match-lines shown (matching-of (t .answer .outputs) (t .answer .«first_pass»)) (t .clock .ports)) next out′
       → Answers m n t (record { machine = m′; slots = n - 1; next = next }) out at out′
   answers-yes shown m′ e s h w =
-      let zero : eqb (t .refusal) 0 ≡ true = eq-eqb (t .refusal) 0 e in
+      let zero : eqb (t .answer .refusal) 0 ≡ true = eq-eqb (t .answer .refusal) 0 e in
       record { machine = h ∙ rw zero; slots = rw zero; wrote = wrote-is w (rw (zero, s)) }

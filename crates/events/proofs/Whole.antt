@@ -1,23 +1,23 @@
 -- What the calls of `feed` print for an input, with what is fed at its end, is what the program prints. Assumes nothing.
 use mathlib.Core.Path.{_≡_, refl, sym, ap, _∙_}
-use mathlib.Core.Bool.{Bool, true, false, _&&_, and-false, false≢true}
+use mathlib.Core.Bool.{Bool, true, false, _&&_, and-false}
 use mathlib.Core.List.{List, [], _∷_, _++_, append-assoc, append-nil}
-use Prim.Native.Nat.{ℕ, zero, suc, _+_, _≤_, _<_, min}
+use Prim.Native.Nat.{ℕ, _≤_, _<_}
 use native.Mathlib.Decide.{decLt}
 use native.Mathlib.Omega.{arith}
 use borrow.Author.Tests.{lt-ltb, le-ltb, eq-eqb, ne-eqb}
-use lib.Dec.{eqb, ltb}
+use lib.Dec.{eqb}
 use lib.ListN.{length, replicate}
 use Rattle.wsgs.specs.declared.Operation.the-variants.{Start, Pipe, Book, Release, Arrive, Tick}
 use Rattle.wsgs.specs.declared.Reading.{Reading}
 use Rattle.wsgs.specs.declared.Reading.the-variants.{Asks, Unreadable}
 use Rattle.wsgs.specs.Basics.{pick, between}
-use Rattle.wsgs.specs.Text.{CR, LF, reversed, records-from, records, read-record, heading}
-use Rattle.wsgs.specs.Program.{Machine, Step, run-ticks, obey, obey-all, program, fresh}
-use Rattle.events.specs.Feeding.{State, Out, after, with-machine, ended, appended, slots-of, begun, obeyed, kept-record, record-end, take-byte, drained, finish, ending, Calls, Begins}
+use Rattle.wsgs.specs.Text.{CR, LF, drop-last, reversed, records-from, records, read-record, heading}
+use Rattle.wsgs.specs.Program.{Machine, Step, run-ticks, obey, obey-all, skip-heading, program}
+use Rattle.events.specs.Feeding.{State, Out, after, ended, appended, slots-of, begun, obeyed, kept-record, record-end, take-byte, drained, finish, ending, Calls, Begins}
 use Rattle.events.specs.View.{state-of, first-progress}
-use Rattle.events.proofs.Feeding.{after-after, drained-first, drained-none, finish-byte, finish-none, calls-print, and-parts}
-use Rattle.events.proofs.Kept.{without-last, Holds, holds-none, holds-more, reads-same}
+use Rattle.events.proofs.Feeding.{after-after, drained-first, drained-none, finish-byte, finish-none, calls-print}
+use Rattle.events.proofs.Kept.{Holds, holds-none, holds-more, reads-same}
 
 -- a tick record that is obeyed by its slots
 ticks-obeyed : (m : Machine) (x y z : ℕ) → m .running ≡ true → between 1 10000 z ≡ true → run-ticks z m ≡ obey m (Asks Tick x y z)
@@ -124,8 +124,7 @@ module _ (s : State) (x : ℕ) (xs : List ℕ) (idle : s .slots-left ≡ 0) wher
 -- the records from here on that are read: the first is a heading where it is not past
 abbrev read : Bool → List (List ℕ) → List (List ℕ)
 read true rs = rs
-read false [] = []
-read false (r ∷ rs) = rs
+read false rs = skip-heading rs
 
 read-none : (b : Bool) → read b [] ≡ []
 read-none true = refl
@@ -141,7 +140,7 @@ close-after t o = append-assoc t (o .printed) (finish (o .state) (ending (o .sta
 -- the records of an input by its first byte
 module _ (x : ℕ) (xs : List ℕ) (after-CR : Bool) (begun : List ℕ) where
   record-ends : (after-CR && eqb x LF) ≡ true
-      → records-from (x ∷ xs) after-CR begun ≡ reversed (without-last begun) [] ∷ records-from xs false []
+      → records-from (x ∷ xs) after-CR begun ≡ reversed (drop-last begun) [] ∷ records-from xs false []
   unfolding records-from
   record-ends e = rw (e, records-from)
 
@@ -163,7 +162,7 @@ module _ (F : Out → List ℕ) (F-after : (t : List ℕ) (o : Out) → F (after
     (s : State) (x : ℕ) (xs begun : List ℕ) (idle : s .slots-left ≡ 0) (h : Holds s begun) (e : (s .after-CR && eqb x LF) ≡ true)
     (later : (m : Machine) → F (finish (ended s m 0) xs) ≡ obey-all m rest) where
   abbrev ended-record : List ℕ
-  ended-record = reversed (without-last begun) []
+  ended-record = reversed (drop-last begun) []
 
   by-heading : (b : Bool) → s .past-heading ≡ b → F (finish s (x ∷ xs)) ≡ obey-all (s .machine) (read b (ended-record ∷ rest))
   by-heading true p =

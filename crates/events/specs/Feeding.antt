@@ -11,7 +11,7 @@ use Rattle.wsgs.specs.declared.Reading.{Reading}
 use Rattle.wsgs.specs.declared.Reading.the-variants.{Asks, Unreadable}
 use Rattle.wsgs.specs.Basics.{pick, between}
 use Rattle.wsgs.specs.Ledger.{slot-of-tick}
-use Rattle.wsgs.specs.Switch.{Switch, tick, Outcome, apply}
+use Rattle.wsgs.specs.Switch.{tick, Outcome, apply}
 use Rattle.wsgs.specs.Text.{CR, LF, read-record}
 use Rattle.wsgs.specs.Program.{Machine, Step, refusal-of, match-lines, run-ticks, obey, fresh}
 

@@ -7,12 +7,12 @@ use lib.Dec.{eqb}
 use Rattle.wsgs.specs.declared.Clock.{Clock}
 use Rattle.wsgs.specs.declared.Reading.{Reading}
 use Rattle.wsgs.specs.declared.Started.{Started}
-use Rattle.wsgs.specs.declared.Ticked.{Ticked}
 use Rattle.wsgs.specs.Basics.{pick, between}
 use Rattle.wsgs.specs.Ledger.{slot-of-tick}
 use Rattle.wsgs.specs.Switch.{Form, direct, pipelined}
 use Rattle.wsgs.specs.Program.{refused-line, match-lines}
 use Rattle.wsgs.specs.Program
+use Rattle.clock.specs.declared.Stepped.{Stepped}
 use Rattle.events.specs.declared.Machine.{Machine}
 use Rattle.events.specs.declared.Progress.{Progress}
 use Rattle.events.specs.declared.Obeyed.{Obeyed}
@@ -60,27 +60,33 @@ started-machine m form s = pick (eqb (s .refusal) 0) (record { running = true; p
 abbrev pub slots-asked : Bool → ℕ → ℕ
 slots-asked running z = pick (running && between 1 10000 z) z 0
 
+-- an unreadable record has had its line written, and has changed nothing
+pub record Unread (m : Machine) (r : Obeyed) (out : List ℕ) (at : ℕ) (out′ : List ℕ) : Type 0 where
+  pub machine : r .machine ≡ m
+  pub slots : r .slots ≡ 0
+  pub wrote : Wrote out at (refused-line 0 0 0 12) (r .next) out′
+
 -- a record has done at once what it does: to the machine, the slots left to run, and the text written
 pub record Obeys (m : Program.Machine) (reading : Reading) (r : Obeyed) (m′ : Program.Machine) (out : List ℕ) (at : ℕ) (out′ : List ℕ) : Type 0 where
   pub machine : m′ ≡ begun m reading .machine
   pub slots : r .slots ≡ slots-of m reading
   pub wrote : Wrote out at (begun m reading .printed) (r .next) out′
 
--- the machine at another slot
-abbrev pub advanced : Machine → ℕ → Machine
-advanced m slot = record { running = m .running; pipelined = m .pipelined; clock = record { ports = m .clock .ports; frame = m .clock .frame; slot = slot } }
+-- the machine with another clock
+abbrev pub with-clock : Machine → Clock → Machine
+with-clock m clock = record { running = m .running; pipelined = m .pipelined; clock = clock }
 
--- what a tick's answer prints
-abbrev pub answer-text : Machine → Ticked → List ℕ
+-- what a tick prints
+abbrev pub answer-text : Machine → Stepped → List ℕ
 answer-text m t =
-    pick (eqb (t .refusal) 0)
-    (match-lines (slot-of-tick (form-of (m .pipelined)) (t .slot)) (matching-of (t .outputs) (t .«first_pass»)) (m .clock .ports))
-    (refusal-text m 0 0 (t .refusal))
+    pick (eqb (t .answer .refusal) 0)
+    (match-lines (slot-of-tick (form-of (m .pipelined)) (t .clock .slot)) (matching-of (t .answer .outputs) (t .answer .«first_pass»)) (t .clock .ports))
+    (refusal-text m 0 0 (t .answer .refusal))
 
 -- what it leaves of the machine and of n slots to run
-pub record Answers (m : Machine) (n : ℕ) (t : Ticked) (r : Obeyed) (out : List ℕ) (at : ℕ) (out′ : List ℕ) : Type 0 where
-  pub machine : r .machine ≡ pick (eqb (t .refusal) 0) (advanced m (t .slot)) m
-  pub slots : r .slots ≡ pick (eqb (t .refusal) 0) (n - 1) 0
+pub record Answers (m : Machine) (n : ℕ) (t : Stepped) (r : Obeyed) (out : List ℕ) (at : ℕ) (out′ : List ℕ) : Type 0 where
+  pub machine : r .machine ≡ pick (eqb (t .answer .refusal) 0) (with-clock m (t .clock)) m
+  pub slots : r .slots ≡ pick (eqb (t .answer .refusal) 0) (n - 1) 0
   pub wrote : Wrote out at (answer-text m t) (r .next) out′
 
 -- a slot has been run

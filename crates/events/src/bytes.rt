@@ -1,7 +1,7 @@
 // A byte of the input: one more of the record so far, or the end of the record.
 use crate::Machine;
 use crate::Progress;
-use crate::Stepped;
+use crate::TakenByte;
 use crate::calls::obey;
 use crate::reader::read_record;
 ghost use mathlib.Core.Path.{_≡_};
@@ -14,17 +14,19 @@ ghost use Rattle.wsgs.specs.Basics.{pick};
 ghost use Rattle.events.specs.Feeding.{appended, record-end, take-byte};
 ghost use Rattle.events.specs.View.{state-of, ended-progress, Leaves};
 
-// What is kept where a record has ended.
-fn ended(machine: Machine, slots: u64) -> Progress
-    ensures { λ r. ⌜ r ≡ ended-progress machine slots ⌝ }
+// What is left where a record has ended.
+fn ended(machine: Machine, slots: u64, next: usize) -> TakenByte
+    ensures { λ r. ⌜ r .progress ≡ ended-progress machine slots ⌝ }
+    ensures { λ r. ⌜ r .next ≡ next ⌝ }
 {
-    Progress {
+    let progress = Progress {
         machine,
         past_heading: true,
         after_cr: false,
         count: 0,
         slots_left: slots,
-    }
+    };
+    TakenByte { progress, next }
 }
 
 // How many bytes are kept of the record without its CR.
@@ -51,17 +53,14 @@ fn end_record(
     queues: &mut [u32],
     copy: &mut [u32],
     flight: &mut [u32],
-) -> Stepped
+) -> TakenByte
     requires { ⌜ 65 ≤ length (now buffer) ⌝ }
     requires { ⌜ at + 93 ≤ length (now out) ⌝ }
     ensures { λ r. ⌜ Leaves (record-end (state-of progress (now (buffer .entry)) (now (bookings .entry)) (now (credits .entry)) (now (queues .entry)) (now (copy .entry)) (now (flight .entry)))) (state-of (r .progress) (now (buffer .entry)) (now (bookings .exit)) (now (credits .exit)) (now (queues .exit)) (now (copy .exit)) (now (flight .exit))) (now (out .entry)) at (r .next) (now (out .exit)) ⌝ }
 {
     let machine = progress.machine;
     if !progress.past_heading {
-        return Stepped {
-            progress: ended(machine, 0),
-            next: at,
-        };
+        return ended(machine, 0, at);
     }
     let length = kept_length(progress.count);
     let reading = read_record(&buffer[..length]);
@@ -77,10 +76,7 @@ fn end_record(
         flight,
     );
     let after = obeyed.machine;
-    Stepped {
-        progress: ended(after, obeyed.slots),
-        next: obeyed.next,
-    }
+    ended(after, obeyed.slots, obeyed.next)
 }
 
 // Keeps a byte of the record so far, if it is one of the first 65.
@@ -135,7 +131,7 @@ pub fn take_byte(
     queues: &mut [u32],
     copy: &mut [u32],
     flight: &mut [u32],
-) -> Stepped
+) -> TakenByte
     requires { ⌜ 65 ≤ length (now buffer) ⌝ }
     requires { ⌜ at + 93 ≤ length (now out) ⌝ }
     ensures { λ r. ⌜ Leaves (take-byte (state-of progress (now (buffer .entry)) (now (bookings .entry)) (now (credits .entry)) (now (queues .entry)) (now (copy .entry)) (now (flight .entry))) byte) (state-of (r .progress) (now (buffer .exit)) (now (bookings .exit)) (now (credits .exit)) (now (queues .exit)) (now (copy .exit)) (now (flight .exit))) (now (out .entry)) at (r .next) (now (out .exit)) ⌝ }
@@ -154,5 +150,5 @@ pub fn take_byte(
         );
     }
     let progress = append(progress, byte, buffer);
-    Stepped { progress, next: at }
+    TakenByte { progress, next: at }
 }

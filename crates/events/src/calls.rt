@@ -14,16 +14,20 @@ ghost use Prim.Native.Nat.{ℕ, _+_, _≤_};
 ghost use lib.ListN.{length};
 ghost use Rattle.wsgs.specs.declared.Operation.the-variants.{Start, Pipe, Book, Release, Arrive, Tick};
 ghost use Rattle.wsgs.specs.declared.Reading.the-variants.{Asks};
-ghost use Rattle.wsgs.specs.Program.{refused-line};
 ghost use Rattle.events.specs.Lines.{Wrote};
-ghost use Rattle.events.specs.View.{machine-of, refusal-text, call-text, started-machine, slots-asked, Obeys};
+ghost use Rattle.events.specs.View.{machine-of, refusal-text, call-text, started-machine, slots-asked, Unread, Obeys};
 
-// The line of an unreadable record.
-fn unread(out: &mut [u8], at: usize) -> usize
+// A record that is unreadable, or that comes before any accepted start or pipe and is neither.
+fn unread(machine: Machine, out: &mut [u8], at: usize) -> Obeyed
     requires { ⌜ at + 93 ≤ length (now out) ⌝ }
-    ensures { λ r. ⌜ Wrote (now (out .entry)) at (refused-line 0 0 0 12) r (now (out .exit)) ⌝ }
+    ensures { λ r. ⌜ Unread machine r (now (out .entry)) at (now (out .exit)) ⌝ }
 {
-    put_line(out, at, b"refused", 0, 0, 0, 12)
+    let next = put_line(out, at, b"refused", 0, 0, 0, 12);
+    Obeyed {
+        machine,
+        slots: 0,
+        next,
+    }
 }
 
 // The line of a refusal.
@@ -128,12 +132,7 @@ fn book_record(
     ensures { λ r. ⌜ ((c q p f : List ℕ) → Obeys (machine-of machine (now (bookings .entry)) c q p f) (Asks Book x y z) r (machine-of (r .machine) (now (bookings .exit)) c q p f) (now (out .entry)) at (now (out .exit))) ⌝ }
 {
     if !machine.running {
-        let next = unread(out, at);
-        return Obeyed {
-            machine,
-            slots: 0,
-            next,
-        };
+        return unread(machine, out, at);
     }
     let clock = machine.clock;
     let refusal = book::book(clock, bookings, Input(x), Output(y), BookedSlots(z));
@@ -159,12 +158,7 @@ fn release_record(
     ensures { λ r. ⌜ ((c q p f : List ℕ) → Obeys (machine-of machine (now (bookings .entry)) c q p f) (Asks Release x y z) r (machine-of (r .machine) (now (bookings .exit)) c q p f) (now (out .entry)) at (now (out .exit))) ⌝ }
 {
     if !machine.running {
-        let next = unread(out, at);
-        return Obeyed {
-            machine,
-            slots: 0,
-            next,
-        };
+        return unread(machine, out, at);
     }
     let clock = machine.clock;
     let refusal = book::release(clock, bookings, Input(x), Output(y), BookedSlots(z));
@@ -190,12 +184,7 @@ fn arrive_record(
     ensures { λ r. ⌜ ((a c p f : List ℕ) → Obeys (machine-of machine a c (now (queues .entry)) p f) (Asks Arrive x y z) r (machine-of (r .machine) a c (now (queues .exit)) p f) (now (out .entry)) at (now (out .exit))) ⌝ }
 {
     if !machine.running {
-        let next = unread(out, at);
-        return Obeyed {
-            machine,
-            slots: 0,
-            next,
-        };
+        return unread(machine, out, at);
     }
     let clock = machine.clock;
     let refusal = book::arrive(clock, queues, Input(x), Output(y), z);
@@ -234,12 +223,7 @@ fn tick_record(machine: Machine, x: u64, y: u64, z: u64, out: &mut [u8], at: usi
         };
     }
     if !machine.running {
-        let next = unread(out, at);
-        return Obeyed {
-            machine,
-            slots: 0,
-            next,
-        };
+        return unread(machine, out, at);
     }
     let next = refuse(machine, out, at, x, y, 6);
     Obeyed {
@@ -265,12 +249,7 @@ pub fn obey(
     ensures { λ r. ⌜ Obeys (machine-of machine (now (bookings .entry)) (now (credits .entry)) (now (queues .entry)) (now (copy .entry)) (now (flight .entry))) reading r (machine-of (r .machine) (now (bookings .exit)) (now (credits .exit)) (now (queues .exit)) (now (copy .exit)) (now (flight .exit))) (now (out .entry)) at (now (out .exit)) ⌝ }
 {
     let Reading::Asks(operation, x, y, z) = reading else {
-        let next = unread(out, at);
-        return Obeyed {
-            machine,
-            slots: 0,
-            next,
-        };
+        return unread(machine, out, at);
     };
     match operation {
         Operation::Start => start_record(machine, x, y, out, at, bookings, credits, queues),

@@ -48,7 +48,7 @@ struct Obeyed {
 }
 
 // What a byte leaves, and the place after what was put.
-struct Stepped {
+struct TakenByte {
     progress: Progress,
     next: usize,
 }

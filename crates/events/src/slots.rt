@@ -3,14 +3,15 @@ use crate::Machine;
 use crate::Obeyed;
 use crate::calls::refuse;
 use crate::printer::put_matches;
-use wsgs::Ticked;
+use clock::Stepped;
+use wsgs::Clock;
 ghost use mathlib.Core.Path.{_≡_};
 ghost use mathlib.Core.Bool.{true, false};
 ghost use mathlib.Core.List.{List};
 ghost use Prim.Native.Nat.{ℕ, _+_, _≤_};
 ghost use lib.ListN.{length};
 ghost use Rattle.wsgs.specs.Ledger.{slot-of-tick};
-ghost use Rattle.events.specs.View.{form-of, machine-of, advanced, Answers, Ran};
+ghost use Rattle.events.specs.View.{form-of, machine-of, with-clock, Answers, Ran};
 
 // The slot that a tick hands out.
 fn shown_slot(pipelined: bool, slot: u32) -> u64
@@ -22,37 +23,36 @@ fn shown_slot(pipelined: bool, slot: u32) -> u64
     slot as u64
 }
 
-// The machine at another slot.
-fn at_slot(mut machine: Machine, slot: u32) -> Machine
-    ensures { λ r. ⌜ r ≡ advanced machine slot ⌝ }
+// The machine with another clock.
+fn with_clock(mut machine: Machine, clock: Clock) -> Machine
+    ensures { λ r. ⌜ r ≡ with-clock machine clock ⌝ }
 {
-    let mut clock = machine.clock;
-    clock.slot = slot;
     machine.clock = clock;
     machine
 }
 
-// What a tick's answer leaves of the machine and of the slots to run, and prints.
-fn answered(machine: Machine, slots: u64, ticked: Ticked, out: &mut [u8], at: usize) -> Obeyed
+// What a tick leaves of the machine and of the slots to run, and prints.
+fn answered(machine: Machine, slots: u64, stepped: Stepped, out: &mut [u8], at: usize) -> Obeyed
     requires { ⌜ 1 ≤ slots ⌝ }
     requires { ⌜ at + 2912 ≤ length (now out) ⌝ }
-    requires { ⌜ (ticked .refusal ≡ 0 → machine .clock .ports ≤ 32) ⌝ }
-    ensures { λ r. ⌜ Answers machine slots ticked r (now (out .entry)) at (now (out .exit)) ⌝ }
+    requires { ⌜ (stepped .answer .refusal ≡ 0 → stepped .clock .ports ≤ 32) ⌝ }
+    ensures { λ r. ⌜ Answers machine slots stepped r (now (out .entry)) at (now (out .exit)) ⌝ }
 {
-    if ticked.refusal != 0 {
-        let next = refuse(machine, out, at, 0, 0, ticked.refusal);
+    let answer = stepped.answer;
+    if answer.refusal != 0 {
+        let next = refuse(machine, out, at, 0, 0, answer.refusal);
         return Obeyed {
             machine,
             slots: 0,
             next,
         };
     }
-    let clock = machine.clock;
-    let outputs = ticked.outputs;
-    let shown = shown_slot(machine.pipelined, ticked.slot);
-    let next = put_matches(out, at, shown, clock.ports, outputs, ticked.first_pass);
+    let clock = stepped.clock;
+    let outputs = answer.outputs;
+    let shown = shown_slot(machine.pipelined, clock.slot);
+    let next = put_matches(out, at, shown, clock.ports, outputs, answer.first_pass);
     Obeyed {
-        machine: at_slot(machine, ticked.slot),
+        machine: with_clock(machine, clock),
         slots: slots - 1,
         next,
     }
@@ -74,15 +74,8 @@ fn direct_slot(
     ensures { λ r. ⌜ ((p f : List ℕ) → Ran (machine-of machine (now (bookings .entry)) (now (credits .entry)) (now (queues .entry)) p f) slots r (machine-of (r .machine) (now (bookings .entry)) (now (credits .exit)) (now (queues .exit)) p f) (now (out .entry)) at (now (out .exit))) ⌝ }
 {
     let clock = machine.clock;
-    let ticked = scheduler::direct::tick(
-        clock.ports,
-        clock.frame,
-        clock.slot,
-        bookings,
-        credits,
-        queues,
-    );
-    answered(machine, slots, ticked, out, at)
+    let stepped = clock::step_direct(clock, bookings, credits, queues);
+    answered(machine, slots, stepped, out, at)
 }
 
 // A slot of the pipelined form.
@@ -103,17 +96,8 @@ fn pipelined_slot(
     ensures { λ r. ⌜ Ran (machine-of machine (now (bookings .entry)) (now (credits .entry)) (now (queues .entry)) (now (copy .entry)) (now (flight .entry))) slots r (machine-of (r .machine) (now (bookings .entry)) (now (credits .exit)) (now (queues .exit)) (now (copy .exit)) (now (flight .exit))) (now (out .entry)) at (now (out .exit)) ⌝ }
 {
     let clock = machine.clock;
-    let ticked = scheduler::pipelined::tick(
-        clock.ports,
-        clock.frame,
-        clock.slot,
-        bookings,
-        credits,
-        queues,
-        copy,
-        flight,
-    );
-    answered(machine, slots, ticked, out, at)
+    let stepped = clock::step_pipelined(clock, bookings, credits, queues, copy, flight);
+    answered(machine, slots, stepped, out, at)
 }
 
 // One of the slots that are left to run.

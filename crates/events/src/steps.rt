@@ -6,10 +6,11 @@ use crate::bytes::take_byte;
 use crate::slots::run_slot;
 ghost use mathlib.Core.Path.{_≡_};
 ghost use mathlib.Core.Bool.{_&&_, _||_};
-ghost use Prim.Native.Nat.{_+_, _≤_, _<_};
+ghost use mathlib.Core.List.{List};
+ghost use Prim.Native.Nat.{ℕ, _+_, _≤_, _<_};
 ghost use lib.Dec.{ltb, leb};
-ghost use lib.ListN.{length};
-ghost use Rattle.events.specs.Feeding.{step-out, step-taken};
+ghost use lib.ListN.{length, getD};
+ghost use Rattle.events.specs.Feeding.{run-slot, take-byte, step-out, step-taken};
 ghost use Rattle.events.specs.View.{state-of, moved-progress, Leaves};
 
 // Whether there is a slot to run or a byte to take, and room for what it may print.
@@ -41,7 +42,84 @@ fn moved(mut progress: Progress, machine: Machine, slots: u64) -> Progress
     progress
 }
 
-// A step.
+// A slot of a tick record.
+fn step_slot(
+    fed: Fed,
+    out: &mut [u8],
+    bookings: &[u32],
+    credits: &mut [u32],
+    queues: &mut [u32],
+    copy: &mut [u32],
+    flight: &mut [u32],
+) -> Fed
+    requires { ⌜ 1 ≤ fed .progress .«slots_left» ⌝ }
+    requires { ⌜ fed .written + 2912 ≤ length (now out) ⌝ }
+    ensures { λ r. ⌜ r .taken ≡ fed .taken ⌝ }
+    ensures { λ r. ⌜ ((b : List ℕ) → Leaves (run-slot (state-of (fed .progress) b (now (bookings .entry)) (now (credits .entry)) (now (queues .entry)) (now (copy .entry)) (now (flight .entry)))) (state-of (r .progress) b (now (bookings .entry)) (now (credits .exit)) (now (queues .exit)) (now (copy .exit)) (now (flight .exit))) (now (out .entry)) (fed .written) (r .written) (now (out .exit))) ⌝ }
+{
+    let progress = fed.progress;
+    let machine = progress.machine;
+    let ran = run_slot(
+        machine,
+        progress.slots_left,
+        out,
+        fed.written,
+        bookings,
+        credits,
+        queues,
+        copy,
+        flight,
+    );
+    let after = ran.machine;
+    Fed {
+        progress: moved(progress, after, ran.slots),
+        taken: fed.taken,
+        written: ran.next,
+    }
+}
+
+// A byte of the block.
+fn step_byte(
+    fed: Fed,
+    block: &[u8],
+    buffer: &mut [u8],
+    out: &mut [u8],
+    bookings: &mut [u32],
+    credits: &mut [u32],
+    queues: &mut [u32],
+    copy: &mut [u32],
+    flight: &mut [u32],
+) -> Fed
+    requires { ⌜ fed .taken < length (now block) ⌝ }
+    requires { ⌜ 65 ≤ length (now buffer) ⌝ }
+    requires { ⌜ fed .written + 93 ≤ length (now out) ⌝ }
+    ensures { λ r. ⌜ r .taken ≡ fed .taken + 1 ⌝ }
+    ensures { λ r. ⌜ Leaves (take-byte (state-of (fed .progress) (now (buffer .entry)) (now (bookings .entry)) (now (credits .entry)) (now (queues .entry)) (now (copy .entry)) (now (flight .entry))) (getD (now (block .entry)) (fed .taken) 0)) (state-of (r .progress) (now (buffer .exit)) (now (bookings .exit)) (now (credits .exit)) (now (queues .exit)) (now (copy .exit)) (now (flight .exit))) (now (out .entry)) (fed .written) (r .written) (now (out .exit)) ⌝ }
+{
+    let progress = fed.progress;
+    let taken = fed.taken;
+    let byte = block[taken];
+    let left = take_byte(
+        progress,
+        byte,
+        buffer,
+        out,
+        fed.written,
+        bookings,
+        credits,
+        queues,
+        copy,
+        flight,
+    );
+    let after = left.progress;
+    Fed {
+        progress: after,
+        taken: taken + 1,
+        written: left.next,
+    }
+}
+
+// A step: a slot where one is to run, else a byte.
 pub fn step(
     fed: Fed,
     block: &[u8],
@@ -60,45 +138,18 @@ pub fn step(
     ensures { λ r. ⌜ Leaves (step-out (now (block .entry)) (state-of (fed .progress) (now (buffer .entry)) (now (bookings .entry)) (now (credits .entry)) (now (queues .entry)) (now (copy .entry)) (now (flight .entry))) (fed .taken)) (state-of (r .progress) (now (buffer .exit)) (now (bookings .exit)) (now (credits .exit)) (now (queues .exit)) (now (copy .exit)) (now (flight .exit))) (now (out .entry)) (fed .written) (r .written) (now (out .exit)) ⌝ }
 {
     let progress = fed.progress;
-    let taken = fed.taken;
-    let at = fed.written;
     if progress.slots_left > 0 {
-        let machine = progress.machine;
-        let ran = run_slot(
-            machine,
-            progress.slots_left,
-            out,
-            at,
-            bookings,
-            credits,
-            queues,
-            copy,
-            flight,
-        );
-        let after = ran.machine;
-        return Fed {
-            progress: moved(progress, after, ran.slots),
-            taken,
-            written: ran.next,
-        };
+        return step_slot(fed, out, bookings, credits, queues, copy, flight);
     }
-    let byte = block[taken];
-    let stepped = take_byte(
-        progress,
-        byte,
+    step_byte(
+        fed,
+        block,
         buffer,
         out,
-        at,
         bookings,
         credits,
         queues,
         copy,
         flight,
-    );
-    let after = stepped.progress;
-    Fed {
-        progress: after,
-        taken: taken + 1,
-        written: stepped.next,
-    }
+    )
 }

@@ -4,7 +4,7 @@ use libc::STDIN_FILENO;
 use libc::STDOUT_FILENO;
 ghost use Prim.Native.Nat.{_+_, _-_, _*_, _≤_, _<_};
 ghost use mathlib.Core.Path.{_≡_};
-ghost use mathlib.Core.Bool.{true};
+ghost use mathlib.Core.Bool.{true, false};
 ghost use lib.ListN.{length};
 
 // How far the program is with a block: what is kept, the place of the next byte, and whether all that was printed could be written.
@@ -119,6 +119,18 @@ struct Turn {
     has_ended: bool,
 }
 
+// Where no byte was read: the input has ended, or reading has failed.
+fn nothing_read(progress: Progress, got: isize) -> Turn
+    ensures { λ r. ⌜ r .progress ≡ progress ⌝ }
+    ensures { λ r. ⌜ r .«goes_on» ≡ false ⌝ }
+{
+    Turn {
+        progress,
+        goes_on: false,
+        has_ended: got == 0,
+    }
+}
+
 // Reads a block and feeds it.
 fn read_block(
     progress: Progress,
@@ -136,11 +148,7 @@ fn read_block(
 {
     let got = libc::read(STDIN_FILENO, block);
     if got <= 0 {
-        return Turn {
-            progress,
-            goes_on: false,
-            has_ended: got == 0,
-        };
+        return nothing_read(progress, got);
     }
     let count = io::count(got, block);
     let place = feed_block(

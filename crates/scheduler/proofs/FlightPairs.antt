@@ -16,10 +16,10 @@ use Rattle.wsgs.specs.Basics.{pick, between, updated}
 use Rattle.wsgs.specs.Steps.{listed, marked, outputs-of, pass-word-of}
 use Rattle.wsgs.specs.Pipelined.{by-first, output-in, flight-place, in-flight, reserved, handed-out}
 use Rattle.wsgs.proofs.Laws.Tests.{range-in, updated-at, updated-other}
+use Rattle.wsgs.proofs.Laws.Listed.{listed-ext, listed-set, listed-none}
+use Rattle.wsgs.proofs.Laws.Marked.{marked-ext, marked-set, marked-none}
 use Rattle.scheduler.specs.Turnings.{answering}
 use Rattle.scheduler.proofs.BitLaws.{one-shl}
-use Rattle.scheduler.proofs.Listed.{listed-ext, listed-set, listed-none}
-use Rattle.scheduler.proofs.Marked.{marked-ext, marked-set, marked-none}
 
 -- none of 1..0, and of 1..suc x those of 1..x beside suc x
 none-between : (i : ℕ) → 1 ≤ i → between 1 0 i ≡ false

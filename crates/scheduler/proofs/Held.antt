@@ -15,9 +15,9 @@ use Rattle.wsgs.specs.Words.{less-one}
 use Rattle.wsgs.specs.Steps.{given}
 use Rattle.wsgs.proofs.Laws.Tests.{updated-at, updated-other, eqb-sym}
 use Rattle.wsgs.proofs.Laws.Lowest.{some-ext, some-short}
+use Rattle.wsgs.proofs.Laws.Listed.{listed-set, listed-none}
 use Rattle.scheduler.specs.Masks.{in-mask}
 use Rattle.scheduler.specs.Passes.{Held}
-use Rattle.scheduler.proofs.Listed.{listed-set, listed-none}
 use Rattle.scheduler.proofs.Spent.{spent-none, spent-more}
 
 -- a test changed at one number, which did not pass it

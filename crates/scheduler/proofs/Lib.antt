@@ -4,8 +4,6 @@ pub mod BitLaws
 pub mod TrailingLaws
 pub mod Ready
 pub mod MaskLaws
-pub mod Listed
-pub mod Marked
 pub mod Spent
 pub mod Held
 pub mod Choice

@@ -17,12 +17,12 @@ use Rattle.wsgs.specs.Direct.{spent}
 use Rattle.wsgs.proofs.Laws.Tests.{updated-at, updated-other}
 use Rattle.wsgs.proofs.Laws.Lowest.{lowest-ext}
 use Rattle.wsgs.proofs.Steps.{two-untouched}
+use Rattle.wsgs.proofs.Laws.Marked.{marked-none, marked-ext, marked-set}
 use Rattle.scheduler.specs.Masks.{in-mask, is-open}
 use Rattle.scheduler.specs.Charges.{charged}
 use Rattle.scheduler.specs.Passes.{Held}
 use Rattle.scheduler.proofs.Choice.{chosen, charged-some, charged-none}
 use Rattle.scheduler.proofs.Held.{given-short, held-none, held-more}
-use Rattle.scheduler.proofs.Marked.{marked-none, marked-ext, marked-set}
 use Rattle.scheduler.proofs.Spent.{spent-length, spent-none, spent-row, spent-more}
 
 -- a value that is there already changes nothing

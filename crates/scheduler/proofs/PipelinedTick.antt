@@ -15,9 +15,9 @@ use Rattle.wsgs.specs.Steps.{outputs-of, pass-word-of}
 use Rattle.wsgs.specs.Answers.{clock-of}
 use Rattle.wsgs.specs.Pipelined.{Runs, turning, questions, tick-refusal, copied-at, turns, handed-out, row-cleared, ticked, tick}
 use Rattle.wsgs.proofs.Laws.Questions.{all-yes, pipelined-yes}
+use Rattle.wsgs.proofs.Laws.Listed.{listed-none}
+use Rattle.wsgs.proofs.Laws.Marked.{marked-none}
 use Rattle.scheduler.specs.Turnings.{turning-of, Lent, answering, Left}
-use Rattle.scheduler.proofs.Listed.{listed-none}
-use Rattle.scheduler.proofs.Marked.{marked-none}
 
 -- THE FRAME COPY at time k
 module _ (n f k : ℕ) (w : Runs) (b : Bool) (e : b ≡ first-of-frame f (k + 2 * n)) where

@@ -17,9 +17,9 @@ use mir.Val.{boolByte}
 use Rattle.wsgs.specs.Basics.{bit, least, lowest}
 use Rattle.wsgs.specs.Words.{place, word}
 use Rattle.wsgs.specs.Steps.{marked}
+use Rattle.wsgs.proofs.Laws.Marked.{marked-suc, marked-lt, marked-none, marked-bit}
 use Rattle.scheduler.specs.Masks.{is-open, ready-mask}
 use Rattle.scheduler.proofs.BitLaws.{bits, mask-bit}
-use Rattle.scheduler.proofs.Marked.{marked-suc, marked-lt, marked-none, marked-bit}
 use Rattle.scheduler.proofs.TrailingLaws.{below-unset, lowest-set}
 
 -- the first of the m numbers from k on that passes the test

@@ -16,9 +16,9 @@ use Rattle.wsgs.specs.Questions.{Outcome, refused}
 use Rattle.wsgs.specs.Answers.{clock-of, ticked-of}
 use Rattle.wsgs.specs.Direct.{Runs, loaded, paired, spent, tick-refusal, ticked, tick}
 use Rattle.wsgs.proofs.Steps.{two-keeps}
+use Rattle.wsgs.proofs.Laws.Listed.{listed-none}
+use Rattle.wsgs.proofs.Laws.Marked.{marked-none}
 use Rattle.scheduler.specs.Passes.{Held, ones, SlotRun}
-use Rattle.scheduler.proofs.Listed.{listed-none}
-use Rattle.scheduler.proofs.Marked.{marked-none}
 use Rattle.scheduler.proofs.Spent.{spent-ext}
 
 -- a matching as it is answered

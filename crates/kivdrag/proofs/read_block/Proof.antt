@@ -1,9 +1,13 @@
+-- A block is read and fed.
 use borrow.Author.Needs.{needs}
 use Rattle.kivdrag.proofs.read_block.Statement.{statement}
 use Rattle.kivdrag.proofs.read_block.Tie as tie
 
 read-requires : tie.Need-read-requires
 read-requires c κs = search needs
+
+nothing-read-requires : tie.Need-nothing-read-requires
+nothing-read-requires c κs = search needs
 
 same-length : tie.Need-same-length
 same-length c = search needs
@@ -55,6 +59,7 @@ read-block-spec =
     tie.close
     (tie.spec
     read-requires
+    nothing-read-requires
     same-length
     returns
     count-requires

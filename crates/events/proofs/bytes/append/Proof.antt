@@ -1,5 +1,4 @@
 -- A byte more of the record so far.
-use mathlib.Core.Path.{_≡_}
 use borrow.Author.Needs.{needs}
 use Rattle.events.proofs.bytes.append.Statement.{statement}
 use Rattle.events.proofs.bytes.append.Tie as tie

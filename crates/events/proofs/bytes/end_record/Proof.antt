@@ -14,7 +14,7 @@ ended-requires c κs = search needs
 returns : tie.Need-returns
 returns c =
     let s = c .before .before .before .before .before .before .before .before .before .before .before .args in
-    heading-left (s .progress) (s .buffer .now) (s .bookings .now) (s .credits .now) (s .queues .now) (s .copy .now) (s .flight .now) _ (not-true (s .progress .«past_heading») (c .before .if1 .taken)) (c .ended .ensures) (omega arith)
+    heading-left (s .progress) (s .buffer .now) (s .bookings .now) (s .credits .now) (s .queues .now) (s .copy .now) (s .flight .now) _ _ (not-true (s .progress .«past_heading») (c .before .if1 .taken)) (c .ended .ensures .0) (c .ended .ensures .1) (omega arith)
 
 kept-length-requires : tie.Need-kept-length-requires
 kept-length-requires c κs = search needs
@@ -54,8 +54,8 @@ returns-2 c =
     let call = c .before .before .before .before .before .before .before .before .before .before .before .before .before .before in
     let length = call .before .before .before .before .before .before .before .before .before in
     let s = length .before .before .before .before .before .before .before .before .before .before .before .args in
-    record-left (s .progress) (s .buffer .now) (s .bookings .now) (s .credits .now) (s .queues .now) (s .copy .now) (s .flight .now) _ _ _ _ _ _ _ _ _ (not-false (s .progress .«past_heading») (length .before .if1 .left)) (length .kept-length .ensures)
-    (call .before .before .before .before .before .before .before .read-record .ensures) (call .obey .ensures) (c .ended2 .ensures)
+    record-left (s .progress) (s .buffer .now) (s .bookings .now) (s .credits .now) (s .queues .now) (s .copy .now) (s .flight .now) _ _ _ _ _ _ _ _ _ _ (not-false (s .progress .«past_heading») (length .before .if1 .left)) (length .kept-length .ensures)
+    (call .before .before .before .before .before .before .before .read-record .ensures) (call .obey .ensures) (c .ended2 .ensures .0) (c .ended2 .ensures .1)
 
 pub end-record-spec : {M : Type 1} → statement M
 end-record-spec =

@@ -1,6 +1,5 @@
 -- The machine after a start or pipe.
 use borrow.Author.Tests.{eq-eqb, ne-eqb}
-use borrow.Author.Needs.{needs}
 use Rattle.events.proofs.calls.after_start.Statement.{statement}
 use Rattle.events.proofs.calls.after_start.Tie as tie
 

@@ -14,7 +14,7 @@ same-length c = search needs
 returns : tie.Need-returns
 returns c =
     let m = c .before .before .before .before .before .before .before .before .args .machine in
-    λ a k p f. idle-arrive _ a k _ p f _ _ _ (not-true (m .running) (c .before .before .before .before .if1 .taken)) (c .before .before .unread .ensures)
+    λ a k p f. idle-arrive _ a k _ p f (c .before .before .unread .ensures) _ _ _ (not-true (m .running) (c .before .before .before .before .if1 .taken))
 
 arrive-requires : tie.Need-arrive-requires
 arrive-requires c κs = search needs

@@ -2,7 +2,6 @@
 use native.Mathlib.Omega.{arith}
 use borrow.Author.Tests.{not-true, not-false}
 use Rattle.events.proofs.Effects.{asked-none, asked-many, asked-some}
-use borrow.Author.Needs.{needs}
 use Rattle.events.proofs.calls.asked_slots.Statement.{statement}
 use Rattle.events.proofs.calls.asked_slots.Tie as tie
 

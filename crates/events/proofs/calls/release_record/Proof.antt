@@ -14,7 +14,7 @@ same-length c = search needs
 returns : tie.Need-returns
 returns c =
     let m = c .before .before .before .before .before .before .before .before .args .machine in
-    λ k q p f. idle-release _ _ k q p f _ _ _ (not-true (m .running) (c .before .before .before .before .if1 .taken)) (c .before .before .unread .ensures)
+    λ k q p f. idle-release _ _ k q p f (c .before .before .unread .ensures) _ _ _ (not-true (m .running) (c .before .before .before .before .if1 .taken))
 
 release-requires : tie.Need-release-requires
 release-requires c κs = search needs

@@ -24,7 +24,7 @@ same-length c = search needs
 returns-2 : tie.Need-returns-2
 returns-2 c =
     let m = c .before .before .before .before .before .before .before .before .before .args .machine in
-    λ a k q p f. idle-tick _ a k q p f _ _ _ (not-true (m .running) (c .before .before .before .before .if2 .taken)) (c .before .before .unread .ensures)
+    λ a k q p f. idle-tick _ a k q p f (c .before .before .unread .ensures) _ _ _ (not-true (m .running) (c .before .before .before .before .if2 .taken))
 
 refuse-requires : tie.Need-refuse-requires
 refuse-requires c κs = search needs

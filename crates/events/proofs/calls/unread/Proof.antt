@@ -1,4 +1,5 @@
--- The line of an unreadable record.
+-- An unreadable record prints its line and changes nothing.
+use mathlib.Core.Path.{refl}
 use Rattle.wsgs.specs.Program.{refused-line}
 use Rattle.wsgs.specs.Text.{bytes}
 use borrow.Author.Needs.{needs}
@@ -16,7 +17,7 @@ same-length c = search needs
 
 returns : tie.Need-returns
 unfolding refused-line bytes
-returns c = c .before .before .put-line .ensures
+returns c = record { machine = refl; slots = refl; wrote = c .before .before .put-line .ensures }
 
 pub unread-spec : {M : Type 1} → statement M
 unread-spec = tie.close (tie.spec slice-aggregate-put-line put-line-requires same-length returns)

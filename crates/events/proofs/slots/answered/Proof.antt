@@ -1,4 +1,4 @@
--- What a tick's answer leaves, by its refusal.
+-- What a tick leaves, by its refusal.
 use native.Mathlib.Omega.{arith}
 use Rattle.events.proofs.Ticks.{answers-no, answers-yes}
 use borrow.Author.Needs.{needs}
@@ -18,19 +18,19 @@ shown-slot-requires : tie.Need-shown-slot-requires
 shown-slot-requires c κs = search needs
 
 put-matches-requires : tie.Need-put-matches-requires
-put-matches-requires c κs = omega (arith, c .before .before .before .before .before .before .before .pre .1 .1 (c .before .before .before .before .if1 .left))
+put-matches-requires c κs = omega (arith, c .before .before .before .before .before .before .before .before .pre .1 .1 (c .before .before .before .before .if1 .left))
 
-at-slot-requires : tie.Need-at-slot-requires
-at-slot-requires c κs = search needs
+with-clock-requires : tie.Need-with-clock-requires
+with-clock-requires c κs = search needs
 
-sub-t17 : tie.Need-sub-t17
-sub-t17 c = search needs
+sub-t18 : tie.Need-sub-t18
+sub-t18 c = search needs
 
 same-length-2 : tie.Need-same-length-2
 same-length-2 c = search needs
 
 returns-2 : tie.Need-returns-2
-returns-2 c = answers-yes _ _ _ _ _ (c .before .before .before .before .before .before .before .before .if1 .left) (c .before .before .before .before .before .shown-slot .ensures) (c .at-slot .ensures) (c .before .before .before .put-matches .ensures)
+returns-2 c = answers-yes _ _ _ _ _ (c .before .before .before .before .before .before .before .before .if1 .left) (c .before .before .before .before .before .shown-slot .ensures) (c .with-clock .ensures) (c .before .before .before .put-matches .ensures)
 
 pub answered-spec : {M : Type 1} → statement M
 answered-spec =
@@ -41,7 +41,7 @@ answered-spec =
     returns
     shown-slot-requires
     put-matches-requires
-    at-slot-requires
-    sub-t17
+    with-clock-requires
+    sub-t18
     same-length-2
     returns-2)

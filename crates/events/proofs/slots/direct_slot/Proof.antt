@@ -1,18 +1,19 @@
 -- A slot of the direct form.
 use mathlib.Core.Path.{ap, sym, _∙_}
 use native.Mathlib.Omega.{arith}
-use Rattle.wsgs.specs.declared.Ticked.{Ticked}
+use Rattle.wsgs.specs.declared.Answer.{Answer}
 use Rattle.events.proofs.Ticks.{direct-few, direct-ran}
 use borrow.Author.Needs.{needs}
 use Rattle.events.proofs.slots.direct_slot.Statement.{statement}
 use Rattle.events.proofs.slots.direct_slot.Tie as tie
 
-tick-requires : tie.Need-tick-requires
-tick-requires c κs = search needs
+step-direct-requires : tie.Need-step-direct-requires
+step-direct-requires c κs = search needs
 
 answered-requires : tie.Need-answered-requires
 answered-requires c κs =
-    (omega arith, (omega arith, λ h. direct-few _ _ (sym (ap (λ (t : Ticked). t .refusal) (c .before .before .before .before .before .tick .ensures .0)) ∙ h)))
+    let e = c .before .before .before .before .before .step-direct .ensures in
+    (omega arith, (omega arith, λ h. rw (e .1 .0) (direct-few _ _ (sym (ap (λ (a : Answer). a .refusal) (e .0)) ∙ h))))
 
 same-length : tie.Need-same-length
 same-length c = search needs
@@ -26,10 +27,10 @@ same-length-3 c = search needs
 returns : tie.Need-returns
 returns c =
     let call = c .before .before .before .before .before .before .before .before in
-    let e = call .tick .ensures in
-    λ p f. direct-ran _ _ _ _ p f _ _ _ (c .before .before .answered .ensures) _ _ (call .before .before .before .before .before .before .before .before .pre .0) (e .0) (e .1 .0) (e .1 .1)
+    let e = call .step-direct .ensures in
+    λ p f. direct-ran _ _ _ _ p f _ _ _ (c .before .before .answered .ensures) _ _ (call .before .before .before .before .before .before .before .before .pre .0) (e .0) (e .1 .0) (e .1 .1 .0) (e .1 .1 .1)
 
 pub direct-slot-spec : {M : Type 1} → statement M
 direct-slot-spec =
     tie.close
-    (tie.spec tick-requires answered-requires same-length same-length-2 same-length-3 returns)
+    (tie.spec step-direct-requires answered-requires same-length same-length-2 same-length-3 returns)

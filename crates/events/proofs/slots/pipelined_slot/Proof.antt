@@ -1,18 +1,19 @@
 -- A slot of the pipelined form.
 use mathlib.Core.Path.{ap, sym, _∙_}
 use native.Mathlib.Omega.{arith}
-use Rattle.wsgs.specs.declared.Ticked.{Ticked}
+use Rattle.wsgs.specs.declared.Answer.{Answer}
 use Rattle.events.proofs.Ticks.{pipelined-few, pipelined-ran}
 use borrow.Author.Needs.{needs}
 use Rattle.events.proofs.slots.pipelined_slot.Statement.{statement}
 use Rattle.events.proofs.slots.pipelined_slot.Tie as tie
 
-tick-requires : tie.Need-tick-requires
-tick-requires c κs = search needs
+step-pipelined-requires : tie.Need-step-pipelined-requires
+step-pipelined-requires c κs = search needs
 
 answered-requires : tie.Need-answered-requires
 answered-requires c κs =
-    (omega arith, (omega arith, λ h. pipelined-few _ _ (sym (ap (λ (t : Ticked). t .refusal) (c .before .before .before .before .before .before .before .before .before .tick .ensures .0)) ∙ h)))
+    let e = c .before .before .before .before .before .before .before .before .before .step-pipelined .ensures in
+    (omega arith, (omega arith, λ h. rw (e .1 .0) (pipelined-few _ _ (sym (ap (λ (a : Answer). a .refusal) (e .0)) ∙ h))))
 
 same-length : tie.Need-same-length
 same-length c = search needs
@@ -32,15 +33,15 @@ same-length-5 c = search needs
 returns : tie.Need-returns
 returns c =
     let call = c .before .before .before .before .before .before .before .before .before .before .before .before in
-    let e = call .tick .ensures in
-    pipelined-ran _ _ _ _ _ _ _ _ _ (c .before .before .answered .ensures) _ _ _ _ (call .before .before .before .before .before .before .before .before .before .before .before .before .pre .0) (e .0) (e .1 .0) (e .1 .1 .0) (e .1 .1 .1 .0)
-    (e .1 .1 .1 .1)
+    let e = call .step-pipelined .ensures in
+    pipelined-ran _ _ _ _ _ _ _ _ _ (c .before .before .answered .ensures) _ _ _ _ (call .before .before .before .before .before .before .before .before .before .before .before .before .pre .0) (e .0) (e .1 .0) (e .1 .1 .0)
+    (e .1 .1 .1 .0) (e .1 .1 .1 .1 .0) (e .1 .1 .1 .1 .1)
 
 pub pipelined-slot-spec : {M : Type 1} → statement M
 pipelined-slot-spec =
     tie.close
     (tie.spec
-    tick-requires
+    step-pipelined-requires
     answered-requires
     same-length
     same-length-2

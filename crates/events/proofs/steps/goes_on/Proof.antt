@@ -1,7 +1,6 @@
 -- Whether feeding goes on.
 use native.Mathlib.Omega.{arith}
 use Rattle.events.proofs.Leaving.{stops-buffer, stops-room, goes-slot, goes-byte}
-use borrow.Author.Needs.{needs}
 use Rattle.events.proofs.steps.goes_on.Statement.{statement}
 use Rattle.events.proofs.steps.goes_on.Tie as tie
 

@@ -11,9 +11,9 @@ use lib.Dec.{ltb}
 use lib.ListN.{length}
 use Rattle.wsgs.specs.Words.{word}
 use Rattle.wsgs.specs.Steps.{pass-two, marked}
+use Rattle.wsgs.proofs.Laws.Marked.{marked-yes, marked-no}
 use Rattle.scheduler.specs.Passes.{Held}
 use Rattle.scheduler.proofs.Choice.{Chosen, chosen}
-use Rattle.scheduler.proofs.Marked.{marked-yes, marked-no}
 use Rattle.scheduler.proofs.PassLaws.{two-served, two-none, two-some}
 use Rattle.scheduler.proofs.passes.pass_two.Statement.{statement}
 use Rattle.scheduler.proofs.passes.pass_two.Tie as tie

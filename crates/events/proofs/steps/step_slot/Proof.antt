@@ -1,0 +1,46 @@
+-- A slot of a tick record.
+use mathlib.Core.Path.{refl}
+use Rattle.events.proofs.Leaving.{slot-left}
+use borrow.Author.Needs.{needs}
+use Rattle.events.proofs.steps.step_slot.Statement.{statement}
+use Rattle.events.proofs.steps.step_slot.Tie as tie
+
+run-slot-requires : tie.Need-run-slot-requires
+run-slot-requires c κs = search needs
+
+moved-requires : tie.Need-moved-requires
+moved-requires c κs = search needs
+
+same-length : tie.Need-same-length
+same-length c = search needs
+
+same-length-2 : tie.Need-same-length-2
+same-length-2 c = search needs
+
+same-length-3 : tie.Need-same-length-3
+same-length-3 c = search needs
+
+same-length-4 : tie.Need-same-length-4
+same-length-4 c = search needs
+
+same-length-5 : tie.Need-same-length-5
+same-length-5 c = search needs
+
+returns : tie.Need-returns
+returns c =
+    let call = c .before .before .before .before .before .before .before .before .before .before .before .before in
+    let s = call .before .before .before .before .before .before .before .before .before .before .before .before .before .before .args in
+    (refl, λ b. slot-left (s .fed .progress) b (s .bookings .now) (s .credits .now) (s .queues .now) (s .copy .now) (s .flight .now) _ _ _ _ _ _ (call .run-slot .ensures) (c .moved .ensures))
+
+pub step-slot-spec : {M : Type 1} → statement M
+step-slot-spec =
+    tie.close
+    (tie.spec
+    run-slot-requires
+    moved-requires
+    same-length
+    same-length-2
+    same-length-3
+    same-length-4
+    same-length-5
+    returns)
