@@ -17,7 +17,7 @@ ghost use Rattle.wsgs.specs.declared.Reading.the-variants.{Asks};
 ghost use Rattle.events.specs.Lines.{Wrote};
 ghost use Rattle.events.specs.View.{machine-of, refusal-text, call-text, started-machine, slots-asked, Unread, Obeys};
 
-// A record that is unreadable, or that comes before any accepted start or pipe and is neither.
+// An unreadable record, or one that is neither start nor pipe before any of these has been accepted.
 fn unread(machine: Machine, out: &mut [u8], at: usize) -> Obeyed
     requires { ⌜ at + 93 ≤ length (now out) ⌝ }
     ensures { λ r. ⌜ Unread machine r (now (out .entry)) at (now (out .exit)) ⌝ }
