@@ -3,7 +3,7 @@
 use mathlib.Core.Path.{_≡_, refl, sym, _∙_, ap}
 use mathlib.Core.Bool.{Bool, true, false, not, _&&_, and-self}
 use mathlib.Core.List.{List}
-use Prim.Native.Nat.{ℕ, suc, _+_, _*_, _≤_, _<_}
+use Prim.Native.Nat.{ℕ, suc, _+_, _-_, _*_, _%_, _≤_, _<_}
 use native.Mathlib.Numerals.{add-one}
 use native.Mathlib.Omega.{arith}
 use lib.Dec.{eqb, ltb}
@@ -55,12 +55,16 @@ module _ (n s i : ℕ) (c q f : List ℕ) where
       asks : ℕ
       asks = lowest (λ j. not (standing n f s j) && ltb 0 (word n q i j)) n
 
-  -- the input's word in flight stands at its place, and is read as output o
-  module _ (at o : ℕ) (place : at ≡ flight-place n s i) (read : o ≡ output-in n (getD f at 0)) where
+  -- the slot's row begins at a place, and the input's word in it is read as output o
+  module _ (row o : ℕ) (place : row ≡ s % (2 * n) * n) (read : o ≡ output-in n (getD f (row + (i - 1)) 0)) where
+    spot : row + (i - 1) ≡ flight-place n s i
+    unfolding flight-place
+    spot = ap (λ p. p + (i - 1)) place
+
     -- so that is the output that it has
     held : reserved n f s i ≡ o
     unfolding in-flight
-    held = ap (λ p. output-in n (getD f p 0)) (sym place) ∙ sym read
+    held = ap (λ p. output-in n (getD f p 0)) (sym spot) ∙ sym read
 
     -- it has one
     pub turn-one-held : 1 ≤ o → w ≡ turn-one n s i w
@@ -78,17 +82,17 @@ module _ (n s i : ℕ) (c q f : List ℕ) where
           sym (e ∙ lowest-ext _ _ n (λ j p. ap (λ b. b && (ltb 0 (word n one i j) && ltb 0 (word n two i j))) (frees j p)))
 
       module _ (e : r ≡ lowest (is-open n free c q i) n) (c′ q′ : List ℕ) (ec : c′ ≡ charged n c i r) (eq : q′ ≡ charged n q i r) where
-        pub turn-one-some : 1 ≤ r → turning-of c′ q′ (set f at (100 + r)) ≡ turn-one n s i w
+        pub turn-one-some : 1 ≤ r → turning-of c′ q′ (set f (row + (i - 1)) (100 + r)) ≡ turn-one n s i w
         turn-one-some h =
-            rw (turn-one-is, held, eq-eqb o 0 (omega arith), opens c q e, lt-ltb 0 r h, ec, eq, charged-some n c i r h, charged-some n q i r h, place)
+            rw (turn-one-is, held, eq-eqb o 0 (omega arith), opens c q e, lt-ltb 0 r h, ec, eq, charged-some n c i r h, charged-some n q i r h, spot)
 
         pub turn-one-none : r ≤ 0 → turning-of c′ q′ f ≡ turn-one n s i w
         turn-one-none h =
             rw (turn-one-is, held, eq-eqb o 0 (omega arith), opens c q e, le-ltb 0 r h, ec, eq, charged-none n c i r h, charged-none n q i r h)
 
       module _ (e : r ≡ lowest (is-open n free q q i) n) (q′ : List ℕ) (eq : q′ ≡ charged n q i r) where
-        pub turn-two-some : 1 ≤ r → turning-of c q′ (set f at r) ≡ turn-two n s i w
-        turn-two-some h = rw (turn-two-is, held, eq-eqb o 0 (omega arith), opens q q e, lt-ltb 0 r h, eq, charged-some n q i r h, place)
+        pub turn-two-some : 1 ≤ r → turning-of c q′ (set f (row + (i - 1)) r) ≡ turn-two n s i w
+        turn-two-some h = rw (turn-two-is, held, eq-eqb o 0 (omega arith), opens q q e, lt-ltb 0 r h, eq, charged-some n q i r h, spot)
 
         pub turn-two-none : r ≤ 0 → turning-of c q′ f ≡ turn-two n s i w
         turn-two-none h = rw (turn-two-is, held, eq-eqb o 0 (omega arith), opens q q e, le-ltb 0 r h, eq, charged-none n q i r h)

@@ -1,7 +1,7 @@
 // The turns of a pipelined tick: each input works on one slot by pass one and on another by pass two.
 ghost use mathlib.Core.Path.{_≡_};
 ghost use mathlib.Core.List.{List};
-ghost use Prim.Native.Nat.{ℕ, _+_, _-_, _*_, _≤_};
+ghost use Prim.Native.Nat.{ℕ, _+_, _-_, _*_, _%_, _≤_};
 ghost use lib.ListN.{length};
 ghost use Rattle.wsgs.specs.Basics.{Port};
 ghost use Rattle.wsgs.specs.Frames.{first-of-frame};
@@ -9,16 +9,16 @@ ghost use Rattle.wsgs.specs.Pipelined.{turn-one, turn-two, reloaded, pass-one-t
 ghost use Rattle.scheduler.specs.Turnings.{turning-of, Lent};
 use super::flight::free_for;
 use super::flight::output_of;
-use super::flight::place_for;
+use super::flight::row_of;
 use super::turns::first_turn;
 use super::turns::second_turn;
 use words::copy_words;
 use wsgs::Input;
 
-// An input's pass-one turn for a slot, if it has no output for it yet.
+// An input's pass-one turn for the slot whose row begins at a place, if it has no output for it yet.
 fn turn_one(
     ports: usize,
-    slot: u64,
+    row: usize,
     input: Input,
     credits: &mut [u32],
     queues: &mut [u32],
@@ -28,33 +28,33 @@ fn turn_one(
     requires { ⌜ Port ports (input .0) ⌝ }
     requires { ⌜ ports * ports ≤ length (now credits) ⌝ }
     requires { ⌜ ports * ports ≤ length (now queues) ⌝ }
-    requires { ⌜ 2 * ports * ports ≤ length (now flight) ⌝ }
-    ensures { λ _. ⌜ turning-of (now (credits .exit)) (now (queues .exit)) (now (flight .exit)) ≡ turn-one ports slot (input .0) (turning-of (now (credits .entry)) (now (queues .entry)) (now (flight .entry))) ⌝ }
+    requires { ⌜ row + ports ≤ length (now flight) ⌝ }
+    ensures { λ _. ⌜ ((s : ℕ) → row ≡ s % (2 * ports) * ports → turning-of (now (credits .exit)) (now (queues .exit)) (now (flight .exit)) ≡ turn-one ports s (input .0) (turning-of (now (credits .entry)) (now (queues .entry)) (now (flight .entry)))) ⌝ }
 {
-    let at = place_for(ports, slot, input);
-    if output_of(ports, flight[at]).0 > 0 {
+    let at = row + (input.0 - 1) as usize;
+    if output_of(ports as u32, flight[at]) > 0 {
         return;
     }
-    let free = free_for(ports, slot, flight);
+    let free = free_for(ports, row, flight);
     let output = first_turn(free, ports, input, credits, queues);
     if output.0 > 0 {
         flight[at] = 100 + output.0 as u32;
     }
 }
 
-// An input's pass-two turn for a slot, if it has no output for it yet.
-fn turn_two(ports: usize, slot: u64, input: Input, queues: &mut [u32], flight: &mut [u32])
+// An input's pass-two turn for the slot whose row begins at a place, if it has no output for it yet.
+fn turn_two(ports: usize, row: usize, input: Input, queues: &mut [u32], flight: &mut [u32])
     requires { ⌜ ports ≤ 32 ⌝ }
     requires { ⌜ Port ports (input .0) ⌝ }
     requires { ⌜ ports * ports ≤ length (now queues) ⌝ }
-    requires { ⌜ 2 * ports * ports ≤ length (now flight) ⌝ }
-    ensures { λ _. ⌜ ((c : List ℕ) → turning-of c (now (queues .exit)) (now (flight .exit)) ≡ turn-two ports slot (input .0) (turning-of c (now (queues .entry)) (now (flight .entry)))) ⌝ }
+    requires { ⌜ row + ports ≤ length (now flight) ⌝ }
+    ensures { λ _. ⌜ ((s : ℕ) → row ≡ s % (2 * ports) * ports → (c : List ℕ) → turning-of c (now (queues .exit)) (now (flight .exit)) ≡ turn-two ports s (input .0) (turning-of c (now (queues .entry)) (now (flight .entry)))) ⌝ }
 {
-    let at = place_for(ports, slot, input);
-    if output_of(ports, flight[at]).0 > 0 {
+    let at = row + (input.0 - 1) as usize;
+    if output_of(ports as u32, flight[at]) > 0 {
         return;
     }
-    let free = free_for(ports, slot, flight);
+    let free = free_for(ports, row, flight);
     let output = second_turn(free, ports, input, queues);
     if output.0 > 0 {
         flight[at] = output.0 as u32;
@@ -116,7 +116,7 @@ fn pass_one_turn(
     let slot = time + 2 * ports as u64 + 1 - input.0;
     if 2 * ports as u64 + 1 <= slot {
         reload_row(ports, frame, slot, input, copy, credits);
-        turn_one(ports, slot, input, credits, queues, flight);
+        turn_one(ports, row_of(ports, slot), input, credits, queues, flight);
     }
 }
 
@@ -140,7 +140,7 @@ fn turns_of(
     pass_one_turn(ports, frame, time, input, copy, credits, queues, flight);
     let slot = time + ports as u64 + 1 - input.0;
     if ports as u64 + 1 <= slot {
-        turn_two(ports, slot, input, queues, flight);
+        turn_two(ports, row_of(ports, slot), input, queues, flight);
     }
 }
 

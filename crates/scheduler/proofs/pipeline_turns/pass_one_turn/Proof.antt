@@ -25,6 +25,9 @@ add-if1 c = search needs
 reload-row-requires : tie.Need-reload-row-requires
 reload-row-requires c κs = search needs
 
+row-of-requires : tie.Need-row-of-requires
+row-of-requires c κs = search needs
+
 turn-one-requires : tie.Need-turn-one-requires
 turn-one-requires c κs = search needs
 
@@ -40,9 +43,10 @@ same-length-3 c = search needs
 returns : tie.Need-returns
 returns c =
     let t = c .before .before .before .before .before .before in
-    let r = t .before .before .before .before .before .before in
+    let w = t .before .before .before .before in
+    let r = w .before .before .before in
     let h = r .before .before in
-    one-due _ _ _ _ _ _ _ _ (h .if1 .taken) (r .reload-row .ensures _ _) (t .turn-one .ensures)
+    one-due _ _ _ _ _ _ _ _ (h .if1 .taken) (r .reload-row .ensures _ _) (t .turn-one .ensures _ (w .row-of .ensures .0))
 
 returns-2 : tie.Need-returns-2
 returns-2 c = one-early _ _ _ _ _ _ (c .if1 .left)
@@ -58,6 +62,7 @@ pass-one-turn-spec =
     mul-if1
     add-if1
     reload-row-requires
+    row-of-requires
     turn-one-requires
     same-length
     same-length-2

@@ -19,6 +19,9 @@ sub-slot c = search needs
 add-if1 : tie.Need-add-if1
 add-if1 c = search needs
 
+row-of-requires : tie.Need-row-of-requires
+row-of-requires c κs = search needs
+
 turn-two-requires : tie.Need-turn-two-requires
 turn-two-requires c κs = search needs
 
@@ -34,9 +37,10 @@ same-length-3 c = search needs
 returns : tie.Need-returns
 returns c =
     let t = c .before .before .before .before in
-    let h = t .before .before .before in
+    let w = t .before .before .before in
+    let h = w .before in
     let o = h .before .before .before .before .before .before .before .before in
-    two-due _ _ _ _ _ _ _ _ (h .if1 .taken) (o .pass-one-turn .ensures) (t .turn-two .ensures _)
+    two-due _ _ _ _ _ _ _ _ (h .if1 .taken) (o .pass-one-turn .ensures) (t .turn-two .ensures _ (w .row-of .ensures .0) _)
 
 same-length-4 : tie.Need-same-length-4
 same-length-4 c = search needs
@@ -61,6 +65,7 @@ turns-of-spec =
     add-slot-2
     sub-slot
     add-if1
+    row-of-requires
     turn-two-requires
     same-length
     same-length-2
