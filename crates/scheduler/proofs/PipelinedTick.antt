@@ -2,6 +2,7 @@
 use mathlib.Core.Path.{_≡_, refl, _∙_, ap}
 use mathlib.Core.Bool.{Bool, true, false}
 use mathlib.Core.List.{List, [], _∷_}
+use mathlib.Core.Logic.{_≢_}
 use Prim.Native.Nat.{ℕ, _+_, _*_, _≤_, _<_}
 use native.Mathlib.Omega.{arith}
 use borrow.Author.Tests.{eq-eqb, ne-eqb, le-leb, lt-leb, lt-ltb, le-ltb}
@@ -10,7 +11,7 @@ use lib.ListN.{length, replicate}
 use Rattle.wsgs.specs.declared.Ticked.{Ticked}
 use Rattle.wsgs.specs.Basics.{between}
 use Rattle.wsgs.specs.Words.{copied}
-use Rattle.wsgs.specs.Frames.{first-of-frame}
+use Rattle.wsgs.specs.Frames.{into-frame}
 use Rattle.wsgs.specs.Questions.{clock-can-advance}
 use Rattle.wsgs.specs.Steps.{outputs-of, pass-word-of}
 use Rattle.wsgs.specs.Answers.{clock-of}
@@ -61,21 +62,21 @@ module _ (n f k : ℕ) (w : Runs) where
             no-none h = rw (← e, yes-1, ← e₂, yes-2, le-leb n f yes-3, ← e₄, yes-4, lt-ltb k 4000000000 h)
 
 -- THE FRAME COPY at time k
-module _ (n f k : ℕ) (w : Runs) (b : Bool) (e : b ≡ first-of-frame f (k + 2 * n)) where
-  pub copies : (m : List ℕ) → b ≡ true → m ≡ copied (n * n) (w .bookings) (w .copy) → m ≡ copied-at n f k w
+module _ (n f k : ℕ) (w : Runs) (u : ℕ) (e : u ≡ into-frame f (k + 2 * n)) where
+  pub copies : (m : List ℕ) → u ≡ 0 → m ≡ copied (n * n) (w .bookings) (w .copy) → m ≡ copied-at n f k w
   unfolding copied-at
-  copies m h d = d ∙ rw (← e, h)
+  copies m h d = d ∙ rw (← e, eq-eqb u 0 h)
 
-  pub stands : b ≡ false → w .copy ≡ copied-at n f k w
+  pub stands : u ≢ 0 → w .copy ≡ copied-at n f k w
   unfolding copied-at
-  stands h = rw (← e, h)
+  stands h = rw (← e, ne-eqb u 0 h)
 
 -- WHAT AN ACCEPTED TICK FOUND
 pub record Accepted (n f k : ℕ) (w : Runs) : Type 0 where
   pub some-port : 1 ≤ n
   pub lent : Lent n (w .copy) (w .credits) (w .queues) (w .flight)
   pub bookings : n * n ≤ length (w .bookings)
-  pub some-slot : 1 ≤ f
+  pub covers : n ≤ f
   pub slots-left : k < 4000000000
 
 pub accepted-found : (n f k : ℕ) (w : Runs) → tick-refusal (clock-of n f k) w ≡ 0 → Accepted n f k w
@@ -91,7 +92,7 @@ accepted-found n f k w e =
       some-port = p .0;
       lent = record { ports = p .1; copy = leb→le _ _ (m .0); credits = leb→le _ _ (c .0); queues = leb→le _ _ (q .0); flight = leb→le _ _ (m .1) };
       bookings = leb→le _ _ (a .0);
-      some-slot = in-range 1 10000 f (y .1 .0) .0;
+      covers = leb→le n f (y .1 .1 .0);
       slots-left = ltb→lt k 4000000000 (y .1 .1 .1 .1 .0);
     }
 

@@ -99,33 +99,39 @@ module _ (n s i : ℕ) (c q f : List ℕ) where
 
 -- THE RELOAD of input i's row of credits, where slot s is the first of a frame
 module _ (n k : ℕ) (copy c q f : List ℕ) (s i : ℕ) where
-  pub reloads : (b : Bool) (c′ : List ℕ) → b ≡ first-of-frame k s → b ≡ true → c′ ≡ loaded n copy i c → turning-of c′ q f ≡ reloaded n k copy s i (turning-of c q f)
+  pub reloads : (c′ : List ℕ) → first-of-frame k s ≡ true → c′ ≡ loaded n copy i c → turning-of c′ q f ≡ reloaded n k copy s i (turning-of c q f)
   unfolding reloaded
-  reloads b c′ e t l = rw (← e, t, l)
+  reloads c′ t l = rw (t, l)
 
-  pub keeps : (b : Bool) → b ≡ first-of-frame k s → b ≡ false → turning-of c q f ≡ reloaded n k copy s i (turning-of c q f)
+  pub keeps : first-of-frame k s ≡ false → turning-of c q f ≡ reloaded n k copy s i (turning-of c q f)
   unfolding reloaded
-  keeps b e t = rw (← e, t)
+  keeps t = rw t
 
--- AN INPUT'S TURNS at time k. Each is due from a slot on, and changes nothing before.
-module _ (n f : ℕ) (copy : List ℕ) (k i : ℕ) (w₀ w₁ w₂ : Turning) where
-  pub one-due : 2 * n + 1 ≤ slot-one n k i → w₁ ≡ reloaded n f copy (slot-one n k i) i w₀ → w₂ ≡ turn-one n (slot-one n k i) i w₁
-      → w₂ ≡ pass-one-turn n f copy k i w₀
-  unfolding pass-one-turn
-  one-due h e d = d ∙ rw (le-leb (2 * n + 1) (slot-one n k i) h, pass-one-turn) (ap (turn-one n (slot-one n k i) i) e)
-
-  pub two-due : n + 1 ≤ slot-two n k i → w₁ ≡ pass-one-turn n f copy k i w₀ → w₂ ≡ turn-two n (slot-two n k i) i w₁ → w₂ ≡ turns-of n f copy k i w₀
-  unfolding turns-of
-  two-due h e d = d ∙ rw (le-leb (n + 1) (slot-two n k i) h, turns-of) (ap (turn-two n (slot-two n k i) i) e)
-
+-- AN INPUT'S TURNS at time k. They are due from time i on, and change nothing before.
 module _ (n f : ℕ) (copy : List ℕ) (k i : ℕ) (w₀ : Turning) where
-  pub one-early : slot-one n k i < 2 * n + 1 → w₀ ≡ pass-one-turn n f copy k i w₀
+  one-due : i ≤ k → pass-one-turn n f copy k i w₀ ≡ turn-one n (slot-one n k i) i (reloaded n f copy (slot-one n k i) i w₀)
   unfolding pass-one-turn
-  one-early h = rw (lt-leb (2 * n + 1) (slot-one n k i) h, pass-one-turn)
+  one-due h = rw (le-leb (2 * n + 1) (slot-one n k i) (omega arith), pass-one-turn)
 
-  pub two-early : (w₁ : Turning) → slot-two n k i < n + 1 → w₁ ≡ pass-one-turn n f copy k i w₀ → w₁ ≡ turns-of n f copy k i w₀
+  two-due : i ≤ k → turns-of n f copy k i w₀ ≡ turn-two n (slot-two n k i) i (pass-one-turn n f copy k i w₀)
   unfolding turns-of
-  two-early w₁ h e = e ∙ rw (lt-leb (n + 1) (slot-two n k i) h, turns-of)
+  two-due h = rw (le-leb (n + 1) (slot-two n k i) (omega arith), turns-of)
+
+  pub turns-due : (w₁ w₂ w₃ : Turning) → i ≤ k → w₁ ≡ reloaded n f copy (slot-one n k i) i w₀ → w₂ ≡ turn-one n (slot-one n k i) i w₁
+      → w₃ ≡ turn-two n (slot-two n k i) i w₂ → w₃ ≡ turns-of n f copy k i w₀
+  turns-due w₁ w₂ w₃ h a b c =
+      c ∙ ap (turn-two n (slot-two n k i) i) (b ∙ ap (turn-one n (slot-one n k i) i) a ∙ sym (one-due h)) ∙ sym (two-due h)
+
+  one-early : k < i → pass-one-turn n f copy k i w₀ ≡ w₀
+  unfolding pass-one-turn
+  one-early h = rw (lt-leb (2 * n + 1) (slot-one n k i) (omega arith), pass-one-turn)
+
+  two-early : k < i → turns-of n f copy k i w₀ ≡ pass-one-turn n f copy k i w₀
+  unfolding turns-of
+  two-early h = rw (lt-leb (n + 1) (slot-two n k i) (omega arith), turns-of)
+
+  pub turns-early : k < i → w₀ ≡ turns-of n f copy k i w₀
+  turns-early h = sym (two-early h ∙ one-early h)
 
 -- those of one input more
 pub turns-more : (n f : ℕ) (copy : List ℕ) (k x : ℕ) (w₀ w₁ w₂ : Turning) → w₁ ≡ turns n f copy k w₀ x → w₂ ≡ turns-of n f copy k (x + 1) w₁

@@ -2,7 +2,7 @@
 // any other is read as 0.
 ghost use mathlib.Core.Path.{_≡_};
 ghost use mathlib.Core.Bool.{not};
-ghost use Prim.Native.Nat.{ℕ, _+_, _*_, _%_, _≤_};
+ghost use Prim.Native.Nat.{ℕ, _+_, _-_, _*_, _%_, _≤_, _<_};
 ghost use lib.Dec.{eqb};
 ghost use lib.ListN.{length};
 ghost use Rattle.wsgs.specs.Basics.{Port};
@@ -11,6 +11,7 @@ ghost use Rattle.scheduler.specs.Masks.{in-mask};
 ghost use Rattle.scheduler.specs.Turnings.{answering};
 use super::masks::all_free;
 use words::clear_words;
+use wsgs::Input;
 use wsgs::Ticked;
 
 // Where the row of a slot begins.
@@ -21,6 +22,21 @@ pub fn row_of(ports: usize, slot: u64) -> usize
     ensures within { λ r. ⌜ r + ports ≤ 2 * ports * ports ⌝ }
 {
     (slot % (2 * ports as u64)) as usize * ports
+}
+
+// Where the row begins that stands as many rows before another as an input's number says. Before row 0 stands row 2N - 1.
+pub fn row_before(ports: usize, row: usize, input: Input) -> usize
+    requires { ⌜ ports ≤ 32 ⌝ }
+    requires { ⌜ Port ports (input .0) ⌝ }
+    requires { ⌜ row < 2 * ports ⌝ }
+    ensures is { λ r. ⌜ ((s : ℕ) → row ≡ s % (2 * ports) → input .0 ≤ s → r ≡ (s - input .0) % (2 * ports) * ports) ⌝ }
+    ensures within { λ r. ⌜ r + ports ≤ 2 * ports * ports ⌝ }
+{
+    let back = input.0 as usize;
+    if back <= row {
+        return (row - back) * ports;
+    }
+    (row + 2 * ports - back) * ports
 }
 
 // Whether a word in flight stands for an output by pass one.
