@@ -1,8 +1,8 @@
 -- Laws of the rows in flight: where a row stands, and how a word is read. Assumes nothing.
 use mathlib.Core.Path.{_≡_}
 use mathlib.Core.Bool.{true, false, and-false}
-use Prim.Native.Nat.{ℕ, _+_, _-_, _*_, _%_, _≤_, _<_}
-use native.Mathlib.Nat.{mod-lt, mul-le-mul-left, mul-le-mul-right, suc-mul}
+use Prim.Native.Nat.{ℕ, _+_, _-_, _*_, _≤_, _<_}
+use native.Mathlib.Nat.{mul-le-mul-left, mul-le-mul-right, suc-mul}
 use native.Mathlib.Omega.{arith}
 use borrow.Author.Tests.{le-leb, lt-leb}
 use lib.Dec.{leb}
@@ -13,9 +13,9 @@ use Rattle.wsgs.proofs.Laws.Tests.{in-range}
 pub rows-few : (n : ℕ) → n ≤ 32 → 2 * n * n ≤ 2048
 rows-few n few = omega (arith, mul-le-mul-left (2 * n) few)
 
--- the row of slot s lies within them
-pub row-within : (n s : ℕ) → 1 ≤ n → s % (2 * n) * n + n ≤ 2 * n * n
-row-within n s some = rw (← suc-mul (s % (2 * n)) n) (mul-le-mul-right n (mod-lt s (omega arith)))
+-- each row lies within them
+pub row-within : (n r : ℕ) → r < 2 * n → r * n + n ≤ 2 * n * n
+row-within n r h = rw (← suc-mul r n) (mul-le-mul-right n h)
 
 -- o is the output that a word in flight v is read as, 0 for none
 abbrev pub ReadAs : ℕ → ℕ → ℕ → Type 0

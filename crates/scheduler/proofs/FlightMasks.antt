@@ -1,5 +1,5 @@
--- The set of outputs that stand in a row, gathered in a word: bit j for output j, and bit 0 for none. They hold bit by bit. Assumes nothing.
-use mathlib.Core.Path.{_≡_, refl, ap, _∙_}
+-- The set of outputs that stand in a row, gathered in a word: bit j - 1 for output j. They hold bit by bit. Assumes nothing.
+use mathlib.Core.Path.{_≡_, refl, sym, ap, _∙_}
 use mathlib.Core.Bool.{true, false, not, _||_}
 use mathlib.Core.List.{List}
 use mathlib.Core.Logic.{_≢_}
@@ -9,15 +9,15 @@ use native.Mathlib.Numerals.{add-one}
 use native.Mathlib.Decide.{ℕ-discrete, decLt}
 use native.Mathlib.Omega.{arith}
 use borrow.Author.Tests.{eq-eqb, ne-eqb, eqb-true}
-use lib.Bits.{bitOr, bitXor, or-lt, or-shr, or-mod, xor-shr, xor-mod}
-use lib.Dec.{eqb, lit<}
-use lib.Pow.{pow-pos, pow-lt, pow-add, shl-shr, shr-shr}
+use lib.Bits.{bitOr, bitXor, or-shr, or-mod, xor-shr, xor-mod}
+use lib.Dec.{eqb, eqb·suc-suc}
+use lib.Pow.{pow-pos, pow-lt, pow-add, shl-shr}
 use lib.ListN.{getD}
 use Rattle.wsgs.specs.Basics.{some-of}
 use Rattle.wsgs.specs.Steps.{given}
-use Rattle.wsgs.specs.Pipelined.{output-in, flight-place, in-flight, reserved, standing}
+use Rattle.wsgs.specs.Pipelined.{output-in, flight-place, in-flight, standing}
 use Rattle.scheduler.specs.Masks.{in-mask}
-use Rattle.scheduler.proofs.BitLaws.{bits, one-shl}
+use Rattle.scheduler.proofs.BitLaws.{one-shl}
 
 -- bit k of 2 ^ j
 power-bit : (j k : ℕ) → eqb (2 ^ j / 2 ^ k % 2) 1 ≡ eqb j k
@@ -48,53 +48,67 @@ xor-digit (suc zero) q = refl
 xor-digit (suc (suc y)) q = absurd (omega arith)
 
 -- no output stands in 0
-bits-none : (j : ℕ) → bits 0 j ≡ false
-unfolding bits
-bits-none j = rw (zero-div (2 ^ j))
+none-in : (j : ℕ) → in-mask 0 j ≡ false
+unfolding in-mask
+none-in j = rw (zero-div (2 ^ (j - 1)))
 
--- one more
-bits-more : (w o j : ℕ) → bits (bitOr w (2 ^ o)) j ≡ (eqb o j || bits w j)
-unfolding bits
-bits-more w o j =
-    ap (λ x. eqb (x % 2) 1) (or-shr w (2 ^ o) j)
-    ∙ ap (λ x. eqb x 1) (or-mod (w / 2 ^ j) (2 ^ o / 2 ^ j) 1)
-    ∙ or-digit (w / 2 ^ j % 2) (2 ^ o / 2 ^ j % 2) (mod-lt (w / 2 ^ j) (omega arith)) (mod-lt (2 ^ o / 2 ^ j) (omega arith))
-    ∙ ap (λ b. b || eqb (w / 2 ^ j % 2) 1) (power-bit o j)
+-- output o stands alone in its set, and none in the set of 0
+pub one-set : (o : ℕ) → 1 ≤ o → o ≤ 32 → (j : ℕ) → 1 ≤ j → in-mask ((1 * 2 ^ (o - 1)) % 2 ^ 32) j ≡ eqb o j
+unfolding in-mask
+one-set zero h few j l = absurd (omega arith)
+one-set (suc o) h few zero l = absurd (omega arith)
+one-set (suc o) h few (suc j) l =
+    let d : suc o - 1 ≡ o = omega arith in
+    let e : suc j - 1 ≡ j = omega arith in
+    rw (d, e, one-shl 32 o (omega arith), eqb·suc-suc o j) (power-bit o j)
 
--- the outputs that the inputs 1..column have for slot s stand in the word w
-pub record Gathered (n s : ℕ) (flight : List ℕ) (column w : ℕ) : Type 0 where
-  pub small : w < 2 ^ 33
-  pub stand : (j : ℕ) → bits w j ≡ given (reserved n flight s) column j
+pub none-set : (o : ℕ) → o ≤ 0 → (j : ℕ) → 1 ≤ j → in-mask 0 j ≡ eqb o j
+none-set o h j l = none-in j ∙ sym (ne-eqb o j (λ e. omega arith))
 
-module _ (n s : ℕ) (flight : List ℕ) where
-  pub gathered-none : Gathered n s flight 0 0
-  unfolding some-of
-  gathered-none = record { small = lit< tt; stand = bits-none }
-
-  -- those of one input more, whose word in flight is read as o
-  pub gathered-more : (column w o row : ℕ) → row ≡ s % (2 * n) * n → o ≡ output-in n (getD flight (row + column) 0) → o ≤ 32
-      → Gathered n s flight column w → Gathered n s flight (column + 1) (bitOr w ((1 * 2 ^ o) % 2 ^ 64))
-  unfolding some-of in-flight flight-place
-  gathered-more column w o row place read low g =
-      rw (one-shl 64 o (omega arith))
-      (record {
-        small = or-lt 33 w (2 ^ o) (g .small) (pow-lt {i = o} {j = 33} (omega arith));
-        stand = λ j.
-            rw (add-one column, bits-more w o j, g .stand j, read, place)
-            (ap (λ x. eqb (output-in n (getD flight (s % (2 * n) * n + x) 0)) j || given (reserved n flight s) column j) (omega arith));
-      })
-
--- those of a mask that do not stand in it
-unmarked : (all w j : ℕ) → 1 ≤ j → in-mask all j ≡ true → in-mask (bitXor all (w / 2 ^ 1)) j ≡ not (bits w j)
-unfolding in-mask bits
-unmarked all w j h e =
+-- two sets together, and a set without another
+set-or : (w b j : ℕ) → in-mask (bitOr w b) j ≡ (in-mask b j || in-mask w j)
+unfolding in-mask
+set-or w b j =
     let k = j - 1 in
-    let up : 1 + k ≡ j = omega arith in
-    ap (λ x. eqb (x % 2) 1) (xor-shr all (w / 2 ^ 1) k)
-    ∙ ap (λ x. eqb x 1) (xor-mod (all / 2 ^ k) (w / 2 ^ 1 / 2 ^ k) 1)
-    ∙ rw (eqb-true (all / 2 ^ k % 2) 1 e, shr-shr w 1 k, up) (xor-digit (w / 2 ^ j % 2) (mod-lt (w / 2 ^ j) (omega arith)))
+    ap (λ x. eqb (x % 2) 1) (or-shr w b k)
+    ∙ ap (λ x. eqb x 1) (or-mod (w / 2 ^ k) (b / 2 ^ k) 1)
+    ∙ or-digit (w / 2 ^ k % 2) (b / 2 ^ k % 2) (mod-lt (w / 2 ^ k) (omega arith)) (mod-lt (b / 2 ^ k) (omega arith))
 
--- where those of all inputs are gathered, they are the free ones
-pub gathered-free : (n s : ℕ) (flight : List ℕ) (column w all j : ℕ) → Gathered n s flight column w → column ≡ n → 1 ≤ j → in-mask all j ≡ true
-    → in-mask (bitXor all (w / 2 ^ 1)) j ≡ not (standing n flight s j)
-gathered-free n s flight column w all j g e h i = unmarked all w j h i ∙ ap not (g .stand j ∙ ap (λ x. given (reserved n flight s) x j) e)
+set-without : (all w j : ℕ) → in-mask all j ≡ true → in-mask (bitXor all w) j ≡ not (in-mask w j)
+unfolding in-mask
+set-without all w j e =
+    let k = j - 1 in
+    ap (λ x. eqb (x % 2) 1) (xor-shr all w k)
+    ∙ ap (λ x. eqb x 1) (xor-mod (all / 2 ^ k) (w / 2 ^ k) 1)
+    ∙ rw (eqb-true (all / 2 ^ k % 2) 1 e) (xor-digit (w / 2 ^ k % 2) (mod-lt (w / 2 ^ k) (omega arith)))
+
+-- the output of input i, by the row that begins at a place
+abbrev read-in : ℕ → List ℕ → ℕ → ℕ → ℕ
+read-in n flight row i = output-in n (getD flight (row + (i - 1)) 0)
+
+-- the outputs that the inputs 1..column have by that row are the set w
+pub record Gathered (n : ℕ) (flight : List ℕ) (row column w : ℕ) : Type 0 where
+  pub stand : (j : ℕ) → 1 ≤ j → in-mask w j ≡ given (read-in n flight row) column j
+
+module _ (n : ℕ) (flight : List ℕ) (row : ℕ) where
+  pub gathered-none : Gathered n flight row 0 0
+  unfolding some-of
+  gathered-none = record { stand = λ j h. none-in j }
+
+  -- those of one input more, whose word in flight is read as o, with the set b of o alone
+  pub gathered-more : (column w o b : ℕ) → o ≡ output-in n (getD flight (row + column) 0) → ((j : ℕ) → 1 ≤ j → in-mask b j ≡ eqb o j)
+      → Gathered n flight row column w → Gathered n flight row (column + 1) (bitOr w b)
+  unfolding some-of
+  gathered-more column w o b read alone g =
+      record {
+        stand = λ j h.
+            set-or w b j
+            ∙ rw (add-one column, alone j h, g .stand j h, read)
+            (ap (λ x. eqb (output-in n (getD flight (row + x) 0)) j || given (read-in n flight row) column j) (omega arith));
+      }
+
+  -- where those of all inputs are gathered, by the row of slot s, the others are free
+  pub gathered-free : (column w all : ℕ) → Gathered n flight row column w → column ≡ n → (s : ℕ) → row ≡ s % (2 * n) * n
+      → (j : ℕ) → 1 ≤ j → in-mask all j ≡ true → in-mask (bitXor all w) j ≡ not (standing n flight s j)
+  unfolding in-flight flight-place
+  gathered-free column w all g e s place j h i = set-without all w j i ∙ ap not (g .stand j h) ∙ rw (e, place)

@@ -13,6 +13,7 @@ pub mod SlotLaws
 pub mod FlightLaws
 pub mod FlightMasks
 pub mod FlightPairs
+pub mod Remainders
 pub mod PipelinedTurns
 pub mod PipelinedRows
 pub mod PipelinedTick

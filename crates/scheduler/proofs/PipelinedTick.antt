@@ -2,6 +2,7 @@
 use mathlib.Core.Path.{_≡_, refl, _∙_, ap}
 use mathlib.Core.Bool.{Bool, true, false}
 use mathlib.Core.List.{List, [], _∷_}
+use mathlib.Core.Logic.{_≢_}
 use Prim.Native.Nat.{ℕ, _+_, _*_, _≤_, _<_}
 use native.Mathlib.Omega.{arith}
 use borrow.Author.Tests.{eq-eqb, ne-eqb}
@@ -9,7 +10,7 @@ use lib.Dec.{ltb→lt}
 use lib.ListN.{length, replicate}
 use Rattle.wsgs.specs.declared.Ticked.{Ticked}
 use Rattle.wsgs.specs.Words.{copied}
-use Rattle.wsgs.specs.Frames.{first-of-frame}
+use Rattle.wsgs.specs.Frames.{into-frame}
 use Rattle.wsgs.specs.Questions.{clock-can-advance}
 use Rattle.wsgs.specs.Steps.{outputs-of, pass-word-of}
 use Rattle.wsgs.specs.Answers.{clock-of}
@@ -20,35 +21,35 @@ use Rattle.wsgs.proofs.Laws.Marked.{marked-none}
 use Rattle.scheduler.specs.Turnings.{turning-of, Lent, answering, Left}
 
 -- THE FRAME COPY at time k
-module _ (n f k : ℕ) (w : Runs) (b : Bool) (e : b ≡ first-of-frame f (k + 2 * n)) where
-  pub copies : (m : List ℕ) → b ≡ true → m ≡ copied (n * n) (w .bookings) (w .copy) → m ≡ copied-at n f k w
+module _ (n f k : ℕ) (w : Runs) (u : ℕ) (e : u ≡ into-frame f (k + 2 * n)) where
+  pub copies : (m : List ℕ) → u ≡ 0 → m ≡ copied (n * n) (w .bookings) (w .copy) → m ≡ copied-at n f k w
   unfolding copied-at
-  copies m h d = d ∙ rw (← e, h)
+  copies m h d = d ∙ rw (← e, eq-eqb u 0 h)
 
-  pub stands : b ≡ false → w .copy ≡ copied-at n f k w
+  pub stands : u ≢ 0 → w .copy ≡ copied-at n f k w
   unfolding copied-at
-  stands h = rw (← e, h)
+  stands h = rw (← e, ne-eqb u 0 h)
 
 -- WHAT AN ACCEPTED TICK FOUND
 pub record Accepted (n f k : ℕ) (w : Runs) : Type 0 where
   pub some-port : 1 ≤ n
   pub lent : Lent n (w .copy) (w .credits) (w .queues) (w .flight)
   pub bookings : n * n ≤ length (w .bookings)
-  pub some-slot : 1 ≤ f
+  pub covers : n ≤ f
   pub slots-left : k < 4000000000
 
 pub accepted-found : (n f k : ℕ) (w : Runs) → tick-refusal (clock-of n f k) w ≡ 0 → Accepted n f k w
 unfolding tick-refusal
 accepted-found n f k w e =
     let qs = clock-can-advance k ∷ [] in
-    let y = pipelined-yes n f w qs (all-yes (questions n f w qs) (omega arith) e) .1 in
-    let sized = y .long .sized in
+    let y = pipelined-yes n f w qs (all-yes (questions n f w qs) (omega arith) e) in
+    let sized = y .1 .long .sized in
     record {
-      some-port = y .ports .0;
-      lent = record { ports = y .ports .1; copy = y .long .copy; credits = sized .credits; queues = sized .queues; flight = sized .flight };
-      bookings = y .long .bookings;
-      some-slot = y .frame .0;
-      slots-left = ltb→lt k 4000000000 (y .later .0);
+      some-port = y .1 .ports .0;
+      lent = record { ports = y .1 .ports .1; copy = y .1 .long .copy; credits = sized .credits; queues = sized .queues; flight = sized .flight };
+      bookings = y .1 .long .bookings;
+      covers = y .0;
+      slots-left = ltb→lt k 4000000000 (y .1 .later .0);
     }
 
 -- WHAT AN ACCEPTED TICK LEAVES: the copy, the turns, the pairs and the cleared row

@@ -3,7 +3,7 @@
 use mathlib.Core.Path.{_≡_, refl, sym, _∙_, ap}
 use mathlib.Core.Bool.{Bool, true, false, not, _&&_, and-self}
 use mathlib.Core.List.{List}
-use Prim.Native.Nat.{ℕ, suc, _+_, _*_, _≤_, _<_}
+use Prim.Native.Nat.{ℕ, suc, _+_, _-_, _*_, _%_, _≤_, _<_}
 use native.Mathlib.Numerals.{add-one}
 use native.Mathlib.Omega.{arith}
 use lib.Dec.{eqb, ltb}
@@ -55,12 +55,16 @@ module _ (n s i : ℕ) (c q f : List ℕ) where
       asks : ℕ
       asks = lowest (λ j. not (standing n f s j) && ltb 0 (word n q i j)) n
 
-  -- the input's word in flight stands at its place, and is read as output o
-  module _ (at o : ℕ) (place : at ≡ flight-place n s i) (read : o ≡ output-in n (getD f at 0)) where
+  -- the slot's row begins at a place, and the input's word in it is read as output o
+  module _ (row o : ℕ) (place : row ≡ s % (2 * n) * n) (read : o ≡ output-in n (getD f (row + (i - 1)) 0)) where
+    spot : row + (i - 1) ≡ flight-place n s i
+    unfolding flight-place
+    spot = ap (λ p. p + (i - 1)) place
+
     -- so that is the output that it has
     held : reserved n f s i ≡ o
     unfolding in-flight
-    held = ap (λ p. output-in n (getD f p 0)) (sym place) ∙ sym read
+    held = ap (λ p. output-in n (getD f p 0)) (sym spot) ∙ sym read
 
     -- it has one
     pub turn-one-held : 1 ≤ o → w ≡ turn-one n s i w
@@ -78,50 +82,56 @@ module _ (n s i : ℕ) (c q f : List ℕ) where
           sym (e ∙ lowest-ext _ _ n (λ j p. ap (λ b. b && (ltb 0 (word n one i j) && ltb 0 (word n two i j))) (frees j p)))
 
       module _ (e : r ≡ lowest (is-open n free c q i) n) (c′ q′ : List ℕ) (ec : c′ ≡ charged n c i r) (eq : q′ ≡ charged n q i r) where
-        pub turn-one-some : 1 ≤ r → turning-of c′ q′ (set f at (100 + r)) ≡ turn-one n s i w
+        pub turn-one-some : 1 ≤ r → turning-of c′ q′ (set f (row + (i - 1)) (100 + r)) ≡ turn-one n s i w
         turn-one-some h =
-            rw (turn-one-is, held, eq-eqb o 0 (omega arith), opens c q e, lt-ltb 0 r h, ec, eq, charged-some n c i r h, charged-some n q i r h, place)
+            rw (turn-one-is, held, eq-eqb o 0 (omega arith), opens c q e, lt-ltb 0 r h, ec, eq, charged-some n c i r h, charged-some n q i r h, spot)
 
         pub turn-one-none : r ≤ 0 → turning-of c′ q′ f ≡ turn-one n s i w
         turn-one-none h =
             rw (turn-one-is, held, eq-eqb o 0 (omega arith), opens c q e, le-ltb 0 r h, ec, eq, charged-none n c i r h, charged-none n q i r h)
 
       module _ (e : r ≡ lowest (is-open n free q q i) n) (q′ : List ℕ) (eq : q′ ≡ charged n q i r) where
-        pub turn-two-some : 1 ≤ r → turning-of c q′ (set f at r) ≡ turn-two n s i w
-        turn-two-some h = rw (turn-two-is, held, eq-eqb o 0 (omega arith), opens q q e, lt-ltb 0 r h, eq, charged-some n q i r h, place)
+        pub turn-two-some : 1 ≤ r → turning-of c q′ (set f (row + (i - 1)) r) ≡ turn-two n s i w
+        turn-two-some h = rw (turn-two-is, held, eq-eqb o 0 (omega arith), opens q q e, lt-ltb 0 r h, eq, charged-some n q i r h, spot)
 
         pub turn-two-none : r ≤ 0 → turning-of c q′ f ≡ turn-two n s i w
         turn-two-none h = rw (turn-two-is, held, eq-eqb o 0 (omega arith), opens q q e, le-ltb 0 r h, eq, charged-none n q i r h)
 
 -- THE RELOAD of input i's row of credits, where slot s is the first of a frame
 module _ (n k : ℕ) (copy c q f : List ℕ) (s i : ℕ) where
-  pub reloads : (b : Bool) (c′ : List ℕ) → b ≡ first-of-frame k s → b ≡ true → c′ ≡ loaded n copy i c → turning-of c′ q f ≡ reloaded n k copy s i (turning-of c q f)
+  pub reloads : (c′ : List ℕ) → first-of-frame k s ≡ true → c′ ≡ loaded n copy i c → turning-of c′ q f ≡ reloaded n k copy s i (turning-of c q f)
   unfolding reloaded
-  reloads b c′ e t l = rw (← e, t, l)
+  reloads c′ t l = rw (t, l)
 
-  pub keeps : (b : Bool) → b ≡ first-of-frame k s → b ≡ false → turning-of c q f ≡ reloaded n k copy s i (turning-of c q f)
+  pub keeps : first-of-frame k s ≡ false → turning-of c q f ≡ reloaded n k copy s i (turning-of c q f)
   unfolding reloaded
-  keeps b e t = rw (← e, t)
+  keeps t = rw t
 
--- AN INPUT'S TURNS at time k. Each is due from a slot on, and changes nothing before.
-module _ (n f : ℕ) (copy : List ℕ) (k i : ℕ) (w₀ w₁ w₂ : Turning) where
-  pub one-due : 2 * n + 1 ≤ slot-one n k i → w₁ ≡ reloaded n f copy (slot-one n k i) i w₀ → w₂ ≡ turn-one n (slot-one n k i) i w₁
-      → w₂ ≡ pass-one-turn n f copy k i w₀
-  unfolding pass-one-turn
-  one-due h e d = d ∙ rw (le-leb (2 * n + 1) (slot-one n k i) h, pass-one-turn) (ap (turn-one n (slot-one n k i) i) e)
-
-  pub two-due : n + 1 ≤ slot-two n k i → w₁ ≡ pass-one-turn n f copy k i w₀ → w₂ ≡ turn-two n (slot-two n k i) i w₁ → w₂ ≡ turns-of n f copy k i w₀
-  unfolding turns-of
-  two-due h e d = d ∙ rw (le-leb (n + 1) (slot-two n k i) h, turns-of) (ap (turn-two n (slot-two n k i) i) e)
-
+-- AN INPUT'S TURNS at time k. They are due from time i on, and change nothing before.
 module _ (n f : ℕ) (copy : List ℕ) (k i : ℕ) (w₀ : Turning) where
-  pub one-early : slot-one n k i < 2 * n + 1 → w₀ ≡ pass-one-turn n f copy k i w₀
+  one-due : i ≤ k → pass-one-turn n f copy k i w₀ ≡ turn-one n (slot-one n k i) i (reloaded n f copy (slot-one n k i) i w₀)
   unfolding pass-one-turn
-  one-early h = rw (lt-leb (2 * n + 1) (slot-one n k i) h, pass-one-turn)
+  one-due h = rw (le-leb (2 * n + 1) (slot-one n k i) (omega arith), pass-one-turn)
 
-  pub two-early : (w₁ : Turning) → slot-two n k i < n + 1 → w₁ ≡ pass-one-turn n f copy k i w₀ → w₁ ≡ turns-of n f copy k i w₀
+  two-due : i ≤ k → turns-of n f copy k i w₀ ≡ turn-two n (slot-two n k i) i (pass-one-turn n f copy k i w₀)
   unfolding turns-of
-  two-early w₁ h e = e ∙ rw (lt-leb (n + 1) (slot-two n k i) h, turns-of)
+  two-due h = rw (le-leb (n + 1) (slot-two n k i) (omega arith), turns-of)
+
+  pub turns-due : (w₁ w₂ w₃ : Turning) → i ≤ k → w₁ ≡ reloaded n f copy (slot-one n k i) i w₀ → w₂ ≡ turn-one n (slot-one n k i) i w₁
+      → w₃ ≡ turn-two n (slot-two n k i) i w₂ → w₃ ≡ turns-of n f copy k i w₀
+  turns-due w₁ w₂ w₃ h a b c =
+      c ∙ ap (turn-two n (slot-two n k i) i) (b ∙ ap (turn-one n (slot-one n k i) i) a ∙ sym (one-due h)) ∙ sym (two-due h)
+
+  one-early : k < i → pass-one-turn n f copy k i w₀ ≡ w₀
+  unfolding pass-one-turn
+  one-early h = rw (lt-leb (2 * n + 1) (slot-one n k i) (omega arith), pass-one-turn)
+
+  two-early : k < i → turns-of n f copy k i w₀ ≡ pass-one-turn n f copy k i w₀
+  unfolding turns-of
+  two-early h = rw (lt-leb (n + 1) (slot-two n k i) (omega arith), turns-of)
+
+  pub turns-early : k < i → w₀ ≡ turns-of n f copy k i w₀
+  turns-early h = sym (two-early h ∙ one-early h)
 
 -- those of one input more
 pub turns-more : (n f : ℕ) (copy : List ℕ) (k x : ℕ) (w₀ w₁ w₂ : Turning) → w₁ ≡ turns n f copy k w₀ x → w₂ ≡ turns-of n f copy k (x + 1) w₁

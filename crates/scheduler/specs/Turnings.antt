@@ -1,10 +1,11 @@
--- The runs that the turns of a pipelined tick change, put together from lists; that those lent to it are long enough; and what it answers and
--- leaves. Assumes nothing.
+-- The runs that the turns of a pipelined tick change, put together from lists; that those lent to it are long enough; what it knows of the slots
+-- ahead; and what it answers and leaves. Assumes nothing.
 use mathlib.Core.Path.{_≡_}
 use mathlib.Core.List.{List}
-use Prim.Native.Nat.{ℕ, _*_, _≤_}
+use Prim.Native.Nat.{ℕ, _+_, _*_, _%_, _≤_, _<_}
 use lib.ListN.{length}
 use Rattle.wsgs.specs.declared.Ticked.{Ticked}
+use Rattle.wsgs.specs.Frames.{into-frame}
 use Rattle.wsgs.specs.Steps.{Matching, outputs-of, pass-word-of}
 use Rattle.wsgs.specs.Questions.{Outcome}
 use Rattle.wsgs.specs.Pipelined.{Runs, Turning}
@@ -21,6 +22,16 @@ pub record Lent (n : ℕ) (a c q f : List ℕ) : Type 0 where
   pub credits : n * n ≤ length c
   pub queues : n * n ≤ length q
   pub flight : 2 * n * n ≤ length f
+
+-- what a tick at time k knows of the slots ahead: the rows of slots k + 2n + 1 and k + n + 1, and how many slots of its frame come before slot
+-- k + 2n. The frames have a slot for each port.
+pub record Foreseen (n f k one two into : ℕ) : Type 0 where
+  pub covers : n ≤ f
+  pub row-one : one ≡ (k + 2 * n + 1) % (2 * n)
+  pub row-two : two ≡ (k + n + 1) % (2 * n)
+  pub place : into ≡ into-frame f (k + 2 * n)
+  pub one-within : one < 2 * n
+  pub two-within : two < 2 * n
 
 -- what an accepted tick at time k answers that hands out a matching
 abbrev pub answering : ℕ → Matching → Ticked

@@ -1,24 +1,24 @@
 // The turns of a pipelined tick: each input works on one slot by pass one and on another by pass two.
 ghost use mathlib.Core.Path.{_≡_};
 ghost use mathlib.Core.List.{List};
-ghost use Prim.Native.Nat.{ℕ, _+_, _-_, _*_, _≤_};
+ghost use Prim.Native.Nat.{ℕ, _+_, _-_, _*_, _%_, _≤_, _<_};
 ghost use lib.ListN.{length};
 ghost use Rattle.wsgs.specs.Basics.{Port};
-ghost use Rattle.wsgs.specs.Frames.{first-of-frame};
-ghost use Rattle.wsgs.specs.Pipelined.{turn-one, turn-two, reloaded, pass-one-turn, turns-of, turns};
-ghost use Rattle.scheduler.specs.Turnings.{turning-of, Lent};
+ghost use Rattle.wsgs.specs.Frames.{into-frame};
+ghost use Rattle.wsgs.specs.Pipelined.{slot-one, turn-one, turn-two, reloaded, turns-of, turns};
+ghost use Rattle.scheduler.specs.Turnings.{turning-of, Lent, Foreseen};
 use super::flight::free_for;
 use super::flight::output_of;
-use super::flight::place_for;
+use super::flight::row_before;
 use super::turns::first_turn;
 use super::turns::second_turn;
 use words::copy_words;
 use wsgs::Input;
 
-// An input's pass-one turn for a slot, if it has no output for it yet.
+// An input's pass-one turn for the slot whose row begins at a place, if it has no output for it yet.
 fn turn_one(
     ports: usize,
-    slot: u64,
+    row: usize,
     input: Input,
     credits: &mut [u32],
     queues: &mut [u32],
@@ -28,46 +28,37 @@ fn turn_one(
     requires { ⌜ Port ports (input .0) ⌝ }
     requires { ⌜ ports * ports ≤ length (now credits) ⌝ }
     requires { ⌜ ports * ports ≤ length (now queues) ⌝ }
-    requires { ⌜ 2 * ports * ports ≤ length (now flight) ⌝ }
-    ensures { λ _. ⌜ turning-of (now (credits .exit)) (now (queues .exit)) (now (flight .exit)) ≡ turn-one ports slot (input .0) (turning-of (now (credits .entry)) (now (queues .entry)) (now (flight .entry))) ⌝ }
+    requires { ⌜ row + ports ≤ length (now flight) ⌝ }
+    ensures { λ _. ⌜ ((s : ℕ) → row ≡ s % (2 * ports) * ports → turning-of (now (credits .exit)) (now (queues .exit)) (now (flight .exit)) ≡ turn-one ports s (input .0) (turning-of (now (credits .entry)) (now (queues .entry)) (now (flight .entry)))) ⌝ }
 {
-    let at = place_for(ports, slot, input);
-    if output_of(ports, flight[at]).0 > 0 {
+    let at = row + (input.0 - 1) as usize;
+    if output_of(ports as u32, flight[at]) > 0 {
         return;
     }
-    let free = free_for(ports, slot, flight);
+    let free = free_for(ports, row, flight);
     let output = first_turn(free, ports, input, credits, queues);
     if output.0 > 0 {
         flight[at] = 100 + output.0 as u32;
     }
 }
 
-// An input's pass-two turn for a slot, if it has no output for it yet.
-fn turn_two(ports: usize, slot: u64, input: Input, queues: &mut [u32], flight: &mut [u32])
+// An input's pass-two turn for the slot whose row begins at a place, if it has no output for it yet.
+fn turn_two(ports: usize, row: usize, input: Input, queues: &mut [u32], flight: &mut [u32])
     requires { ⌜ ports ≤ 32 ⌝ }
     requires { ⌜ Port ports (input .0) ⌝ }
     requires { ⌜ ports * ports ≤ length (now queues) ⌝ }
-    requires { ⌜ 2 * ports * ports ≤ length (now flight) ⌝ }
-    ensures { λ _. ⌜ ((c : List ℕ) → turning-of c (now (queues .exit)) (now (flight .exit)) ≡ turn-two ports slot (input .0) (turning-of c (now (queues .entry)) (now (flight .entry)))) ⌝ }
+    requires { ⌜ row + ports ≤ length (now flight) ⌝ }
+    ensures { λ _. ⌜ ((s : ℕ) → row ≡ s % (2 * ports) * ports → (c : List ℕ) → turning-of c (now (queues .exit)) (now (flight .exit)) ≡ turn-two ports s (input .0) (turning-of c (now (queues .entry)) (now (flight .entry)))) ⌝ }
 {
-    let at = place_for(ports, slot, input);
-    if output_of(ports, flight[at]).0 > 0 {
+    let at = row + (input.0 - 1) as usize;
+    if output_of(ports as u32, flight[at]) > 0 {
         return;
     }
-    let free = free_for(ports, slot, flight);
+    let free = free_for(ports, row, flight);
     let output = second_turn(free, ports, input, queues);
     if output.0 > 0 {
         flight[at] = output.0 as u32;
     }
-}
-
-// Whether a slot is the first of a frame.
-pub fn is_first_of_frame(frame: u64, slot: u64) -> bool
-    requires { ⌜ 1 ≤ frame ⌝ }
-    requires { ⌜ 1 ≤ slot ⌝ }
-    ensures { λ r. ⌜ r ≡ first-of-frame frame slot ⌝ }
-{
-    (slot - 1) % frame == 0
 }
 
 // Where the row of an input begins in a matrix.
@@ -80,51 +71,51 @@ fn row_of_input(ports: usize, input: Input) -> usize
     (input.0 - 1) as usize * ports
 }
 
-// Where a slot is the first of a frame, an input sets its row of credits from the frame copy.
-fn reload_row(ports: usize, frame: u64, slot: u64, input: Input, copy: &[u32], credits: &mut [u32])
+// An input sets its row of credits from the frame copy where its slot of pass one is the first of a frame. `into` tells how many slots of its
+// frame come before slot time + 2N, which is that of input 1; that of input i comes i - 1 slots before.
+fn reload_row(ports: usize, into: u64, input: Input, copy: &[u32], credits: &mut [u32])
     requires { ⌜ ports ≤ 32 ⌝ }
-    requires { ⌜ 1 ≤ frame ⌝ }
-    requires { ⌜ 1 ≤ slot ⌝ }
     requires { ⌜ Port ports (input .0) ⌝ }
     requires { ⌜ ports * ports ≤ length (now copy) ⌝ }
     requires { ⌜ ports * ports ≤ length (now credits) ⌝ }
-    ensures { λ _. ⌜ ((q f : List ℕ) → turning-of (now (credits .exit)) q f ≡ reloaded ports frame (now (copy .entry)) slot (input .0) (turning-of (now (credits .entry)) q f)) ⌝ }
+    ensures { λ _. ⌜ ((frame time : ℕ) → ports ≤ frame → into ≡ into-frame frame (time + 2 * ports) → (q f : List ℕ) → turning-of (now (credits .exit)) q f ≡ reloaded ports frame (now (copy .entry)) (slot-one ports time (input .0)) (input .0) (turning-of (now (credits .entry)) q f)) ⌝ }
 {
-    if is_first_of_frame(frame, slot) {
+    if into == input.0 - 1 {
         let row = row_of_input(ports, input);
         copy_words(&copy[row..], &mut credits[row..], ports);
     }
 }
 
-// An input's part in pass one at a time, from slot 2N + 1 on: it reloads its credits, then it has its turn.
-fn pass_one_turn(
-    ports: usize,
-    frame: u64,
-    time: u64,
-    input: Input,
-    copy: &[u32],
-    credits: &mut [u32],
-    queues: &mut [u32],
-    flight: &mut [u32],
-)
-    requires { ⌜ Lent ports (now copy) (now credits) (now queues) (now flight) ⌝ }
-    requires { ⌜ 1 ≤ frame ⌝ }
+// What a tick knows of the slots ahead of its time: the number of the row of slot time + 2N + 1 and of slot time + N + 1, and how many slots of
+// its frame come before slot time + 2N.
+pub struct Ahead {
+    pub one: usize,
+    pub two: usize,
+    pub into: u64,
+}
+
+// What a tick knows of the slots ahead, so that no turn divides.
+pub fn look_ahead(ports: usize, frame: u64, time: u64) -> Ahead
+    requires { ⌜ 1 ≤ ports ⌝ }
+    requires { ⌜ ports ≤ 32 ⌝ }
+    requires { ⌜ ports ≤ frame ⌝ }
     requires { ⌜ time ≤ 4000000000 ⌝ }
-    requires { ⌜ Port ports (input .0) ⌝ }
-    ensures { λ _. ⌜ turning-of (now (credits .exit)) (now (queues .exit)) (now (flight .exit)) ≡ pass-one-turn ports frame (now (copy .entry)) time (input .0) (turning-of (now (credits .entry)) (now (queues .entry)) (now (flight .entry))) ⌝ }
+    ensures { λ r. ⌜ Foreseen ports frame time (r .one) (r .two) (r .into) ⌝ }
 {
-    let slot = time + 2 * ports as u64 + 1 - input.0;
-    if 2 * ports as u64 + 1 <= slot {
-        reload_row(ports, frame, slot, input, copy, credits);
-        turn_one(ports, slot, input, credits, queues, flight);
+    let rows = 2 * ports as u64;
+    Ahead {
+        one: ((time + 1) % rows) as usize,
+        two: ((time + ports as u64 + 1) % rows) as usize,
+        into: (time + rows - 1) % frame,
     }
 }
 
-// An input's part in a tick: pass one for a slot, then pass two for another, from slot N + 1 on.
+// An input's part in a tick: it reloads its credits, and has its turn of each pass. It has none before the time that is its number, when its
+// slots would be below 2N + 1 and N + 1.
 fn turns_of(
     ports: usize,
-    frame: u64,
     time: u64,
+    ahead: Ahead,
     input: Input,
     copy: &[u32],
     credits: &mut [u32],
@@ -132,35 +123,37 @@ fn turns_of(
     flight: &mut [u32],
 )
     requires { ⌜ Lent ports (now copy) (now credits) (now queues) (now flight) ⌝ }
-    requires { ⌜ 1 ≤ frame ⌝ }
-    requires { ⌜ time ≤ 4000000000 ⌝ }
+    requires { ⌜ ahead .one < 2 * ports ⌝ }
+    requires { ⌜ ahead .two < 2 * ports ⌝ }
     requires { ⌜ Port ports (input .0) ⌝ }
-    ensures { λ _. ⌜ turning-of (now (credits .exit)) (now (queues .exit)) (now (flight .exit)) ≡ turns-of ports frame (now (copy .entry)) time (input .0) (turning-of (now (credits .entry)) (now (queues .entry)) (now (flight .entry))) ⌝ }
+    ensures { λ _. ⌜ ((frame : ℕ) → Foreseen ports frame time (ahead .one) (ahead .two) (ahead .into) → turning-of (now (credits .exit)) (now (queues .exit)) (now (flight .exit)) ≡ turns-of ports frame (now (copy .entry)) time (input .0) (turning-of (now (credits .entry)) (now (queues .entry)) (now (flight .entry)))) ⌝ }
 {
-    pass_one_turn(ports, frame, time, input, copy, credits, queues, flight);
-    let slot = time + ports as u64 + 1 - input.0;
-    if ports as u64 + 1 <= slot {
-        turn_two(ports, slot, input, queues, flight);
+    if input.0 <= time {
+        reload_row(ports, ahead.into, input, copy, credits);
+        let one = row_before(ports, ahead.one, input);
+        turn_one(ports, one, input, credits, queues, flight);
+        let two = row_before(ports, ahead.two, input);
+        turn_two(ports, two, input, queues, flight);
     }
 }
 
 // The turns of all inputs.
 pub fn all_turns(
     ports: usize,
-    frame: u64,
     time: u64,
+    ahead: Ahead,
     copy: &[u32],
     credits: &mut [u32],
     queues: &mut [u32],
     flight: &mut [u32],
 )
     requires { ⌜ Lent ports (now copy) (now credits) (now queues) (now flight) ⌝ }
-    requires { ⌜ 1 ≤ frame ⌝ }
-    requires { ⌜ time ≤ 4000000000 ⌝ }
-    ensures { λ _. ⌜ turning-of (now (credits .exit)) (now (queues .exit)) (now (flight .exit)) ≡ turns ports frame (now (copy .entry)) time (turning-of (now (credits .entry)) (now (queues .entry)) (now (flight .entry))) ports ⌝ }
+    requires { ⌜ ahead .one < 2 * ports ⌝ }
+    requires { ⌜ ahead .two < 2 * ports ⌝ }
+    ensures { λ _. ⌜ ((frame : ℕ) → Foreseen ports frame time (ahead .one) (ahead .two) (ahead .into) → turning-of (now (credits .exit)) (now (queues .exit)) (now (flight .exit)) ≡ turns ports frame (now (copy .entry)) time (turning-of (now (credits .entry)) (now (queues .entry)) (now (flight .entry))) ports) ⌝ }
 {
     for done in 0..ports {
         let input = Input(done as u64 + 1);
-        turns_of(ports, frame, time, input, copy, credits, queues, flight);
+        turns_of(ports, time, ahead, input, copy, credits, queues, flight);
     }
 }

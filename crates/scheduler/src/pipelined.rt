@@ -4,12 +4,13 @@ ghost use mathlib.Core.List.{List};
 ghost use Prim.Native.Nat.{ℕ, _+_, _*_, _≤_, _<_};
 ghost use lib.ListN.{length};
 ghost use Rattle.wsgs.specs.Answers.{clock-of, pipelined-runs-of, ticked-of};
+ghost use Rattle.wsgs.specs.Frames.{into-frame};
 ghost use Rattle.wsgs.specs.Pipelined;
 ghost use Rattle.scheduler.specs.Turnings.{Lent, Left};
 use super::flight::clear_row;
 use super::flight::hand_out;
 use super::pipeline_turns::all_turns;
-use super::pipeline_turns::is_first_of_frame;
+use super::pipeline_turns::look_ahead;
 use questions::pipelined_refusal;
 use words::copy_words;
 use wsgs::Ticked;
@@ -45,17 +46,14 @@ fn tick_refusal(
     0
 }
 
-// Where the slot 2N after a time is the first of a frame, the frame copy becomes the bookings.
-fn copy_bookings(ports: usize, frame: u64, time: u64, bookings: &[u32], copy: &mut [u32])
-    requires { ⌜ 1 ≤ ports ⌝ }
+// The frame copy becomes the bookings where slot time + 2N is the first of a frame: no slot of its frame comes before it.
+fn copy_bookings(ports: usize, into: u64, bookings: &[u32], copy: &mut [u32])
     requires { ⌜ ports ≤ 32 ⌝ }
-    requires { ⌜ 1 ≤ frame ⌝ }
-    requires { ⌜ time ≤ 4000000000 ⌝ }
     requires { ⌜ ports * ports ≤ length (now bookings) ⌝ }
     requires { ⌜ ports * ports ≤ length (now copy) ⌝ }
-    ensures { λ _. ⌜ ((c q f : List ℕ) → now (copy .exit) ≡ Pipelined.copied-at ports frame time (pipelined-runs-of (now (bookings .entry)) c q (now (copy .entry)) f)) ⌝ }
+    ensures { λ _. ⌜ ((frame time : ℕ) → into ≡ into-frame frame (time + 2 * ports) → (c q f : List ℕ) → now (copy .exit) ≡ Pipelined.copied-at ports frame time (pipelined-runs-of (now (bookings .entry)) c q (now (copy .entry)) f)) ⌝ }
 {
-    if is_first_of_frame(frame, time + 2 * ports as u64) {
+    if into == 0 {
         copy_words(bookings, copy, ports * ports);
     }
 }
@@ -74,13 +72,14 @@ fn run_tick(
     requires { ⌜ 1 ≤ ports ⌝ }
     requires { ⌜ Lent ports (now copy) (now credits) (now queues) (now flight) ⌝ }
     requires { ⌜ ports * ports ≤ length (now bookings) ⌝ }
-    requires { ⌜ 1 ≤ frame ⌝ }
+    requires { ⌜ ports ≤ frame ⌝ }
     requires { ⌜ slot < 4000000000 ⌝ }
     ensures { λ r. ⌜ Left (Pipelined.ticked (clock-of ports frame slot) (pipelined-runs-of (now (bookings .entry)) (now (credits .entry)) (now (queues .entry)) (now (copy .entry)) (now (flight .entry)))) r (now (credits .exit)) (now (queues .exit)) (now (copy .exit)) (now (flight .exit)) ⌝ }
 {
     let time = slot + 1;
-    copy_bookings(ports, frame, time as u64, bookings, copy);
-    all_turns(ports, frame, time as u64, copy, credits, queues, flight);
+    let ahead = look_ahead(ports, frame, time as u64);
+    copy_bookings(ports, ahead.into, bookings, copy);
+    all_turns(ports, time as u64, ahead, copy, credits, queues, flight);
     let answer = hand_out(ports, time, flight);
     clear_row(ports, time as u64 + 1, flight);
     answer

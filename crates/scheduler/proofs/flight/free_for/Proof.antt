@@ -1,4 +1,4 @@
--- `flight::free_for` meets its contract. The loop's invariant: the outputs that the inputs so far have for the slot are gathered in `taken`.
+-- `flight::free_for` meets its contract. The loop's invariant: the outputs that the inputs so far have by the row are gathered in `taken`.
 -- Assumes nothing.
 use Prim.Native.Nat.{_≤_, _-_}
 use native.Mathlib.Omega.{arith}
@@ -8,13 +8,13 @@ use Rattle.scheduler.proofs.flight.free_for.Statement.{statement}
 use Rattle.scheduler.proofs.flight.free_for.Tie as tie
 
 abbrev Inv-loop : tie.InvT-loop
-Inv-loop ports slot flight row taken₀ column₀ taken column = (column ≤ ports) × Gathered ports slot flight column taken
+Inv-loop ports row flight highest taken₀ column₀ taken column = (column ≤ ports) × Gathered ports flight row column taken
 
 abbrev μ-loop : tie.MeasureT-loop
-μ-loop ports slot flight row taken₀ column₀ taken column = ports - column
+μ-loop ports row flight highest taken₀ column₀ taken column = ports - column
 
-row-of-requires : tie.Need-row-of-requires Inv-loop μ-loop
-row-of-requires c κs = search needs
+cast-highest : tie.Need-cast-highest Inv-loop μ-loop
+cast-highest c = search needs
 
 loop-holds : tie.Need-loop-holds Inv-loop μ-loop
 loop-holds c = (search needs, gathered-none _ _ _)
@@ -31,8 +31,8 @@ shared-slice-read-output-of c = search needs
 output-of-requires : tie.Need-output-of-requires Inv-loop μ-loop
 output-of-requires c κs = search needs
 
-shl-taken : tie.Need-shl-taken Inv-loop μ-loop
-shl-taken c = search needs
+set-of-requires : tie.Need-set-of-requires Inv-loop μ-loop
+set-of-requires c κs = search needs
 
 add-column : tie.Need-add-column Inv-loop μ-loop
 add-column c = search needs
@@ -43,18 +43,14 @@ loop-less c = search needs
 loop-again : tie.Need-loop-again Inv-loop μ-loop
 loop-again c =
     let o = c .before in
-    let l = o .before .before .before in
-    (omega arith, gathered-more _ _ _ _ _ _ _ (l .before .row-of .ensures .0) (o .output-of .ensures .0) (omega arith) (l .loop .inv .1))
+    (omega arith, gathered-more _ _ _ _ _ _ _ (o .output-of .ensures .0) (c .set-of .ensures) (o .before .before .before .loop .inv .1))
 
 all-free-requires : tie.Need-all-free-requires Inv-loop μ-loop
 all-free-requires c κs = search needs
 
-cast-result : tie.Need-cast-result Inv-loop μ-loop
-cast-result c = omega arith
-
 returns : tie.Need-returns Inv-loop μ-loop
-returns c = λ j p.
-    gathered-free _ _ _ _ _ _ j (c .before .before .loop .inv .1) (omega arith) (p .low) (c .all-free .ensures j p)
+returns c = λ s e j p.
+    gathered-free _ _ _ _ _ _ (c .before .before .loop .inv .1) (omega arith) s e j (p .low) (c .all-free .ensures j p)
 
 pub free-for-spec : {M : Type 1} → statement M
 free-for-spec =
@@ -62,16 +58,15 @@ free-for-spec =
     (tie.spec
     Inv-loop
     μ-loop
-    row-of-requires
+    cast-highest
     loop-holds
     add-output-of
     mul-output-of
     shared-slice-read-output-of
     output-of-requires
-    shl-taken
+    set-of-requires
     add-column
     loop-less
     loop-again
     all-free-requires
-    cast-result
     returns)

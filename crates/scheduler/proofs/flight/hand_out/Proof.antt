@@ -10,10 +10,13 @@ use Rattle.scheduler.proofs.flight.hand_out.Statement.{statement}
 use Rattle.scheduler.proofs.flight.hand_out.Tie as tie
 
 abbrev Inv-loop : tie.InvT-loop
-Inv-loop ports time flight row outputs₀ first-pass₀ column₀ outputs first-pass column = (column ≤ ports) × Handed ports (time + 1) flight column outputs first-pass
+Inv-loop ports time flight highest row outputs₀ first-pass₀ column₀ outputs first-pass column = (column ≤ ports) × Handed ports (time + 1) flight column outputs first-pass
 
 abbrev μ-loop : tie.MeasureT-loop
-μ-loop ports time flight row outputs₀ first-pass₀ column₀ outputs first-pass column = ports - column
+μ-loop ports time flight highest row outputs₀ first-pass₀ column₀ outputs first-pass column = ports - column
+
+cast-highest : tie.Need-cast-highest Inv-loop μ-loop
+cast-highest c = search needs
 
 add-row-of : tie.Need-add-row-of Inv-loop μ-loop
 add-row-of c = search needs
@@ -60,7 +63,7 @@ loop-less c = search needs
 loop-again : tie.Need-loop-again Inv-loop μ-loop
 loop-again c =
     let f = c .before in
-    let o = f .before .before in
+    let o = f .before in
     let l = o .before .before .before in (
       omega arith,
       ⊎-elim
@@ -82,6 +85,7 @@ hand-out-spec =
     (tie.spec
     Inv-loop
     μ-loop
+    cast-highest
     add-row-of
     row-of-requires
     loop-holds

@@ -11,11 +11,8 @@ use Rattle.scheduler.proofs.flight.output_of.Tie as tie
 is-by-first-requires : tie.Need-is-by-first-requires
 is-by-first-requires c κs = search needs
 
-sub-t4 : tie.Need-sub-t4
-sub-t4 c = omega (arith, first-low (c .before .before .args .ports) (c .before .before .args .word) (sym (c .before .is-by-first .ensures) ∙ c .if1 .taken))
-
-cast-t5 : tie.Need-cast-t5
-cast-t5 c = search needs
+sub-result : tie.Need-sub-result
+sub-result c = omega (arith, first-low (c .before .before .args .ports) (c .before .before .args .word) (sym (c .before .is-by-first .ensures) ∙ c .if1 .taken))
 
 returns : tie.Need-returns
 returns c = first-read _ _ (sym (c .before .is-by-first .ensures) ∙ c .if1 .taken)
@@ -30,5 +27,4 @@ returns-3 c =
     ⊎-elim (λ w. none-high (a .ports) (a .word) e (leb-false _ _ (w .1 .left))) (λ w. none-low (a .ports) (a .word) e (w .left)) (c .if2 .came)
 
 pub output-of-spec : {M : Type 1} → statement M
-output-of-spec =
-    tie.close (tie.spec is-by-first-requires sub-t4 cast-t5 returns returns-2 returns-3)
+output-of-spec = tie.close (tie.spec is-by-first-requires sub-result returns returns-2 returns-3)

@@ -1,30 +1,31 @@
 -- `pipeline_turns::all_turns` meets its contract. The loop's invariant: the runs are those that the turns of the inputs so far leave, and their
 -- lengths are kept. Assumes nothing.
 use mathlib.Core.Path.{_≡_, refl, _∙_, ap}
-use Prim.Native.Nat.{_≤_, _-_}
+use Prim.Native.Nat.{ℕ, _≤_, _-_}
 use native.Mathlib.Omega.{arith}
 use borrow.Author.Needs.{needs}
 use lib.ListN.{length}
 use Rattle.wsgs.specs.Pipelined.{turns}
-use Rattle.scheduler.specs.Turnings.{turning-of}
+use Rattle.scheduler.specs.Turnings.{turning-of, Foreseen}
 use Rattle.scheduler.proofs.PipelinedTurns.{turns-more}
 use Rattle.scheduler.proofs.pipeline_turns.all_turns.Statement.{statement}
 use Rattle.scheduler.proofs.pipeline_turns.all_turns.Tie as tie
 
 abbrev Inv-loop : tie.InvT-loop
-Inv-loop ports frame time copy credits₀ queues₀ flight₀ done₀ credits queues flight done =
+Inv-loop ports time ahead copy credits₀ queues₀ flight₀ done₀ credits queues flight done =
     (done ≤ ports)
     × (length credits ≡ length credits₀)
     × (length queues ≡ length queues₀)
     × (length flight ≡ length flight₀)
-    × (turning-of credits queues flight ≡ turns ports frame copy time (turning-of credits₀ queues₀ flight₀) done)
+    × ((frame : ℕ) → Foreseen ports frame time (ahead .one) (ahead .two) (ahead .into)
+    → turning-of credits queues flight ≡ turns ports frame copy time (turning-of credits₀ queues₀ flight₀) done)
 
 abbrev μ-loop : tie.MeasureT-loop
-μ-loop ports frame time copy credits₀ queues₀ flight₀ done₀ credits queues flight done = ports - done
+μ-loop ports time ahead copy credits₀ queues₀ flight₀ done₀ credits queues flight done = ports - done
 
 loop-holds : tie.Need-loop-holds Inv-loop μ-loop
 unfolding turns
-loop-holds c = (search needs, refl, refl, refl, refl)
+loop-holds c = (search needs, refl, refl, refl, λ frame a. refl)
 
 add-t12 : tie.Need-add-t12 Inv-loop μ-loop
 add-t12 c = search needs
@@ -46,7 +47,7 @@ loop-again c =
       t .turns-of .kept .1 .1 .1 .1 .1 .0 ∙ l .loop .inv .1,
       t .turns-of .kept .1 .1 .1 .1 .1 .1 .0 ∙ l .loop .inv .2,
       t .turns-of .kept .1 .1 .1 .1 .1 .1 .1 .0 ∙ l .loop .inv .3,
-      turns-more _ _ _ _ _ _ _ _ (l .loop .inv .4) (t .turns-of .ensures),
+      λ frame a. turns-more _ frame _ _ _ _ _ _ (l .loop .inv .4 frame a) (t .turns-of .ensures frame a),
     )
 
 same-length : tie.Need-same-length Inv-loop μ-loop
@@ -59,7 +60,7 @@ same-length-3 : tie.Need-same-length-3 Inv-loop μ-loop
 same-length-3 c = search needs
 
 returns : tie.Need-returns Inv-loop μ-loop
-returns c = c .before .loop .inv .4 ∙ ap (turns _ _ _ _ _) (omega arith)
+returns c = λ frame a. c .before .loop .inv .4 frame a ∙ ap (turns _ frame _ _ _) (omega arith)
 
 pub all-turns-spec : {M : Type 1} → statement M
 all-turns-spec =

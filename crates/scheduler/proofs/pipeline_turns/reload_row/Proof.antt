@@ -3,11 +3,12 @@ use native.Mathlib.Omega.{arith}
 use borrow.Author.Needs.{needs}
 use Rattle.scheduler.proofs.PipelinedRows.{row-loaded}
 use Rattle.scheduler.proofs.PipelinedTurns.{reloads, keeps}
+use Rattle.scheduler.proofs.Remainders.{slot-first, slot-later}
 use Rattle.scheduler.proofs.pipeline_turns.reload_row.Statement.{statement}
 use Rattle.scheduler.proofs.pipeline_turns.reload_row.Tie as tie
 
-is-first-of-frame-requires : tie.Need-is-first-of-frame-requires
-is-first-of-frame-requires c κs = search needs
+sub-if1 : tie.Need-sub-if1
+sub-if1 c = search needs
 
 row-of-input-requires : tie.Need-row-of-input-requires
 row-of-input-requires c κs = search needs
@@ -43,22 +44,24 @@ same-length : tie.Need-same-length
 same-length c = search needs
 
 returns : tie.Need-returns
-returns c = λ q f.
+returns c = λ frame time covers place q f.
     let w = c .before .before in
     let r = w .before .before .before in
     let t = r .before in
     let s = t .before .before .before .before in
-    reloads _ _ _ _ q f _ _ _ _ (t .before .is-first-of-frame .ensures) (t .if1 .taken)
+    reloads _ _ _ _ q f _ _ _ (slot-first _ _ time _ _ (s .pre .1 .0) covers place (t .if1 .taken))
     (row-loaded _ _ _ _ (omega arith) _ (s .args .copy .now) (r .row-of-input .ensures .0) (omega arith) (w .copy-words .ensures))
 
 returns-2 : tie.Need-returns-2
-returns-2 c = λ q f. keeps _ _ _ _ q f _ _ _ (c .before .is-first-of-frame .ensures) (c .if1 .left)
+returns-2 c = λ frame time covers place q f.
+    let s = c .before .before .before .before in
+    keeps _ _ _ _ q f _ _ (slot-later _ _ time _ _ (s .pre .1 .0) covers place (c .if1 .left))
 
 pub reload-row-spec : {M : Type 1} → statement M
 reload-row-spec =
     tie.close
     (tie.spec
-    is-first-of-frame-requires
+    sub-if1
     row-of-input-requires
     mul-copy-words
     sub-copy-words

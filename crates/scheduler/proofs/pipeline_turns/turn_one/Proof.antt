@@ -15,10 +15,16 @@ abbrev freed : tie.After-first-turn → tie.After-free-for
 freed c = c .before .before .before
 
 abbrev read : tie.After-free-for → tie.After-output-of
-read c = c .before .before .before .before
+read c = c .before .before .before
 
-place-for-requires : tie.Need-place-for-requires
-place-for-requires c κs = search needs
+sub-at : tie.Need-sub-at
+sub-at c = search needs
+
+add-at : tie.Need-add-at
+add-at c = search needs
+
+cast-output-of : tie.Need-cast-output-of
+cast-output-of c = search needs
 
 mul-output-of : tie.Need-mul-output-of
 mul-output-of c = search needs
@@ -30,9 +36,9 @@ output-of-requires : tie.Need-output-of-requires
 output-of-requires c κs = search needs
 
 returns : tie.Need-returns
-returns c =
-    let o = c .before .before in
-    turn-one-held _ _ _ _ _ _ _ _ (o .before .before .place-for .ensures .0) (o .output-of .ensures .0) (c .if1 .taken)
+returns c = λ s e.
+    let o = c .before in
+    turn-one-held _ s _ _ _ _ _ _ e (o .output-of .ensures .0) (c .if1 .taken)
 
 free-for-requires : tie.Need-free-for-requires
 free-for-requires c κs = search needs
@@ -69,11 +75,11 @@ same-length-3 : tie.Need-same-length-3
 same-length-3 c = search needs
 
 returns-2 : tie.Need-returns-2
-returns-2 c =
+returns-2 c = λ s e.
     let t = turned (c .before .before) in
     let f = freed t in
     let o = read f in
-    turn-one-some _ _ _ _ _ _ _ _ (o .before .before .place-for .ensures .0) (o .output-of .ensures .0) (f .before .before .if1 .left) _ _ (f .free-for .ensures)
+    turn-one-some _ s _ _ _ _ _ _ e (o .output-of .ensures .0) (f .before .before .if1 .left) _ _ (f .free-for .ensures s e)
     (t .first-turn .ensures .0) _ _ (t .first-turn .ensures .1 .0) (t .first-turn .ensures .1 .1) (c .before .if2 .taken)
 
 same-length-4 : tie.Need-same-length-4
@@ -86,18 +92,20 @@ same-length-6 : tie.Need-same-length-6
 same-length-6 c = search needs
 
 returns-3 : tie.Need-returns-3
-returns-3 c =
+returns-3 c = λ s e.
     let t = turned (c .before) in
     let f = freed t in
     let o = read f in
-    turn-one-none _ _ _ _ _ _ _ _ (o .before .before .place-for .ensures .0) (o .output-of .ensures .0) (f .before .before .if1 .left) _ _ (f .free-for .ensures)
+    turn-one-none _ s _ _ _ _ _ _ e (o .output-of .ensures .0) (f .before .before .if1 .left) _ _ (f .free-for .ensures s e)
     (t .first-turn .ensures .0) _ _ (t .first-turn .ensures .1 .0) (t .first-turn .ensures .1 .1) (c .if2 .left)
 
 pub turn-one-spec : {M : Type 1} → statement M
 turn-one-spec =
     tie.close
     (tie.spec
-    place-for-requires
+    sub-at
+    add-at
+    cast-output-of
     mul-output-of
     slice-read-output-of
     output-of-requires

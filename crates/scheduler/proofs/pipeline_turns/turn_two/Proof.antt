@@ -15,10 +15,16 @@ abbrev freed : tie.After-second-turn → tie.After-free-for
 freed c = c .before .before
 
 abbrev read : tie.After-free-for → tie.After-output-of
-read c = c .before .before .before .before
+read c = c .before .before .before
 
-place-for-requires : tie.Need-place-for-requires
-place-for-requires c κs = search needs
+sub-at : tie.Need-sub-at
+sub-at c = search needs
+
+add-at : tie.Need-add-at
+add-at c = search needs
+
+cast-output-of : tie.Need-cast-output-of
+cast-output-of c = search needs
 
 mul-output-of : tie.Need-mul-output-of
 mul-output-of c = search needs
@@ -30,9 +36,9 @@ output-of-requires : tie.Need-output-of-requires
 output-of-requires c κs = search needs
 
 returns : tie.Need-returns
-returns c = λ cr.
-    let o = c .before .before in
-    turn-two-held _ _ _ cr _ _ _ _ (o .before .before .place-for .ensures .0) (o .output-of .ensures .0) (c .if1 .taken)
+returns c = λ s e cr.
+    let o = c .before in
+    turn-two-held _ s _ cr _ _ _ _ e (o .output-of .ensures .0) (c .if1 .taken)
 
 free-for-requires : tie.Need-free-for-requires
 free-for-requires c κs = search needs
@@ -63,11 +69,11 @@ same-length-2 : tie.Need-same-length-2
 same-length-2 c = search needs
 
 returns-2 : tie.Need-returns-2
-returns-2 c = λ cr.
+returns-2 c = λ s e cr.
     let t = turned (c .before .before) in
     let f = freed t in
     let o = read f in
-    turn-two-some _ _ _ cr _ _ _ _ (o .before .before .place-for .ensures .0) (o .output-of .ensures .0) (f .before .before .if1 .left) _ _ (f .free-for .ensures)
+    turn-two-some _ s _ cr _ _ _ _ e (o .output-of .ensures .0) (f .before .before .if1 .left) _ _ (f .free-for .ensures s e)
     (t .second-turn .ensures .0) _ (t .second-turn .ensures .1) (c .before .if2 .taken)
 
 same-length-3 : tie.Need-same-length-3
@@ -77,18 +83,20 @@ same-length-4 : tie.Need-same-length-4
 same-length-4 c = search needs
 
 returns-3 : tie.Need-returns-3
-returns-3 c = λ cr.
+returns-3 c = λ s e cr.
     let t = turned (c .before) in
     let f = freed t in
     let o = read f in
-    turn-two-none _ _ _ cr _ _ _ _ (o .before .before .place-for .ensures .0) (o .output-of .ensures .0) (f .before .before .if1 .left) _ _ (f .free-for .ensures)
+    turn-two-none _ s _ cr _ _ _ _ e (o .output-of .ensures .0) (f .before .before .if1 .left) _ _ (f .free-for .ensures s e)
     (t .second-turn .ensures .0) _ (t .second-turn .ensures .1) (c .if2 .left)
 
 pub turn-two-spec : {M : Type 1} → statement M
 turn-two-spec =
     tie.close
     (tie.spec
-    place-for-requires
+    sub-at
+    add-at
+    cast-output-of
     mul-output-of
     slice-read-output-of
     output-of-requires

@@ -1,23 +1,21 @@
--- `pipeline_turns::turns_of` meets its contract: pass one, then a pass-two turn that is due or not. Assumes nothing.
+-- `pipeline_turns::turns_of` meets its contract: the input's turns are due or not, and its rows are those of its slots. Assumes nothing.
+use native.Mathlib.Omega.{arith}
 use borrow.Author.Needs.{needs}
-use Rattle.scheduler.proofs.PipelinedTurns.{two-due, two-early}
+use Rattle.scheduler.proofs.PipelinedTurns.{turns-due, turns-early}
 use Rattle.scheduler.proofs.pipeline_turns.turns_of.Statement.{statement}
 use Rattle.scheduler.proofs.pipeline_turns.turns_of.Tie as tie
 
-pass-one-turn-requires : tie.Need-pass-one-turn-requires
-pass-one-turn-requires c κs = search needs
+reload-row-requires : tie.Need-reload-row-requires
+reload-row-requires c κs = search needs
 
-add-slot : tie.Need-add-slot
-add-slot c = search needs
+row-before-requires : tie.Need-row-before-requires
+row-before-requires c κs = search needs
 
-add-slot-2 : tie.Need-add-slot-2
-add-slot-2 c = search needs
+turn-one-requires : tie.Need-turn-one-requires
+turn-one-requires c κs = search needs
 
-sub-slot : tie.Need-sub-slot
-sub-slot c = search needs
-
-add-if1 : tie.Need-add-if1
-add-if1 c = search needs
+row-before-requires-2 : tie.Need-row-before-requires-2
+row-before-requires-2 c κs = search needs
 
 turn-two-requires : tie.Need-turn-two-requires
 turn-two-requires c κs = search needs
@@ -32,41 +30,31 @@ same-length-3 : tie.Need-same-length-3
 same-length-3 c = search needs
 
 returns : tie.Need-returns
-returns c =
+returns c = λ frame a.
     let t = c .before .before .before .before in
-    let h = t .before .before .before in
-    let o = h .before .before .before .before .before .before .before .before in
-    two-due _ _ _ _ _ _ _ _ (h .if1 .taken) (o .pass-one-turn .ensures) (t .turn-two .ensures _)
-
-same-length-4 : tie.Need-same-length-4
-same-length-4 c = search needs
-
-same-length-5 : tie.Need-same-length-5
-same-length-5 c = search needs
-
-same-length-6 : tie.Need-same-length-6
-same-length-6 c = search needs
+    let v = t .before .before .before in
+    let o = v .before .before .before .before .before .before .before in
+    let w = o .before .before .before .before in
+    let r = w .before .before .before in
+    let due = r .before .before .if1 .taken in
+    turns-due _ frame _ _ _ _ _ _ _ due (r .reload-row .ensures frame _ (a .covers) (a .place) _ _)
+    (o .turn-one .ensures _ (w .row-before .ensures .0 _ (a .row-one) (omega (arith, due))))
+    (t .turn-two .ensures _ (v .row-before2 .ensures .0 _ (a .row-two) (omega (arith, due))) _)
 
 returns-2 : tie.Need-returns-2
-returns-2 c =
-    let o = c .before .before .before .before .before .before .before .before in
-    two-early _ _ _ _ _ _ _ (c .if1 .left) (o .pass-one-turn .ensures)
+returns-2 c = λ frame a. turns-early _ frame _ _ _ _ (c .if1 .left)
 
 pub turns-of-spec : {M : Type 1} → statement M
 turns-of-spec =
     tie.close
     (tie.spec
-    pass-one-turn-requires
-    add-slot
-    add-slot-2
-    sub-slot
-    add-if1
+    reload-row-requires
+    row-before-requires
+    turn-one-requires
+    row-before-requires-2
     turn-two-requires
     same-length
     same-length-2
     same-length-3
     returns
-    same-length-4
-    same-length-5
-    same-length-6
     returns-2)

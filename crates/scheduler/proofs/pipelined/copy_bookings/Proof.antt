@@ -7,15 +7,6 @@ use Rattle.scheduler.proofs.PipelinedTick.{copies, stands}
 use Rattle.scheduler.proofs.pipelined.copy_bookings.Statement.{statement}
 use Rattle.scheduler.proofs.pipelined.copy_bookings.Tie as tie
 
-mul-is-first-of-frame : tie.Need-mul-is-first-of-frame
-mul-is-first-of-frame c = search needs
-
-add-is-first-of-frame : tie.Need-add-is-first-of-frame
-add-is-first-of-frame c = search needs
-
-is-first-of-frame-requires : tie.Need-is-first-of-frame-requires
-is-first-of-frame-requires c κs = search needs
-
 mul-copy-words : tie.Need-mul-copy-words
 mul-copy-words c = search needs
 
@@ -26,21 +17,18 @@ same-length : tie.Need-same-length
 same-length c = search needs
 
 returns : tie.Need-returns
-returns c = λ cr q f.
+returns c = λ frame time place cr q f.
     let w = c .before .before in
     let t = w .before .before in
-    copies _ _ _ _ _ (t .before .is-first-of-frame .ensures) _ (t .if1 .taken) (w .copy-words .ensures ∙ copy-fits _ _ _ (omega arith) (omega arith))
+    copies _ frame time _ _ place _ (omega arith) (w .copy-words .ensures ∙ copy-fits _ _ _ (omega arith) (omega arith))
 
 returns-2 : tie.Need-returns-2
-returns-2 c = λ cr q f. stands _ _ _ _ _ (c .before .is-first-of-frame .ensures) (c .if1 .left)
+returns-2 c = λ frame time place cr q f. stands _ frame time _ _ place (c .if1 .left)
 
 pub copy-bookings-spec : {M : Type 1} → statement M
 copy-bookings-spec =
     tie.close
     (tie.spec
-    mul-is-first-of-frame
-    add-is-first-of-frame
-    is-first-of-frame-requires
     mul-copy-words
     copy-words-requires
     same-length

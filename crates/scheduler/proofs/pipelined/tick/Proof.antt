@@ -44,7 +44,7 @@ returns c = parts (tick-refused _ _ _ _ _ (c .before .tick-refusal .ensures) (c 
 run-tick-requires : tie.Need-run-tick-requires
 run-tick-requires c κs =
     let a = found (c .before .before .before .before) in
-    (a .some-port, (a .lent, (a .bookings, (a .some-slot, a .slots-left))))
+    (a .some-port, (a .lent, (a .bookings, (a .covers, a .slots-left))))
 
 same-length-5 : tie.Need-same-length-5
 same-length-5 c = search needs
