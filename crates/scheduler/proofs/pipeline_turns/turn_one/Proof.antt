@@ -3,13 +3,14 @@ use Prim.Native.Nat.{_≤_}
 use native.Mathlib.Omega.{arith}
 use borrow.Author.Needs.{needs}
 use Rattle.scheduler.proofs.Choice.{chosen}
+use Rattle.scheduler.proofs.FlightLaws.{rows-few}
 use Rattle.scheduler.proofs.PipelinedTurns.{turn-one-held, turn-one-some, turn-one-none}
 use Rattle.scheduler.proofs.pipeline_turns.turn_one.Statement.{statement}
 use Rattle.scheduler.proofs.pipeline_turns.turn_one.Tie as tie
 
 -- the calls, from the last on
 abbrev turned : tie.After-struct-known2 → tie.After-first-turn
-turned c = c .before .before .before .before .before
+turned c = c .before .before .before .before .before .before
 
 abbrev freed : tie.After-first-turn → tie.After-free-for
 freed c = c .before .before .before
@@ -41,7 +42,7 @@ first-turn-requires : tie.Need-first-turn-requires
 first-turn-requires c κs = search needs
 
 -- the output that is taken is a port
-small : (c : tie.Then2) → turned (c .before) .first-turn .result .0 ≤ 32
+small : (c : tie.Then2) → turned (c .before) .first-turn .result .output .0 ≤ 32
 small c =
     let t = turned (c .before) in
     let p = chosen _ _ _ _ _ _ (t .first-turn .ensures .0) (c .if2 .taken) .port in
@@ -53,11 +54,16 @@ cast-flight c = omega (arith, small (c .before))
 add-flight : tie.Need-add-flight
 add-flight c = omega (arith, small (c .before))
 
+-- the input's place lies within the rows in flight
 mul-flight : tie.Need-mul-flight
-mul-flight c = search needs
+mul-flight c =
+    let p = read (freed (turned (c .before .before))) .before .before in
+    omega (arith, p .place-for .ensures .1, rows-few _ (p .before .before .before .before .pre .0))
 
 slice-write-flight : tie.Need-slice-write-flight
-slice-write-flight c = search needs
+slice-write-flight c =
+    let p = read (freed (turned (c .before .before))) .before .before in
+    omega (arith, p .place-for .ensures .1, p .before .before .before .before .pre .1 .1 .1 .1)
 
 same-length : tie.Need-same-length
 same-length c = search needs
@@ -74,7 +80,7 @@ returns-2 c =
     let f = freed t in
     let o = read f in
     turn-one-some _ _ _ _ _ _ _ _ (o .before .before .place-for .ensures .0) (o .output-of .ensures .0) (f .before .before .if1 .left) _ _ (f .free-for .ensures)
-    (t .first-turn .ensures .0) _ _ (t .first-turn .ensures .1 .0) (t .first-turn .ensures .1 .1) (c .before .if2 .taken)
+    (t .first-turn .ensures .0) _ _ (t .first-turn .ensures .1 .0) (t .first-turn .ensures .1 .1 .0) (c .before .if2 .taken)
 
 same-length-4 : tie.Need-same-length-4
 same-length-4 c = search needs
@@ -91,7 +97,7 @@ returns-3 c =
     let f = freed t in
     let o = read f in
     turn-one-none _ _ _ _ _ _ _ _ (o .before .before .place-for .ensures .0) (o .output-of .ensures .0) (f .before .before .if1 .left) _ _ (f .free-for .ensures)
-    (t .first-turn .ensures .0) _ _ (t .first-turn .ensures .1 .0) (t .first-turn .ensures .1 .1) (c .if2 .left)
+    (t .first-turn .ensures .0) _ _ (t .first-turn .ensures .1 .0) (t .first-turn .ensures .1 .1 .0) (c .if2 .left)
 
 pub turn-one-spec : {M : Type 1} → statement M
 turn-one-spec =
