@@ -58,7 +58,7 @@ module _ (n : ℕ) (start other : List ℕ) (f : ℕ → ℕ) (free : ℕ) (outp
   pub lowest-is : lowest (is-open n free one queues k) n ≡ lowest (λ j. not (given f n j) && (ltb 0 (word n other k j) && ltb 0 (word n start k j))) n
   lowest-is = lowest-ext _ _ n open-is
 
--- the outputs for which input k has packets, which holds none, are those at the start
+-- where input k holds none, the outputs for which it has packets are those at the start
 row-waiting : (n : ℕ) (start : List ℕ) (f : ℕ → ℕ) (free : ℕ) (outputs queues : List ℕ) → Held n start f free outputs queues
     → n * n ≤ length queues → (x k : ℕ) → k ≡ suc x → x < n → f k ≡ 0
     → ready-mask queues queues ((k - 1) * n) n ≡ ready-mask start start (x * n) n
@@ -66,11 +66,12 @@ unfolding ready-mask word place
 row-waiting n start f free outputs queues h enough x k next l none =
     let m : n * n ≤ length start = rw (h .cost, spent-length n start f n) at enough in
     let row : k - 1 ≡ x = omega arith in
-    let same : (j : ℕ) → Port n j → word n queues k j ≡ word n start k j =
-    λ j p. ap (λ q. word n q k j) (h .cost) ∙ spent-row n start m f (h .bound) k j (omega arith) p none in
-    marked-ext n _ _ (λ j p. ap (λ v. ltb 0 v && ltb 0 v) (same j p)) ∙ ap (λ z. ready-mask start start (z * n) n) row
+    marked-ext n _ _ (λ j p. ap (λ v. ltb 0 v && ltb 0 v) (same m j p)) ∙ ap (λ z. ready-mask start start (z * n) n) row
+  where
+    same : n * n ≤ length start → (j : ℕ) → Port n j → word n queues k j ≡ word n start k j
+    same m j p = ap (λ q. word n q k j) (h .cost) ∙ spent-row n start m f (h .bound) k j (omega arith) p none
 
--- one row more of which they are known
+-- they are known of one row more
 pub waiting-next : (n : ℕ) (start waiting : List ℕ) (x w : ℕ) → x < 32 → (length waiting ≡ 32) × Waiting n x start waiting
     → w ≡ ready-mask start start (x * n) n → (length (set waiting x w) ≡ 32) × Waiting n (x + 1) start (set waiting x w)
 waiting-next n start waiting x w l known e = (
@@ -101,7 +102,7 @@ module _ (n : ℕ) (few : n ≤ 32) (other start : List ℕ) where
   unfolding pass-one
   one-start free h = record { held = held-none n free start h; cost = sym (spent-none n other n); mark = sym (marked-none 32) }
 
-  -- the outputs for which the next input has packets
+  -- the outputs for which input x + 1 has packets
   pub one-waiting : (free first : ℕ) (outputs credits queues : List ℕ) → n * n ≤ length queues → (x k : ℕ) → k ≡ suc x → x < n
       → One n other start (before x) free first outputs credits queues → (w : ℕ) → w ≡ ready-mask queues queues ((k - 1) * n) n
       → w ≡ ready-mask start start (x * n) n
@@ -137,13 +138,13 @@ module _ (n : ℕ) (few : n ≤ 32) (other start : List ℕ) where
         rw (e, c ∙ charged-none n credits k r (omega arith), q ∙ charged-none n queues k r (omega arith)) h
 
     -- it takes output r
-    pub one-some : 1 ≤ r → (free′ : ℕ) → ((j : ℕ) → Port 32 j → in-mask free′ j ≡ (in-mask free j && not (eqb j r))) → (credits′ queues′ : List ℕ)
-        → credits′ ≡ charged n credits k r → queues′ ≡ charged n queues k r
-        → One n other start (before k) free′ (bitOr first (2 ^ x)) (set outputs x r) credits′ queues′
-    one-some p free′ m credits′ queues′ c q =
+    pub one-some : 1 ≤ r → (free′ : ℕ) → ((j : ℕ) → Port 32 j → in-mask free′ j ≡ (in-mask free j && not (eqb j r))) → (mine : ℕ) → mine ≡ 2 ^ x
+        → (credits′ queues′ : List ℕ) → credits′ ≡ charged n credits k r → queues′ ≡ charged n queues k r
+        → One n other start (before k) free′ (bitOr first mine) (set outputs x r) credits′ queues′
+    one-some p free′ m mine b credits′ queues′ c q =
         let port : Port n r = chosen n free credits queues k r found p .port in
         let none : before x (suc x) ≡ 0 = one-beyond x (suc x) (omega arith) in
-        rw (one-next, c ∙ charged-some n credits k r p, q ∙ charged-some n queues k r p, next)
+        rw (one-next, b, c ∙ charged-some n credits k r p, q ∙ charged-some n queues k r p, next)
         (record {
           held = held-more n few start (before x) free outputs queues (h .held) x r free′ l none port m;
           cost = rw (h .cost) (sym (spent-more n other (before x) (suc x) r n (omega arith) none p));
@@ -180,6 +181,7 @@ module _ (n : ℕ) (few : n ≤ 32) (start : List ℕ) (one : ℕ → ℕ) where
     two-waiting enough l idle w e =
         e ∙ sym (row-waiting n start (after x) free outputs queues h enough x k next l (ap (after x) next ∙ none-yet idle))
 
+    -- its turn
     module _ (l : x < n) (enough : n * n ≤ length queues) (idle : ltb 0 (one (suc x)) ≡ false) (r : ℕ)
         (found : r ≡ lowest (is-open n free queues queues k) n) where
       -- and takes what the search finds

@@ -117,10 +117,9 @@ loop-again-2 c =
       omega arith,
       t .first-turn .kept .1 .1 .1 .0 ∙ l .loop .inv .1,
       t .first-turn .kept .1 .1 .1 .1 .0 ∙ l .loop .inv .2,
-      rw (one-shl 32 (l .loop .row) (omega arith))
-          (one-some _ (omega arith) _ _ _ _ _ _ _ (omega arith) (omega arith) (l .loop .row) _ (add-one _) (omega arith) (l .loop .inv .3) _
-          (t .first-turn .ensures .0) (taken (w .before) .port .low) _ (w .without .ensures) _ _
-          (t .first-turn .ensures .1 .0) (t .first-turn .ensures .1 .1 .0)),
+      one-some _ (omega arith) _ _ _ _ _ _ _ (omega arith) (omega arith) (l .loop .row) _ (add-one _) (omega arith) (l .loop .inv .3) _
+          (t .first-turn .ensures .0) (taken (w .before) .port .low) _ (w .without .ensures) _ (one-shl 32 (l .loop .row) (omega arith)) _ _
+          (t .first-turn .ensures .1 .0) (t .first-turn .ensures .1 .1 .0),
       known t,
     )
 
