@@ -2,7 +2,7 @@
 -- such a word has in common with the free outputs, as the lowest open output. Assumes nothing.
 use mathlib.Core.Path.{_≡_, refl, sym, _∙_, ap, ap₂}
 use mathlib.Core.Bool.{Bool, true, false, _&&_}
-use mathlib.Core.List.{List, [], _∷_}
+use mathlib.Core.List.{List}
 use mathlib.Core.Logic.{_≢_}
 use Prim.Native.Nat.{ℕ, zero, suc, _+_, _-_, _*_, _/_, _%_, _^_, _≤_, _<_}
 use native.Mathlib.Decide.{ℕ-discrete}
@@ -19,7 +19,7 @@ use Rattle.wsgs.specs.Basics.{bit, Port, least, lowest}
 use Rattle.wsgs.specs.Words.{place, word}
 use Rattle.wsgs.specs.Steps.{marked}
 use Rattle.wsgs.proofs.Laws.Lowest.{lowest-ext}
-use Rattle.scheduler.specs.Masks.{in-mask, is-open, ready-mask}
+use Rattle.scheduler.specs.Masks.{in-mask, powers, is-open, ready-mask}
 use Rattle.scheduler.proofs.BitLaws.{bits, mask-bit}
 use Rattle.scheduler.proofs.Marked.{marked-suc, marked-lt, marked-none, marked-bit}
 use Rattle.scheduler.proofs.TrailingLaws.{below-unset, lowest-set}
@@ -45,11 +45,7 @@ least-absent p k (suc m) f = rw (f k (omega arith) (omega arith), least) (least-
 abbrev ready : List ℕ → List ℕ → ℕ → ℕ → Bool
 ready one two row k = ltb 0 (getD one (row + k) 0) && ltb 0 (getD two (row + k) 0)
 
--- m powers of 2 from the k-th on, as a table, and one of them
-unfoldable pub powers : ℕ → ℕ → List ℕ
-powers k zero = []
-powers k (suc m) = 2 ^ k ∷ powers (suc k) m
-
+-- one of m powers of 2
 pub power-at : (k m j : ℕ) → j < m → getD (powers k m) j 0 ≡ 2 ^ (k + j)
 unfolding powers
 power-at k zero j h = absurd (omega arith)

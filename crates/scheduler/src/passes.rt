@@ -8,7 +8,8 @@ ghost use Rattle.wsgs.specs.Direct.{spent};
 ghost use Rattle.scheduler.specs.Passes.{Held, ones, Waiting, PassedOne, PassTwo};
 use super::masks::all_free;
 use super::masks::without;
-use super::turns::first_turn;
+use super::search::BITS;
+use super::turns::first_turn_with;
 use super::turns::waiting_turn;
 use wsgs::Input;
 
@@ -35,8 +36,10 @@ pub fn pass_one(ports: usize, credits: &mut [u32], queues: &mut [u32]) -> Passed
     let mut outputs = [0u8; 32];
     let mut first_pass = 0u32;
     let mut waiting = [0u32; 32];
+    let bits = BITS;
     for row in 0..ports {
-        let turn = first_turn(free, ports, Input(row as u64 + 1), credits, queues);
+        let input = Input(row as u64 + 1);
+        let turn = first_turn_with(&bits, free, ports, input, credits, queues);
         waiting[row] = turn.waiting;
         let output = turn.output;
         if output.0 == 0 {

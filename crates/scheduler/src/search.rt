@@ -4,11 +4,11 @@ ghost use mathlib.Core.Bool.{_&&_};
 ghost use Prim.Native.Nat.{_+_, _≤_};
 ghost use lib.ListN.{length};
 ghost use Rattle.wsgs.specs.Basics.{lowest};
-ghost use Rattle.scheduler.specs.Masks.{in-mask, ready-mask};
+ghost use Rattle.scheduler.specs.Masks.{in-mask, powers, ready-mask};
 use wsgs::Output;
 
-// The bits of a word, from the lowest on.
-const BITS: [u32; 32] = [
+// The bits of a word, from the lowest on. A caller that sweeps many rows makes the table once and lends it.
+pub const BITS: [u32; 32] = [
     1,
     2,
     4,
@@ -51,14 +51,20 @@ pub struct Requests {
 
 // The requests of the row that begins at a place. It reads the whole row, with no branch and no shift, so that the compiler can use vector
 // instructions.
-pub fn requests_of(ports: usize, row: usize, credits: &[u32], queues: &[u32]) -> Requests
+pub fn requests_of(
+    bits: &[u32; 32],
+    ports: usize,
+    row: usize,
+    credits: &[u32],
+    queues: &[u32],
+) -> Requests
+    requires { ⌜ now bits ≡ powers 0 32 ⌝ }
     requires { ⌜ ports ≤ 32 ⌝ }
     requires { ⌜ row + ports ≤ length (now credits) ⌝ }
     requires { ⌜ row + ports ≤ length (now queues) ⌝ }
     ensures { λ r. ⌜ r .ready ≡ ready-mask (now (credits .entry)) (now (queues .entry)) row ports ⌝ }
     ensures { λ r. ⌜ r .waiting ≡ ready-mask (now (queues .entry)) (now (queues .entry)) row ports ⌝ }
 {
-    let bits = BITS;
     let mut ready = 0u32;
     let mut waiting = 0u32;
     for column in 0..ports {

@@ -1,7 +1,6 @@
--- `search::requests_of` meets its contract. The loop's invariant: the table has the bits of a word, and the words have the bits of the columns so
--- far. The measure is the columns left. Assumes nothing.
+-- `search::requests_of` meets its contract. The loop's invariant: the words have the bits of the columns so far. The measure is the columns left. Assumes nothing.
 use Prim.Native.Nat.{ℕ, _+_, _-_, _≤_}
-use mathlib.Core.Path.{_≡_, refl, ap, _∙_}
+use mathlib.Core.Path.{_≡_, ap, _∙_}
 use mathlib.Core.Bool.{Bool}
 use mathlib.Core.List.{List}
 use borrow.Author.Needs.{needs}
@@ -9,27 +8,25 @@ use native.Mathlib.Omega.{arith}
 use lib.Dec.{ltb}
 use lib.ListN.{getD}
 use Rattle.scheduler.specs.Masks.{ready-mask}
-use Rattle.scheduler.proofs.Ready.{powers, column-bit, ready-start, ready-next, column-fits, column-one, column-two}
+use Rattle.scheduler.proofs.Ready.{column-bit, ready-start, ready-next, column-fits, column-one, column-two}
 use Rattle.scheduler.proofs.search.requests_of.Statement.{statement}
 use Rattle.scheduler.proofs.search.requests_of.Tie as tie
 
 abbrev Inv-loop : tie.InvT-loop
-Inv-loop ports row credits queues bits ready₀ waiting₀ column₀ ready waiting column =
+Inv-loop bits ports row credits queues ready₀ waiting₀ column₀ ready waiting column =
     (column ≤ ports)
-    × (bits ≡ powers 0 32)
     × (ready ≡ ready-mask credits queues row column)
     × (waiting ≡ ready-mask queues queues row column)
 
 abbrev μ-loop : tie.MeasureT-loop
-μ-loop ports row credits queues bits ready₀ waiting₀ column₀ ready waiting column = ports - column
+μ-loop bits ports row credits queues ready₀ waiting₀ column₀ ready waiting column = ports - column
 
 -- the test of a run's word at the loop's column
 abbrev above : tie.At-loop Inv-loop μ-loop → List ℕ → Bool
 above l run = ltb 0 (getD run (l .before .args .row + l .loop .column) 0)
 
 loop-holds : tie.Need-loop-holds Inv-loop μ-loop
-unfolding powers
-loop-holds c = (search needs, refl, ready-start _ _ _, ready-start _ _ _)
+loop-holds c = (search needs, ready-start _ _ _, ready-start _ _ _)
 
 add-packets : tie.Need-add-packets Inv-loop μ-loop
 add-packets c = search needs
@@ -46,13 +43,13 @@ cast-packets c = search needs
 mul-packets-2 : tie.Need-mul-packets-2 Inv-loop μ-loop
 mul-packets-2 c = search needs
 
-array-read-packets : tie.Need-array-read-packets Inv-loop μ-loop
-array-read-packets c = search needs
+element-copy-out-packets : tie.Need-element-copy-out-packets Inv-loop μ-loop
+element-copy-out-packets c = search needs
 
 mul-packets-3 : tie.Need-mul-packets-3 Inv-loop μ-loop
 mul-packets-3 c =
-    let l = c .before .before in
-    record { fits = column-fits (l .loop .column) _ (column-bit _ _ (l .loop .inv .1) (omega arith)) (above l (l .before .args .queues .now)) (omega arith) }
+    let l = c .before .before .before in
+    record { fits = column-fits (l .loop .column) _ (column-bit _ _ (l .before .pre .0) (omega arith)) (above l (l .before .args .queues .now)) (omega arith) }
 
 add-credit : tie.Need-add-credit Inv-loop μ-loop
 add-credit c = search needs
@@ -69,13 +66,13 @@ cast-credit c = search needs
 mul-credit-2 : tie.Need-mul-credit-2 Inv-loop μ-loop
 mul-credit-2 c = search needs
 
-array-read-credit : tie.Need-array-read-credit Inv-loop μ-loop
-array-read-credit c = search needs
+element-copy-out-credit : tie.Need-element-copy-out-credit Inv-loop μ-loop
+element-copy-out-credit c = search needs
 
 mul-credit-3 : tie.Need-mul-credit-3 Inv-loop μ-loop
 mul-credit-3 c =
-    let l = c .before .before .before in
-    record { fits = column-fits (l .loop .column) _ (column-bit _ _ (l .loop .inv .1) (omega arith)) (above l (l .before .args .credits .now)) (omega arith) }
+    let l = c .before .before .before .before .before in
+    record { fits = column-fits (l .loop .column) _ (column-bit _ _ (l .before .pre .0) (omega arith)) (above l (l .before .args .credits .now)) (omega arith) }
 
 add-column : tie.Need-add-column Inv-loop μ-loop
 add-column c = search needs
@@ -85,22 +82,21 @@ loop-less c = search needs
 
 loop-again : tie.Need-loop-again Inv-loop μ-loop
 loop-again c =
-    let l = c .before .before .before in
+    let l = c .before .before .before .before .before in
     let k = l .loop .column in
     let credit = above l (l .before .args .credits .now) in
     let packet = above l (l .before .args .queues .now) in
-    let bit = column-bit _ k (l .loop .inv .1) (omega arith) in (
+    let bit = column-bit _ k (l .before .pre .0) (omega arith) in (
       omega arith,
-      l .loop .inv .1,
-      ready-next _ _ _ k _ _ (l .loop .inv .2) (column-two k _ bit credit packet),
-      ready-next _ _ _ k _ _ (l .loop .inv .3) (column-one k _ bit packet),
+      ready-next _ _ _ k _ _ (l .loop .inv .1) (column-two k _ bit credit packet),
+      ready-next _ _ _ k _ _ (l .loop .inv .2) (column-one k _ bit packet),
     )
 
 returns : tie.Need-returns Inv-loop μ-loop
 returns c =
     let l = c .before in
     let e : l .loop .column ≡ l .before .args .ports = omega arith in
-    (l .loop .inv .2 ∙ ap (ready-mask _ _ _) e, l .loop .inv .3 ∙ ap (ready-mask _ _ _) e)
+    (l .loop .inv .1 ∙ ap (ready-mask _ _ _) e, l .loop .inv .2 ∙ ap (ready-mask _ _ _) e)
 
 pub requests-of-spec : {M : Type 1} → statement M
 requests-of-spec =
@@ -114,14 +110,14 @@ requests-of-spec =
     shared-slice-read-packets
     cast-packets
     mul-packets-2
-    array-read-packets
+    element-copy-out-packets
     mul-packets-3
     add-credit
     mul-credit
     shared-slice-read-credit
     cast-credit
     mul-credit-2
-    array-read-credit
+    element-copy-out-credit
     mul-credit-3
     add-column
     loop-less

@@ -7,8 +7,8 @@ use borrow.Author.Needs.{needs}
 use native.Mathlib.Omega.{arith}
 use lib.Dec.{ltb}
 use lib.ListN.{getD}
-use Rattle.scheduler.specs.Masks.{ready-mask}
-use Rattle.scheduler.proofs.Ready.{powers, column-bit, ready-start, ready-next, column-fits, column-one}
+use Rattle.scheduler.specs.Masks.{powers, ready-mask}
+use Rattle.scheduler.proofs.Ready.{column-bit, ready-start, ready-next, column-fits, column-one}
 use Rattle.scheduler.proofs.search.waiting_outputs.Statement.{statement}
 use Rattle.scheduler.proofs.search.waiting_outputs.Tie as tie
 
