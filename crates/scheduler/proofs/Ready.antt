@@ -1,24 +1,26 @@
 -- The columns of a row in which the words of two runs are above 0 as the bits of a word, one column after the other; and the lowest bit that
--- this word has in common with the free outputs, as the lowest open output. Assumes nothing.
+-- such a word has in common with the free outputs, as the lowest open output. Assumes nothing.
 use mathlib.Core.Path.{_≡_, refl, sym, _∙_, ap, ap₂}
 use mathlib.Core.Bool.{Bool, true, false, _&&_}
-use mathlib.Core.List.{List, [], _∷_}
+use mathlib.Core.List.{List}
 use mathlib.Core.Logic.{_≢_}
 use Prim.Native.Nat.{ℕ, zero, suc, _+_, _-_, _*_, _/_, _%_, _^_, _≤_, _<_}
 use native.Mathlib.Decide.{ℕ-discrete}
+use native.Mathlib.Nat.{zero-mul}
 use native.Mathlib.Numerals.{add-one}
 use native.Mathlib.Omega.{arith}
-use lib.Bits.{bitAnd, bitOr, and-shr, and-mod, or-shifted-r}
+use lib.Bits.{bitAnd, bitOr, and-shr, and-mod, and-self, and-zero-l, and-zero-r, or-shifted-r}
 use lib.Count.{trailingZeros}
 use lib.Dec.{eqb, ltb}
 use lib.ListN.{getD}
 use lib.Pow.{pow-lt}
 use mir.Val.{boolByte}
-use Rattle.wsgs.specs.Basics.{bit, least, lowest}
+use Rattle.wsgs.specs.Basics.{bit, Port, least, lowest}
 use Rattle.wsgs.specs.Words.{place, word}
 use Rattle.wsgs.specs.Steps.{marked}
+use Rattle.wsgs.proofs.Laws.Lowest.{lowest-ext}
 use Rattle.wsgs.proofs.Laws.Marked.{marked-suc, marked-lt, marked-none, marked-bit}
-use Rattle.scheduler.specs.Masks.{is-open, ready-mask}
+use Rattle.scheduler.specs.Masks.{in-mask, powers, is-open, ready-mask}
 use Rattle.scheduler.proofs.BitLaws.{bits, mask-bit}
 use Rattle.scheduler.proofs.TrailingLaws.{below-unset, lowest-set}
 
@@ -43,11 +45,7 @@ least-absent p k (suc m) f = rw (f k (omega arith) (omega arith), least) (least-
 abbrev ready : List ℕ → List ℕ → ℕ → ℕ → Bool
 ready one two row k = ltb 0 (getD one (row + k) 0) && ltb 0 (getD two (row + k) 0)
 
--- m powers of 2 from the k-th on, as a table, and one of them
-unfoldable pub powers : ℕ → ℕ → List ℕ
-powers k zero = []
-powers k (suc m) = 2 ^ k ∷ powers (suc k) m
-
+-- one of m powers of 2
 pub power-at : (k m j : ℕ) → j < m → getD (powers k m) j 0 ≡ 2 ^ (k + j)
 unfolding powers
 power-at k zero j h = absurd (omega arith)
@@ -67,30 +65,33 @@ ready-start one two row = refl
 mark-next : (n : ℕ) (p : ℕ → Bool) → bitOr (marked n p) (bit (p (suc n)) * 2 ^ n) ≡ marked (suc n) p
 mark-next n p = or-shifted-r (bit (p (suc n))) n (marked n p) (marked-lt n p) ∙ sym (marked-suc n p)
 
--- both tests as bits
-and-bits : (a b : Bool) → bitAnd (boolByte a) (boolByte b) ≡ bit (a && b)
-and-bits true true = refl
-and-bits true false = refl
-and-bits false true = refl
-and-bits false false = refl
-
--- such a bit at a column fits a word
-pub column-fits : (a b : Bool) (n v : ℕ) → v ≡ 2 ^ n → n < 32 → bitAnd (boolByte a) (boolByte b) * v < 2 ^ 32
-column-fits a b n v e h = rw (and-bits a b, e) (go (a && b))
-  where
-    go : (b : Bool) → bit b * 2 ^ n < 2 ^ 32
-    go true = omega (arith, pow-lt h)
-    go false = omega arith
-
 -- so the word of one column more
-pub ready-next : (one two : List ℕ) (row n w v : ℕ) → w ≡ ready-mask one two row n → v ≡ 2 ^ n
-    → bitOr w (bitAnd (boolByte (ltb 0 (getD one (row + n) 0))) (boolByte (ltb 0 (getD two (row + n) 0))) * v) ≡ ready-mask one two row (n + 1)
+pub ready-next : (one two : List ℕ) (row n w b : ℕ) → w ≡ ready-mask one two row n → b ≡ bit (ready one two row n) * 2 ^ n
+    → bitOr w b ≡ ready-mask one two row (n + 1)
 unfolding ready-mask
-ready-next one two row n w v e f =
+ready-next one two row n w b e f =
     let d : suc n - 1 ≡ n = omega arith in
     let p : ℕ → Bool = λ j. ready one two row (j - 1) in
-    rw (e, f, add-one n, and-bits (ltb 0 (getD one (row + n) 0)) (ltb 0 (getD two (row + n) 0)))
-    (ap (λ z. bitOr (marked n p) (bit (ready one two row z) * 2 ^ n)) (sym d) ∙ mark-next n p)
+    rw (e, f, add-one n) (ap (λ z. bitOr (marked n p) (bit (ready one two row z) * 2 ^ n)) (sym d) ∙ mark-next n p)
+
+-- a test as the bit v of column n
+module _ (n v : ℕ) (e : v ≡ 2 ^ n) where
+  -- it fits a word
+  pub column-fits : (a : Bool) → n < 32 → boolByte a * v < 2 ^ 32
+  column-fits true h = rw e (omega (arith, pow-lt h))
+  column-fits false h = omega arith
+
+  -- one test, which is also the test twice
+  pub column-one : (a : Bool) → boolByte a * v ≡ bit (a && a) * 2 ^ n
+  column-one true = ap (λ z. 1 * z) e
+  column-one false = omega arith
+
+  -- two tests, by an and of their bits
+  pub column-two : (a b : Bool) → bitAnd (boolByte b * v) (boolByte a * v) ≡ bit (a && b) * 2 ^ n
+  column-two true true = and-self (1 * v) ∙ ap (λ z. 1 * z) e
+  column-two true false = rw (zero-mul v, and-zero-l) (sym (zero-mul (2 ^ n)))
+  column-two false true = rw (zero-mul v, and-zero-r) (sym (zero-mul (2 ^ n)))
+  column-two false false = rw (zero-mul v, and-zero-l) (sym (zero-mul (2 ^ n)))
 
 -- its bits
 ready-bit : (one two : List ℕ) (row n k : ℕ) → k < n → bits (ready-mask one two row n) k ≡ ready one two row k
@@ -119,29 +120,41 @@ common-bit a b k =
     go zero (suc (suc y)) h l = absurd (omega arith)
     go (suc zero) (suc (suc y)) h l = absurd (omega arith)
 
--- the free outputs that are ready for input i, and the lowest of them
-module _ (n : ℕ) (few : n ≤ 32) (free : ℕ) (one two : List ℕ) (i w : ℕ) (is : w ≡ bitAnd free (ready-mask one two ((i - 1) * n) n)) where
+-- the outputs that two words have in common, and the lowest of them
+module _ (n : ℕ) (few : n ≤ 32) (free requested : ℕ) where
   abbrev opens : ℕ → Bool
-  opens = is-open n free one two i
+  opens j = in-mask free j && in-mask requested j
 
-  -- what is open to the input, by columns from 0
-  open-column : (k : ℕ) → k < n → opens (suc k) ≡ bits w k
-  unfolding is-open word place
-  open-column k h =
-      let e : suc k - 1 ≡ k = omega arith in
-      rw (mask-bit free k, e, is, common-bit free (ready-mask one two ((i - 1) * n) n) k, ready-bit one two ((i - 1) * n) n k h)
+  abbrev low : ℕ
+  low = trailingZeros 32 (bitAnd free requested)
 
-  -- nothing below the lowest bit is open
-  closed : (y : ℕ) → 1 ≤ y → y < suc (trailingZeros 32 w) → y ≤ n → opens y ≡ false
-  closed zero u l v = absurd (omega arith)
-  closed (suc k) u l v = open-column k (omega arith) ∙ below-unset 32 w k (omega arith)
+  -- by columns from 0
+  open-column : (k : ℕ) → opens (suc k) ≡ bits (bitAnd free requested) k
+  open-column k = rw (mask-bit free k, mask-bit requested k) (sym (common-bit free requested k))
+
+  -- nothing below the lowest bit is common
+  closed : (y : ℕ) → 1 ≤ y → y < suc low → opens y ≡ false
+  closed zero u l = absurd (omega arith)
+  closed (suc k) u l = open-column k ∙ below-unset 32 (bitAnd free requested) k (omega arith)
 
   -- the lowest bit is a column
-  pub open-found : trailingZeros 32 w < n → suc (trailingZeros 32 w) ≡ lowest opens n
+  pub open-found : low < n → suc low ≡ lowest opens n
   open-found h =
-      least-found opens 1 n (suc (trailingZeros 32 w)) (omega arith) (omega arith)
-      (open-column (trailingZeros 32 w) h ∙ lowest-set 32 w (omega arith)) (λ y u v. closed y u v (omega arith))
+      least-found opens 1 n (suc low) (omega arith) (omega arith)
+      (open-column low ∙ lowest-set 32 (bitAnd free requested) (omega arith)) (λ y u v. closed y u v)
 
   -- there is none
-  pub open-none : n ≤ trailingZeros 32 w → 0 ≡ lowest opens n
-  open-none h = least-absent opens 1 n (λ y u v. closed y u (omega arith) (omega arith))
+  pub open-none : n ≤ low → 0 ≡ lowest opens n
+  open-none h = least-absent opens 1 n (λ y u v. closed y u (omega arith))
+
+-- where the second word has the ready columns of input i, what they have in common is open to it
+module _ (n free : ℕ) (one two : List ℕ) (i w : ℕ) (is : w ≡ ready-mask one two ((i - 1) * n) n) where
+  open-is-common : (j : ℕ) → Port n j → (in-mask free j && in-mask w j) ≡ is-open n free one two i j
+  unfolding is-open word place
+  open-is-common zero p = absurd (omega arith)
+  open-is-common (suc k) p =
+      let e : suc k - 1 ≡ k = omega arith in
+      rw (mask-bit w k, is, ready-bit one two ((i - 1) * n) n k (omega arith), e)
+
+  pub lowest-requested : (v : ℕ) → v ≡ lowest (λ j. in-mask free j && in-mask w j) n → v ≡ lowest (is-open n free one two i) n
+  lowest-requested v e = e ∙ lowest-ext _ _ n open-is-common

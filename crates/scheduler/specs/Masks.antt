@@ -1,7 +1,7 @@
 -- A set of outputs as one word, bit j - 1 for output j; and the outputs that are open to an input. Assumes nothing.
 use mathlib.Core.Bool.{Bool, _&&_}
-use mathlib.Core.List.{List}
-use Prim.Native.Nat.{ℕ, _+_, _-_, _/_, _%_, _^_}
+use mathlib.Core.List.{List, [], _∷_}
+use Prim.Native.Nat.{ℕ, zero, suc, _+_, _-_, _/_, _%_, _^_}
 use lib.Dec.{eqb, ltb}
 use lib.ListN.{getD}
 use Rattle.wsgs.specs.Words.{word}
@@ -10,6 +10,11 @@ use Rattle.wsgs.specs.Steps.{marked}
 -- output j stands in the set: bit j - 1 of the word is set
 unfoldable pub in-mask : ℕ → ℕ → Bool
 in-mask w j = eqb (w / 2 ^ (j - 1) % 2) 1
+
+-- the m powers of 2 from the k-th on
+unfoldable pub powers : ℕ → ℕ → List ℕ
+powers k zero = []
+powers k (suc m) = 2 ^ k ∷ powers (suc k) m
 
 -- output j is free, and the words of the pair (i, j) in two runs are above 0
 unfoldable pub is-open : ℕ → ℕ → List ℕ → List ℕ → ℕ → ℕ → Bool

@@ -5,19 +5,21 @@ ghost use lib.Dec.{ltb};
 ghost use lib.ListN.{length};
 ghost use Rattle.wsgs.specs.Steps.{marked};
 ghost use Rattle.wsgs.specs.Direct.{spent};
-ghost use Rattle.scheduler.specs.Passes.{Held, ones, PassTwo};
+ghost use Rattle.scheduler.specs.Passes.{Held, ones, Waiting, PassedOne, PassTwo};
 use super::masks::all_free;
 use super::masks::without;
-use super::turns::first_turn;
-use super::turns::second_turn;
+use super::search::BITS;
+use super::turns::first_turn_with;
+use super::turns::waiting_turn;
 use wsgs::Input;
 
-// What the passes hand on: the outputs that are free; the output of each input from 1 on, 0 for none; and a word whose bit i - 1 tells that
-// pass one served input i.
+// What the passes hand on: the outputs that are free; the output of each input from 1 on, 0 for none; a word whose bit i - 1 tells that pass
+// one served input i; and of each input the outputs for which it had a packet at its turn of pass one.
 pub struct Passed {
     pub free: u32,
     pub outputs: [u8; 32],
     pub first_pass: u32,
+    pub waiting: [u32; 32],
 }
 
 // Pass one: the inputs in turn, each with the lowest free output for which it has a credit and a packet.
@@ -28,12 +30,18 @@ pub fn pass_one(ports: usize, credits: &mut [u32], queues: &mut [u32]) -> Passed
     ensures { λ r. ⌜ Held ports (now (queues .entry)) (ones ports (now (credits .entry)) (now (queues .entry))) (r .free) (r .outputs) (now (queues .exit)) ⌝ }
     ensures { λ r. ⌜ r .«first_pass» ≡ marked 32 (λ i. ltb 0 (ones ports (now (credits .entry)) (now (queues .entry)) i)) ⌝ }
     ensures { λ r. ⌜ now (credits .exit) ≡ spent ports (now (credits .entry)) (ones ports (now (credits .entry)) (now (queues .entry))) ports ⌝ }
+    ensures { λ r. ⌜ Waiting ports ports (now (queues .entry)) (r .waiting) ⌝ }
 {
     let mut free = all_free(ports);
     let mut outputs = [0u8; 32];
     let mut first_pass = 0u32;
+    let mut waiting = [0u32; 32];
+    let bits = BITS;
     for row in 0..ports {
-        let output = first_turn(free, ports, Input(row as u64 + 1), credits, queues);
+        let input = Input(row as u64 + 1);
+        let turn = first_turn_with(&bits, free, ports, input, credits, queues);
+        waiting[row] = turn.waiting;
+        let output = turn.output;
         if output.0 == 0 {
             continue;
         }
@@ -45,6 +53,7 @@ pub fn pass_one(ports: usize, credits: &mut [u32], queues: &mut [u32]) -> Passed
         free,
         outputs,
         first_pass,
+        waiting,
     }
 }
 
@@ -52,17 +61,19 @@ pub fn pass_one(ports: usize, credits: &mut [u32], queues: &mut [u32]) -> Passed
 pub fn pass_two(passed: Passed, ports: usize, queues: &mut [u32]) -> Passed
     requires { ⌜ ports ≤ 32 ⌝ }
     requires { ⌜ ports * ports ≤ length (now queues) ⌝ }
+    requires { ⌜ PassedOne ports (passed .«first_pass») (passed .free) (passed .outputs) (passed .waiting) (now queues) ⌝ }
     ensures { λ r. ⌜ PassTwo ports (passed .«first_pass») (passed .free) (passed .outputs) (now (queues .entry)) (r .free) (r .outputs) (now (queues .exit)) ⌝ }
     ensures { λ r. ⌜ r .«first_pass» ≡ passed .«first_pass» ⌝ }
 {
     let mut free = passed.free;
     let mut outputs = passed.outputs;
     let first_pass = passed.first_pass;
+    let waiting = passed.waiting;
     for row in 0..ports {
         if (first_pass >> row) & 1 == 1 {
             continue;
         }
-        let output = second_turn(free, ports, Input(row as u64 + 1), queues);
+        let output = waiting_turn(free, waiting[row], ports, Input(row as u64 + 1), queues);
         if output.0 == 0 {
             continue;
         }
@@ -73,5 +84,6 @@ pub fn pass_two(passed: Passed, ports: usize, queues: &mut [u32]) -> Passed
         free,
         outputs,
         first_pass,
+        waiting,
     }
 }

@@ -36,7 +36,7 @@ fn turn_one(
         return;
     }
     let free = free_for(ports, row, flight);
-    let output = first_turn(free, ports, input, credits, queues);
+    let output = first_turn(free, ports, input, credits, queues).output;
     if output.0 > 0 {
         flight[at] = 100 + output.0 as u32;
     }

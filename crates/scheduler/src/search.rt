@@ -1,14 +1,14 @@
 // The search that every turn makes, in both passes and both forms.
 ghost use mathlib.Core.Path.{_≡_};
-ghost use Prim.Native.Nat.{_+_, _*_, _^_, _≤_, _<_};
+ghost use mathlib.Core.Bool.{_&&_};
+ghost use Prim.Native.Nat.{_+_, _≤_};
 ghost use lib.ListN.{length};
-ghost use Rattle.wsgs.specs.Basics.{Port, lowest};
-ghost use Rattle.scheduler.specs.Masks.{is-open, ready-mask};
-use wsgs::Input;
+ghost use Rattle.wsgs.specs.Basics.{lowest};
+ghost use Rattle.scheduler.specs.Masks.{in-mask, powers, ready-mask};
 use wsgs::Output;
 
-// The bits of a word, from the lowest on.
-const BITS: [u32; 32] = [
+// The bits of a word, from the lowest on. A caller that sweeps many rows makes the table once and lends it.
+pub const BITS: [u32; 32] = [
     1,
     2,
     4,
@@ -43,34 +43,59 @@ const BITS: [u32; 32] = [
     2147483648,
 ];
 
-// The outputs whose words in both runs are above 0, in the row that begins at a place: column k from 0 as bit k. It reads the whole row, with no
-// branch and no shift, so that the compiler can use vector instructions.
-fn ready_outputs(ports: usize, row: usize, one: &[u32], two: &[u32]) -> u32
-    requires { ⌜ ports ≤ 32 ⌝ }
-    requires { ⌜ row + ports ≤ length (now one) ⌝ }
-    requires { ⌜ row + ports ≤ length (now two) ⌝ }
-    ensures { λ r. ⌜ r ≡ ready-mask (now (one .entry)) (now (two .entry)) row ports ⌝ }
-{
-    let bits = BITS;
-    let mut ready = 0u32;
-    for column in 0..ports {
-        let both = (one[row + column] > 0) as u32 & (two[row + column] > 0) as u32;
-        ready |= both * bits[column];
-    }
-    ready
+// What an input asks for, column k of its row as bit k: the outputs for which it has a credit and a packet, and those for which it has a packet.
+pub struct Requests {
+    pub ready: u32,
+    pub waiting: u32,
 }
 
-// The lowest free output whose words in both runs are above 0 in the input's row, or output 0.
-pub fn lowest_open(free: u32, ports: usize, input: Input, one: &[u32], two: &[u32]) -> Output
+// The requests of the row that begins at a place. It reads the whole row, with no branch and no shift, so that the compiler can use vector
+// instructions.
+pub fn requests_of(
+    bits: &[u32; 32],
+    ports: usize,
+    row: usize,
+    credits: &[u32],
+    queues: &[u32],
+) -> Requests
+    requires { ⌜ now bits ≡ powers 0 32 ⌝ }
     requires { ⌜ ports ≤ 32 ⌝ }
-    requires { ⌜ Port ports (input .0) ⌝ }
-    requires { ⌜ ports * ports ≤ length (now one) ⌝ }
-    requires { ⌜ ports * ports ≤ length (now two) ⌝ }
-    ensures { λ r. ⌜ r .0 ≡ lowest (is-open ports free (now (one .entry)) (now (two .entry)) (input .0)) ports ⌝ }
+    requires { ⌜ row + ports ≤ length (now credits) ⌝ }
+    requires { ⌜ row + ports ≤ length (now queues) ⌝ }
+    ensures { λ r. ⌜ r .ready ≡ ready-mask (now (credits .entry)) (now (queues .entry)) row ports ⌝ }
+    ensures { λ r. ⌜ r .waiting ≡ ready-mask (now (queues .entry)) (now (queues .entry)) row ports ⌝ }
 {
-    let row = (input.0 - 1) as usize * ports;
-    let open = free & ready_outputs(ports, row, one, two);
-    let column = u32::trailing_zeros(open) as usize;
+    let mut ready = 0u32;
+    let mut waiting = 0u32;
+    for column in 0..ports {
+        let packets = (queues[row + column] > 0) as u32 * bits[column];
+        let credit = (credits[row + column] > 0) as u32 * bits[column];
+        waiting |= packets;
+        ready |= packets & credit;
+    }
+    Requests { ready, waiting }
+}
+
+// The outputs for which packets wait in the row that begins at a place, read in the same way.
+pub fn waiting_outputs(ports: usize, row: usize, queues: &[u32]) -> u32
+    requires { ⌜ ports ≤ 32 ⌝ }
+    requires { ⌜ row + ports ≤ length (now queues) ⌝ }
+    ensures { λ r. ⌜ r ≡ ready-mask (now (queues .entry)) (now (queues .entry)) row ports ⌝ }
+{
+    let bits = BITS;
+    let mut waiting = 0u32;
+    for column in 0..ports {
+        waiting |= (queues[row + column] > 0) as u32 * bits[column];
+    }
+    waiting
+}
+
+// The lowest output that is free and requested, or output 0.
+pub fn lowest_open(free: u32, requested: u32, ports: usize) -> Output
+    requires { ⌜ ports ≤ 32 ⌝ }
+    ensures { λ r. ⌜ r .0 ≡ lowest (λ j. in-mask free j && in-mask requested j) ports ⌝ }
+{
+    let column = u32::trailing_zeros(free & requested) as usize;
     if column < ports {
         return Output(column as u64 + 1);
     }

@@ -1,7 +1,8 @@
 -- `direct::run_slot` meets its contract: step 1 and the two passes together are the nine steps. Assumes nothing.
 use mathlib.Core.Path.{_∙_}
-use Rattle.scheduler.proofs.SlotLaws.{slot-run}
+use native.Mathlib.Omega.{arith}
 use borrow.Author.Needs.{needs}
+use Rattle.scheduler.proofs.SlotLaws.{slot-run}
 use Rattle.scheduler.proofs.direct.run_slot.Statement.{statement}
 use Rattle.scheduler.proofs.direct.run_slot.Tie as tie
 
@@ -12,7 +13,9 @@ pass-one-requires : tie.Need-pass-one-requires
 pass-one-requires c κs = search needs
 
 pass-two-requires : tie.Need-pass-two-requires
-pass-two-requires c κs = search needs
+pass-two-requires c κs =
+    let one = c .before .before .before .before .before .pass-one .ensures in
+    (omega arith, (omega arith, record { start = _; one = _; held = one .0; mark = one .1 .0; known = one .1 .1 .1 }))
 
 same-length : tie.Need-same-length
 same-length c = search needs
@@ -27,7 +30,7 @@ returns c =
     let l = o .before .before .before .before .before in
     let one = o .pass-one .ensures in
     let two = t .pass-two .ensures in
-    slot-run _ _ _ _ _ (l .reload .ensures) _ _ _ _ _ (two .0 _ _ (one .0) (one .1 .0)) (two .1 ∙ one .1 .0) (one .1 .1)
+    slot-run _ _ _ _ _ (l .reload .ensures) _ _ _ _ _ (two .0 _ _ (one .0) (one .1 .0)) (two .1 ∙ one .1 .0) (one .1 .1 .0)
 
 pub run-slot-spec : {M : Type 1} → statement M
 run-slot-spec =

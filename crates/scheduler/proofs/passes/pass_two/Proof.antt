@@ -14,39 +14,39 @@ use Rattle.wsgs.specs.Steps.{pass-two, marked}
 use Rattle.wsgs.proofs.Laws.Marked.{marked-yes, marked-no}
 use Rattle.scheduler.specs.Passes.{Held}
 use Rattle.scheduler.proofs.Choice.{Chosen, chosen}
-use Rattle.scheduler.proofs.PassLaws.{two-served, two-none, two-some}
+use Rattle.scheduler.proofs.PassLaws.{two-served, two-waiting, two-none, two-some}
 use Rattle.scheduler.proofs.passes.pass_two.Statement.{statement}
 use Rattle.scheduler.proofs.passes.pass_two.Tie as tie
 
 abbrev Inv-loop : tie.InvT-loop
-Inv-loop ports queues₀ free₀ outputs₀ first-pass row₀ queues free outputs row =
+Inv-loop ports queues₀ free₀ outputs₀ first-pass waiting row₀ queues free outputs row =
     (row ≤ ports)
     × (length queues ≡ length queues₀)
     × ((start : List ℕ) (one : ℕ → ℕ) → Held ports start one free₀ outputs₀ queues₀ → first-pass ≡ marked 32 (λ i. ltb 0 (one i))
     → Held ports start (pass-two ports (word ports start) one row) free outputs queues)
 
 abbrev μ-loop : tie.MeasureT-loop
-μ-loop ports queues₀ free₀ outputs₀ first-pass row₀ queues free outputs row = ports - row
+μ-loop ports queues₀ free₀ outputs₀ first-pass waiting row₀ queues free outputs row = ports - row
 
 -- from the test of a turn's output back to the turn, and from there to the loop's head and the entry
-abbrev turn : tie.After-struct-known Inv-loop μ-loop → tie.After-second-turn Inv-loop μ-loop
+abbrev turn : tie.After-struct-known Inv-loop μ-loop → tie.After-waiting-turn Inv-loop μ-loop
 turn c = c .before .before .before
 
-abbrev head : tie.After-second-turn Inv-loop μ-loop → tie.At-loop Inv-loop μ-loop
+abbrev head : tie.After-waiting-turn Inv-loop μ-loop → tie.At-loop Inv-loop μ-loop
 head c = c .before .before .before .before
 
 abbrev start : tie.At-loop Inv-loop μ-loop → tie.Start Inv-loop μ-loop
-start c = c .before .before .before
+start c = c .before .before .before .before
 
 -- the output that is taken
 taken : (c : tie.Else2 Inv-loop μ-loop) → let t = turn (c .before) in let l = head t in
-    Chosen (start l .args .ports) (l .loop .free) (l .loop .queues) (l .loop .queues) (l .loop .row + 1) (t .second-turn .result .0)
-taken c = chosen _ _ _ _ _ _ (turn (c .before) .second-turn .ensures .0) (omega (arith, c .if2 .left))
+    Chosen (start l .args .ports) (l .loop .free) (l .loop .queues) (l .loop .queues) (l .loop .row + 1) (t .waiting-turn .result .0)
+taken c = chosen _ _ _ _ _ _ (turn (c .before) .waiting-turn .ensures .0) (omega (arith, c .if2 .left))
 
 -- the input was not served by pass one
-idle : (t : tie.After-second-turn Inv-loop μ-loop) (one : ℕ → ℕ)
-    → start (head t) .args .passed .«first_pass» ≡ marked 32 (λ i. ltb 0 (one i)) → ltb 0 (one (suc (head t .loop .row))) ≡ false
-idle t one m = marked-no 32 (λ i. ltb 0 (one i)) (head t .loop .row) (omega arith) (rw m at (t .before .before .if1 .left))
+idle : (e : tie.Else1 Inv-loop μ-loop) (one : ℕ → ℕ) → let l = e .before .before in
+    start l .args .passed .«first_pass» ≡ marked 32 (λ i. ltb 0 (one i)) → ltb 0 (one (suc (l .loop .row))) ≡ false
+idle e one m = marked-no 32 (λ i. ltb 0 (one i)) (e .before .before .loop .row) (omega arith) (rw m at (e .if1 .left))
 
 loop-holds : tie.Need-loop-holds Inv-loop μ-loop
 unfolding pass-two
@@ -74,11 +74,26 @@ loop-again c =
           (marked-yes 32 (λ i. ltb 0 (one i)) (l .loop .row) (omega arith) (rw m at (c .if1 .taken))),
     )
 
-add-t14 : tie.Need-add-t14 Inv-loop μ-loop
-add-t14 c = search needs
+mul-waiting-turn : tie.Need-mul-waiting-turn Inv-loop μ-loop
+mul-waiting-turn c = search needs
 
-second-turn-requires : tie.Need-second-turn-requires Inv-loop μ-loop
-second-turn-requires c κs = search needs
+array-read-waiting-turn : tie.Need-array-read-waiting-turn Inv-loop μ-loop
+array-read-waiting-turn c = search needs
+
+add-t18 : tie.Need-add-t18 Inv-loop μ-loop
+add-t18 c = search needs
+
+-- pass two has not come to the input yet, so its packets are those that pass one saw
+waiting-turn-requires : tie.Need-waiting-turn-requires Inv-loop μ-loop
+waiting-turn-requires c κs =
+    let e = c .before in
+    let l = e .before .before in
+    let p = start l .pre .1 .1 in
+    let now = l .loop .inv .2 (p .start) (p .one) (p .held) (p .mark) in
+    let same =
+    two-waiting _ (omega arith) (p .start) (p .one) _ _ _ (l .loop .row) _ (add-one _) now (omega arith) (omega arith) (idle e (p .one) (p .mark)) _
+    (p .known (l .loop .row) (omega arith)) in
+    (omega arith, (omega arith, (omega arith, same)))
 
 add-row-2 : tie.Need-add-row-2 Inv-loop μ-loop
 add-row-2 c = search needs
@@ -91,10 +106,10 @@ loop-again-2 c =
     let t = turn (c .before) in
     let l = head t in (
       omega arith,
-      t .second-turn .kept .1 .1 .1 .0 ∙ l .loop .inv .1,
+      t .waiting-turn .kept .1 .1 .1 .1 .0 ∙ l .loop .inv .1,
       λ st one h m.
           two-none _ (omega arith) st one _ _ _ (l .loop .row) _ (add-one _) (l .loop .inv .2 st one h m) (omega arith) (omega arith)
-          (idle t one m) _ (t .second-turn .ensures .0) (c .if2 .taken) _ (t .second-turn .ensures .1),
+          (idle (t .before .before) one m) _ (t .waiting-turn .ensures .0) (c .if2 .taken) _ (t .waiting-turn .ensures .1),
     )
 
 without-requires : tie.Need-without-requires Inv-loop μ-loop
@@ -118,10 +133,10 @@ loop-again-3 c =
     let t = turn (w .before .before) in
     let l = head t in (
       omega arith,
-      t .second-turn .kept .1 .1 .1 .0 ∙ l .loop .inv .1,
+      t .waiting-turn .kept .1 .1 .1 .1 .0 ∙ l .loop .inv .1,
       λ st one h m.
           two-some _ (omega arith) st one _ _ _ (l .loop .row) _ (add-one _) (l .loop .inv .2 st one h m) (omega arith) (omega arith)
-          (idle t one m) _ (t .second-turn .ensures .0) (taken (w .before) .port .low) _ (w .without .ensures) _ (t .second-turn .ensures .1),
+          (idle (t .before .before) one m) _ (t .waiting-turn .ensures .0) (taken (w .before) .port .low) _ (w .without .ensures) _ (t .waiting-turn .ensures .1),
     )
 
 same-length : tie.Need-same-length Inv-loop μ-loop
@@ -145,8 +160,10 @@ pass-two-spec =
     add-row
     loop-less
     loop-again
-    add-t14
-    second-turn-requires
+    mul-waiting-turn
+    array-read-waiting-turn
+    add-t18
+    waiting-turn-requires
     add-row-2
     loop-less-2
     loop-again-2

@@ -9,7 +9,7 @@ use Rattle.scheduler.proofs.pipeline_turns.turn_one.Tie as tie
 
 -- the calls, from the last on
 abbrev turned : tie.After-struct-known2 → tie.After-first-turn
-turned c = c .before .before .before .before .before
+turned c = c .before .before .before .before .before .before
 
 abbrev freed : tie.After-first-turn → tie.After-free-for
 freed c = c .before .before .before
@@ -47,7 +47,7 @@ first-turn-requires : tie.Need-first-turn-requires
 first-turn-requires c κs = search needs
 
 -- the output that is taken is a port
-small : (c : tie.Then2) → turned (c .before) .first-turn .result .0 ≤ 32
+small : (c : tie.Then2) → turned (c .before) .first-turn .result .output .0 ≤ 32
 small c =
     let t = turned (c .before) in
     let p = chosen _ _ _ _ _ _ (t .first-turn .ensures .0) (c .if2 .taken) .port in
@@ -80,7 +80,7 @@ returns-2 c = λ s e.
     let f = freed t in
     let o = read f in
     turn-one-some _ s _ _ _ _ _ _ e (o .output-of .ensures .0) (f .before .before .if1 .left) _ _ (f .free-for .ensures s e)
-    (t .first-turn .ensures .0) _ _ (t .first-turn .ensures .1 .0) (t .first-turn .ensures .1 .1) (c .before .if2 .taken)
+    (t .first-turn .ensures .0) _ _ (t .first-turn .ensures .1 .0) (t .first-turn .ensures .1 .1 .0) (c .before .if2 .taken)
 
 same-length-4 : tie.Need-same-length-4
 same-length-4 c = search needs
@@ -97,7 +97,7 @@ returns-3 c = λ s e.
     let f = freed t in
     let o = read f in
     turn-one-none _ s _ _ _ _ _ _ e (o .output-of .ensures .0) (f .before .before .if1 .left) _ _ (f .free-for .ensures s e)
-    (t .first-turn .ensures .0) _ _ (t .first-turn .ensures .1 .0) (t .first-turn .ensures .1 .1) (c .if2 .left)
+    (t .first-turn .ensures .0) _ _ (t .first-turn .ensures .1 .0) (t .first-turn .ensures .1 .1 .0) (c .if2 .left)
 
 pub turn-one-spec : {M : Type 1} → statement M
 turn-one-spec =

@@ -1,33 +1,13 @@
--- `turns::first_turn` meets its contract: the output that the search finds is open, so its words are above 0. Assumes nothing.
-use mathlib.Core.Path.{sym, _∙_}
-use Rattle.scheduler.proofs.Choice.{Chosen, chosen, charged-some, charged-none}
+-- `turns::first_turn` meets its contract: its table has the bits of a word. Assumes nothing.
+use mathlib.Core.Path.{refl}
 use borrow.Author.Needs.{needs}
+use Rattle.scheduler.specs.Masks.{powers}
 use Rattle.scheduler.proofs.turns.first_turn.Statement.{statement}
 use Rattle.scheduler.proofs.turns.first_turn.Tie as tie
 
--- the entry, and the output that is taken
-abbrev start : tie.After-lowest-open → tie.Start
-start c = c .before .before .before .before .before
-
-taken : (c : tie.Then1) → let o = c .before .before in let s = start o in
-    Chosen (s .args .ports) (s .args .free) (s .args .credits .now) (s .args .queues .now) (s .args .input .0) (o .lowest-open .result .0)
-taken c = chosen _ _ _ _ _ _ (c .before .before .lowest-open .ensures) (c .if1 .taken)
-
-lowest-open-requires : tie.Need-lowest-open-requires
-lowest-open-requires c κs = search needs
-
-spend-credit-requires : tie.Need-spend-credit-requires
-spend-credit-requires c κs =
-    let o = taken (c .before) in
-    let s = start (c .before .before .before) in
-    (s .pre .0, (s .pre .1 .0, (o .port, (s .pre .1 .1 .0, o .one))))
-
-take-packet-requires : tie.Need-take-packet-requires
-take-packet-requires c κs =
-    let t = c .before .before .before .before .before in
-    let o = taken t in
-    let s = start (t .before .before) in
-    (s .pre .0, (s .pre .1 .0, (o .port, (s .pre .1 .1 .1, o .two))))
+first-turn-with-requires : tie.Need-first-turn-with-requires
+unfolding powers
+first-turn-with-requires c κs = (refl, search needs)
 
 same-length : tie.Need-same-length
 same-length c = search needs
@@ -36,39 +16,7 @@ same-length-2 : tie.Need-same-length-2
 same-length-2 c = search needs
 
 returns : tie.Need-returns
-returns c =
-    let p = c .before .before in
-    let k = p .before .before .before .before in
-    let t = k .before .before in (
-      t .before .before .lowest-open .ensures,
-      (
-        k .spend-credit .ensures ∙ sym (charged-some _ _ _ _ (t .if1 .taken)),
-        p .take-packet .ensures ∙ sym (charged-some _ _ _ _ (t .if1 .taken)),
-      ),
-    )
-
-same-length-3 : tie.Need-same-length-3
-same-length-3 c = search needs
-
-same-length-4 : tie.Need-same-length-4
-same-length-4 c = search needs
-
-returns-2 : tie.Need-returns-2
-returns-2 c = (
-  c .before .before .lowest-open .ensures,
-  (sym (charged-none _ _ _ _ (c .if1 .left)), sym (charged-none _ _ _ _ (c .if1 .left))),
-)
+returns c = search needs
 
 pub first-turn-spec : {M : Type 1} → statement M
-first-turn-spec =
-    tie.close
-    (tie.spec
-    lowest-open-requires
-    spend-credit-requires
-    take-packet-requires
-    same-length
-    same-length-2
-    returns
-    same-length-3
-    same-length-4
-    returns-2)
+first-turn-spec = tie.close (tie.spec first-turn-with-requires same-length same-length-2 returns)
