@@ -12,6 +12,7 @@ ghost use Rattle.scheduler.specs.Turnings.{answering};
 use super::masks::all_free;
 use words::clear_words;
 use wsgs::Input;
+use wsgs::Output;
 use wsgs::Ticked;
 
 // Where the row of a slot begins.
@@ -47,8 +48,8 @@ pub fn is_by_first(ports: u32, word: u32) -> bool
     101 <= word && word <= 100 + ports
 }
 
-// The output that a word in flight stands for, 0 for none.
-pub fn output_of(ports: u32, word: u32) -> u32
+// The number of the output that a word in flight stands for, 0 for none, in u32 as the words are.
+fn output_in(ports: u32, word: u32) -> u32
     requires { ⌜ ports ≤ 32 ⌝ }
     ensures read { λ r. ⌜ r ≡ output-in ports word ⌝ }
     ensures within { λ r. ⌜ r ≤ ports ⌝ }
@@ -60,6 +61,15 @@ pub fn output_of(ports: u32, word: u32) -> u32
         return word;
     }
     0
+}
+
+// The output that a word in flight stands for, 0 for none.
+pub fn output_of(ports: usize, word: u32) -> Output
+    requires { ⌜ ports ≤ 32 ⌝ }
+    ensures read { λ r. ⌜ r .0 ≡ output-in ports word ⌝ }
+    ensures within { λ r. ⌜ r .0 ≤ ports ⌝ }
+{
+    Output(output_in(ports as u32, word) as u64)
 }
 
 // The set of one output, 0 for none.
@@ -83,7 +93,7 @@ pub fn free_for(ports: usize, row: usize, flight: &[u32]) -> u32
     let highest = ports as u32;
     let mut taken = 0;
     for column in 0..ports {
-        taken |= set_of(output_of(highest, flight[row + column]));
+        taken |= set_of(output_in(highest, flight[row + column]));
     }
     all_free(ports) ^ taken
 }
@@ -101,7 +111,7 @@ pub fn hand_out(ports: usize, time: u32, flight: &[u32]) -> Ticked
     let mut first_pass = 0u32;
     for column in 0..ports {
         let word = flight[row + column];
-        outputs[column] = output_of(highest, word) as u8;
+        outputs[column] = output_of(ports, word).0 as u8;
         if is_by_first(highest, word) {
             first_pass |= 1 << column;
         }

@@ -32,7 +32,7 @@ fn turn_one(
     ensures { λ _. ⌜ ((s : ℕ) → row ≡ s % (2 * ports) * ports → turning-of (now (credits .exit)) (now (queues .exit)) (now (flight .exit)) ≡ turn-one ports s (input .0) (turning-of (now (credits .entry)) (now (queues .entry)) (now (flight .entry)))) ⌝ }
 {
     let at = row + (input.0 - 1) as usize;
-    if output_of(ports as u32, flight[at]) > 0 {
+    if output_of(ports, flight[at]).0 > 0 {
         return;
     }
     let free = free_for(ports, row, flight);
@@ -51,7 +51,7 @@ fn turn_two(ports: usize, row: usize, input: Input, queues: &mut [u32], flight: 
     ensures { λ _. ⌜ ((s : ℕ) → row ≡ s % (2 * ports) * ports → (c : List ℕ) → turning-of c (now (queues .exit)) (now (flight .exit)) ≡ turn-two ports s (input .0) (turning-of c (now (queues .entry)) (now (flight .entry)))) ⌝ }
 {
     let at = row + (input.0 - 1) as usize;
-    if output_of(ports as u32, flight[at]) > 0 {
+    if output_of(ports, flight[at]).0 > 0 {
         return;
     }
     let free = free_for(ports, row, flight);

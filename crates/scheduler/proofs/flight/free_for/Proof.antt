@@ -19,17 +19,17 @@ cast-highest c = search needs
 loop-holds : tie.Need-loop-holds Inv-loop μ-loop
 loop-holds c = (search needs, gathered-none _ _ _)
 
-add-output-of : tie.Need-add-output-of Inv-loop μ-loop
-add-output-of c = search needs
+add-output-in : tie.Need-add-output-in Inv-loop μ-loop
+add-output-in c = search needs
 
-mul-output-of : tie.Need-mul-output-of Inv-loop μ-loop
-mul-output-of c = search needs
+mul-output-in : tie.Need-mul-output-in Inv-loop μ-loop
+mul-output-in c = search needs
 
-shared-slice-read-output-of : tie.Need-shared-slice-read-output-of Inv-loop μ-loop
-shared-slice-read-output-of c = search needs
+shared-slice-read-output-in : tie.Need-shared-slice-read-output-in Inv-loop μ-loop
+shared-slice-read-output-in c = search needs
 
-output-of-requires : tie.Need-output-of-requires Inv-loop μ-loop
-output-of-requires c κs = search needs
+output-in-requires : tie.Need-output-in-requires Inv-loop μ-loop
+output-in-requires c κs = search needs
 
 set-of-requires : tie.Need-set-of-requires Inv-loop μ-loop
 set-of-requires c κs = search needs
@@ -43,7 +43,7 @@ loop-less c = search needs
 loop-again : tie.Need-loop-again Inv-loop μ-loop
 loop-again c =
     let o = c .before in
-    (omega arith, gathered-more _ _ _ _ _ _ _ (o .output-of .ensures .0) (c .set-of .ensures) (o .before .before .before .loop .inv .1))
+    (omega arith, gathered-more _ _ _ _ _ _ _ (o .output-in .ensures .0) (c .set-of .ensures) (o .before .before .before .loop .inv .1))
 
 all-free-requires : tie.Need-all-free-requires Inv-loop μ-loop
 all-free-requires c κs = search needs
@@ -60,10 +60,10 @@ free-for-spec =
     μ-loop
     cast-highest
     loop-holds
-    add-output-of
-    mul-output-of
-    shared-slice-read-output-of
-    output-of-requires
+    add-output-in
+    mul-output-in
+    shared-slice-read-output-in
+    output-in-requires
     set-of-requires
     add-column
     loop-less

@@ -63,7 +63,7 @@ loop-less c = search needs
 loop-again : tie.Need-loop-again Inv-loop μ-loop
 loop-again c =
     let f = c .before in
-    let o = f .before in
+    let o = f .before .before in
     let l = o .before .before .before in (
       omega arith,
       ⊎-elim

@@ -8,23 +8,20 @@ use Rattle.scheduler.proofs.pipeline_turns.turn_one.Statement.{statemen
 use Rattle.scheduler.proofs.pipeline_turns.turn_one.Tie as tie
 
 -- the calls, from the last on
-abbrev turned : tie.After-struct-known2 → tie.After-first-turn
+abbrev turned : tie.After-struct-known3 → tie.After-first-turn
 turned c = c .before .before .before .before .before .before
 
 abbrev freed : tie.After-first-turn → tie.After-free-for
 freed c = c .before .before .before
 
 abbrev read : tie.After-free-for → tie.After-output-of
-read c = c .before .before .before
+read c = c .before .before .before .before
 
 sub-at : tie.Need-sub-at
 sub-at c = search needs
 
 add-at : tie.Need-add-at
 add-at c = search needs
-
-cast-output-of : tie.Need-cast-output-of
-cast-output-of c = search needs
 
 mul-output-of : tie.Need-mul-output-of
 mul-output-of c = search needs
@@ -37,7 +34,7 @@ output-of-requires c κs = search needs
 
 returns : tie.Need-returns
 returns c = λ s e.
-    let o = c .before in
+    let o = c .before .before in
     turn-one-held _ s _ _ _ _ _ _ e (o .output-of .ensures .0) (c .if1 .taken)
 
 free-for-requires : tie.Need-free-for-requires
@@ -59,8 +56,9 @@ cast-flight c = omega (arith, small (c .before))
 add-flight : tie.Need-add-flight
 add-flight c = omega (arith, small (c .before))
 
+-- as where the place was read
 mul-flight : tie.Need-mul-flight
-mul-flight c = search needs
+mul-flight c = mul-output-of (read (freed (turned (c .before .before))) .before .before)
 
 slice-write-flight : tie.Need-slice-write-flight
 slice-write-flight c = search needs
@@ -105,7 +103,6 @@ turn-one-spec =
     (tie.spec
     sub-at
     add-at
-    cast-output-of
     mul-output-of
     slice-read-output-of
     output-of-requires

@@ -8,23 +8,20 @@ use Rattle.scheduler.proofs.pipeline_turns.turn_two.Statement.{statemen
 use Rattle.scheduler.proofs.pipeline_turns.turn_two.Tie as tie
 
 -- the calls, from the last on
-abbrev turned : tie.After-struct-known2 → tie.After-second-turn
+abbrev turned : tie.After-struct-known3 → tie.After-second-turn
 turned c = c .before .before .before
 
 abbrev freed : tie.After-second-turn → tie.After-free-for
 freed c = c .before .before
 
 abbrev read : tie.After-free-for → tie.After-output-of
-read c = c .before .before .before
+read c = c .before .before .before .before
 
 sub-at : tie.Need-sub-at
 sub-at c = search needs
 
 add-at : tie.Need-add-at
 add-at c = search needs
-
-cast-output-of : tie.Need-cast-output-of
-cast-output-of c = search needs
 
 mul-output-of : tie.Need-mul-output-of
 mul-output-of c = search needs
@@ -37,7 +34,7 @@ output-of-requires c κs = search needs
 
 returns : tie.Need-returns
 returns c = λ s e cr.
-    let o = c .before in
+    let o = c .before .before in
     turn-two-held _ s _ cr _ _ _ _ e (o .output-of .ensures .0) (c .if1 .taken)
 
 free-for-requires : tie.Need-free-for-requires
@@ -96,7 +93,6 @@ turn-two-spec =
     (tie.spec
     sub-at
     add-at
-    cast-output-of
     mul-output-of
     slice-read-output-of
     output-of-requires

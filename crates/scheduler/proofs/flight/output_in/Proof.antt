@@ -1,12 +1,12 @@
--- `flight::output_of` meets its contract: each return follows from the tests that led there. Assumes nothing.
+-- `flight::output_in` meets its contract: each return follows from the tests that led there. Assumes nothing.
 use mathlib.Core.Path.{sym, _∙_}
 use mathlib.Core.Logic.{⊎-elim}
 use native.Mathlib.Omega.{arith}
 use borrow.Author.Needs.{needs}
 use borrow.Author.Tests.{leb-true, leb-false}
 use Rattle.scheduler.proofs.FlightLaws.{first-low, first-read, second-read, none-low, none-high}
-use Rattle.scheduler.proofs.flight.output_of.Statement.{statement}
-use Rattle.scheduler.proofs.flight.output_of.Tie as tie
+use Rattle.scheduler.proofs.flight.output_in.Statement.{statement}
+use Rattle.scheduler.proofs.flight.output_in.Tie as tie
 
 is-by-first-requires : tie.Need-is-by-first-requires
 is-by-first-requires c κs = search needs
@@ -26,5 +26,5 @@ returns-3 c =
     let a = c .before .before .before .args in
     ⊎-elim (λ w. none-high (a .ports) (a .word) e (leb-false _ _ (w .1 .left))) (λ w. none-low (a .ports) (a .word) e (w .left)) (c .if2 .came)
 
-pub output-of-spec : {M : Type 1} → statement M
-output-of-spec = tie.close (tie.spec is-by-first-requires sub-result returns returns-2 returns-3)
+pub output-in-spec : {M : Type 1} → statement M
+output-in-spec = tie.close (tie.spec is-by-first-requires sub-result returns returns-2 returns-3)
