@@ -1,4 +1,4 @@
--- A set of outputs as one word, bit j - 1 for output j; and the outputs that are open to an input. Assumes nothing.
+-- A set of outputs as one word, bit j - 1 for output j; the powers of 2; and the outputs that are open to an input. Assumes nothing.
 use mathlib.Core.Bool.{Bool, _&&_}
 use mathlib.Core.List.{List, [], _∷_}
 use Prim.Native.Nat.{ℕ, zero, suc, _+_, _-_, _/_, _%_, _^_}

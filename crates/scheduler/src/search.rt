@@ -49,8 +49,8 @@ pub struct Requests {
     pub waiting: u32,
 }
 
-// The requests of the row that begins at a place. It reads the whole row, with no branch and no shift, so that the compiler can use vector
-// instructions.
+// The requests of the row that begins at a place, with the table of bits lent. It reads the whole row, with no branch and no shift, so that the
+// compiler can use vector instructions.
 pub fn requests_of(
     bits: &[u32; 32],
     ports: usize,
