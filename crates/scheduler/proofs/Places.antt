@@ -1,21 +1,11 @@
--- Where the words of a pair and of a row stand in a run. Assumes nothing.
+-- Where the word of a pair stands in a run. Assumes nothing.
 use mathlib.Core.Path.{_≡_, ap}
 use mathlib.Core.List.{List}
-use Prim.Native.Nat.{ℕ, _+_, _-_, _*_, _≤_, _<_}
-use native.Mathlib.Nat.{suc-mul, mul-le-mul-right}
-use native.Mathlib.Omega.{arith}
+use Prim.Native.Nat.{ℕ, _-_, _*_, _<_}
 use lib.ListN.{getD, set}
 use Rattle.wsgs.specs.Basics.{Port}
 use Rattle.wsgs.specs.Words.{place, word, put, less-one}
 use Rattle.wsgs.proofs.Laws.Words.{place-inside}
-
--- a row of the matrix lies within it
-pub row-within : (n i : ℕ) → Port n i → (i - 1) * n + n ≤ n * n
-row-within n i p = rw (← suc-mul (i - 1) n) (mul-le-mul-right n (omega arith))
-
--- which is small
-pub square-small : (n : ℕ) → n ≤ 32 → n * n ≤ 1024
-square-small n h = omega (arith, mul-le-mul-right n h)
 
 -- the place of the pair (i, j), as a number
 module _ (n : ℕ) (m : List ℕ) (i j at : ℕ) (e : at ≡ place n i j) where

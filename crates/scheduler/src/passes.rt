@@ -9,7 +9,7 @@ ghost use Rattle.scheduler.specs.Passes.{Held, ones, Waiting, PassedOne,
 use super::masks::all_free;
 use super::masks::without;
 use super::search::BITS;
-use super::turns::first_turn_with;
+use super::turns::first_turn;
 use super::turns::waiting_turn;
 use wsgs::Input;
 
@@ -39,7 +39,7 @@ pub fn pass_one(ports: usize, credits: &mut [u32], queues: &mut [u32]) -> Passed
     let bits = BITS;
     for row in 0..ports {
         let input = Input(row as u64 + 1);
-        let turn = first_turn_with(&bits, free, ports, input, credits, queues);
+        let turn = first_turn(&bits, free, ports, input, credits, queues);
         waiting[row] = turn.waiting;
         let output = turn.output;
         if output.0 == 0 {

@@ -6,10 +6,12 @@ ghost use lib.ListN.{length};
 ghost use Rattle.wsgs.specs.Basics.{Port};
 ghost use Rattle.wsgs.specs.Frames.{into-frame};
 ghost use Rattle.wsgs.specs.Pipelined.{slot-one, turn-one, turn-two, reloaded, turns-of, turns};
+ghost use Rattle.scheduler.specs.Masks.{powers};
 ghost use Rattle.scheduler.specs.Turnings.{turning-of, Lent, Foreseen};
 use super::flight::free_for;
 use super::flight::output_of;
 use super::flight::row_before;
+use super::search::BITS;
 use super::turns::first_turn;
 use super::turns::second_turn;
 use words::copy_words;
@@ -17,6 +19,7 @@ use wsgs::Input;
 
 // An input's pass-one turn for the slot whose row begins at a place, if it has no output for it yet.
 fn turn_one(
+    bits: &[u32; 32],
     ports: usize,
     row: usize,
     input: Input,
@@ -29,6 +32,7 @@ fn turn_one(
     requires { ⌜ ports * ports ≤ length (now credits) ⌝ }
     requires { ⌜ ports * ports ≤ length (now queues) ⌝ }
     requires { ⌜ row + ports ≤ length (now flight) ⌝ }
+    requires { ⌜ now bits ≡ powers 0 32 ⌝ }
     ensures { λ _. ⌜ ((s : ℕ) → row ≡ s % (2 * ports) * ports → turning-of (now (credits .exit)) (now (queues .exit)) (now (flight .exit)) ≡ turn-one ports s (input .0) (turning-of (now (credits .entry)) (now (queues .entry)) (now (flight .entry)))) ⌝ }
 {
     let at = row + (input.0 - 1) as usize;
@@ -36,18 +40,26 @@ fn turn_one(
         return;
     }
     let free = free_for(ports, row, flight);
-    let output = first_turn(free, ports, input, credits, queues).output;
+    let output = first_turn(bits, free, ports, input, credits, queues).output;
     if output.0 > 0 {
         flight[at] = 100 + output.0 as u32;
     }
 }
 
 // An input's pass-two turn for the slot whose row begins at a place, if it has no output for it yet.
-fn turn_two(ports: usize, row: usize, input: Input, queues: &mut [u32], flight: &mut [u32])
+fn turn_two(
+    bits: &[u32; 32],
+    ports: usize,
+    row: usize,
+    input: Input,
+    queues: &mut [u32],
+    flight: &mut [u32],
+)
     requires { ⌜ ports ≤ 32 ⌝ }
     requires { ⌜ Port ports (input .0) ⌝ }
     requires { ⌜ ports * ports ≤ length (now queues) ⌝ }
     requires { ⌜ row + ports ≤ length (now flight) ⌝ }
+    requires { ⌜ now bits ≡ powers 0 32 ⌝ }
     ensures { λ _. ⌜ ((s : ℕ) → row ≡ s % (2 * ports) * ports → (c : List ℕ) → turning-of c (now (queues .exit)) (now (flight .exit)) ≡ turn-two ports s (input .0) (turning-of c (now (queues .entry)) (now (flight .entry)))) ⌝ }
 {
     let at = row + (input.0 - 1) as usize;
@@ -55,7 +67,7 @@ fn turn_two(ports: usize, row: usize, input: Input, queues: &mut [u32], flight: 
         return;
     }
     let free = free_for(ports, row, flight);
-    let output = second_turn(free, ports, input, queues);
+    let output = second_turn(bits, free, ports, input, queues);
     if output.0 > 0 {
         flight[at] = output.0 as u32;
     }
@@ -113,6 +125,7 @@ pub fn look_ahead(ports: usize, frame: u64, time: u64) -> Ahead
 // An input's part in a tick: it reloads its credits, and has its turn of each pass. It has none before the time that is its number, when its
 // slots would be below 2N + 1 and N + 1.
 fn turns_of(
+    bits: &[u32; 32],
     ports: usize,
     time: u64,
     ahead: Ahead,
@@ -126,14 +139,15 @@ fn turns_of(
     requires { ⌜ ahead .one < 2 * ports ⌝ }
     requires { ⌜ ahead .two < 2 * ports ⌝ }
     requires { ⌜ Port ports (input .0) ⌝ }
+    requires { ⌜ now bits ≡ powers 0 32 ⌝ }
     ensures { λ _. ⌜ ((frame : ℕ) → Foreseen ports frame time (ahead .one) (ahead .two) (ahead .into) → turning-of (now (credits .exit)) (now (queues .exit)) (now (flight .exit)) ≡ turns-of ports frame (now (copy .entry)) time (input .0) (turning-of (now (credits .entry)) (now (queues .entry)) (now (flight .entry)))) ⌝ }
 {
     if input.0 <= time {
         reload_row(ports, ahead.into, input, copy, credits);
         let one = row_before(ports, ahead.one, input);
-        turn_one(ports, one, input, credits, queues, flight);
+        turn_one(bits, ports, one, input, credits, queues, flight);
         let two = row_before(ports, ahead.two, input);
-        turn_two(ports, two, input, queues, flight);
+        turn_two(bits, ports, two, input, queues, flight);
     }
 }
 
@@ -152,8 +166,19 @@ pub fn all_turns(
     requires { ⌜ ahead .two < 2 * ports ⌝ }
     ensures { λ _. ⌜ ((frame : ℕ) → Foreseen ports frame time (ahead .one) (ahead .two) (ahead .into) → turning-of (now (credits .exit)) (now (queues .exit)) (now (flight .exit)) ≡ turns ports frame (now (copy .entry)) time (turning-of (now (credits .entry)) (now (queues .entry)) (now (flight .entry))) ports) ⌝ }
 {
+    let bits = BITS;
     for done in 0..ports {
         let input = Input(done as u64 + 1);
-        turns_of(ports, time, ahead, input, copy, credits, queues, flight);
+        turns_of(
+            &bits,
+            ports,
+            time,
+            ahead,
+            input,
+            copy,
+            credits,
+            queues,
+            flight,
+        );
     }
 }

@@ -77,12 +77,12 @@ pub fn requests_of(
 }
 
 // The outputs for which packets wait in the row that begins at a place, read in the same way.
-pub fn waiting_outputs(ports: usize, row: usize, queues: &[u32]) -> u32
+pub fn waiting_outputs(bits: &[u32; 32], ports: usize, row: usize, queues: &[u32]) -> u32
+    requires { ⌜ now bits ≡ powers 0 32 ⌝ }
     requires { ⌜ ports ≤ 32 ⌝ }
     requires { ⌜ row + ports ≤ length (now queues) ⌝ }
     ensures { λ r. ⌜ r ≡ ready-mask (now (queues .entry)) (now (queues .entry)) row ports ⌝ }
 {
-    let bits = BITS;
     let mut waiting = 0u32;
     for column in 0..ports {
         waiting |= (queues[row + column] > 0) as u32 * bits[column];

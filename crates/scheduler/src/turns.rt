@@ -7,7 +7,6 @@ ghost use Rattle.scheduler.specs.Masks.{powers, is-open, ready-mask};
 ghost use Rattle.scheduler.specs.Charges.{charged};
 use super::charges::spend_credit;
 use super::charges::take_packet;
-use super::search::BITS;
 use super::search::lowest_open;
 use super::search::requests_of;
 use super::search::waiting_outputs;
@@ -20,8 +19,8 @@ pub struct FirstTurn {
     pub waiting: u32,
 }
 
-// A turn of pass one, which goes by credits and queues and costs a credit and a packet; the table is lent.
-pub fn first_turn_with(
+// A turn of pass one, which goes by credits and queues and costs a credit and a packet.
+pub fn first_turn(
     bits: &[u32; 32],
     free: u32,
     ports: usize,
@@ -52,27 +51,6 @@ pub fn first_turn_with(
     }
 }
 
-// The same turn with a table of its own.
-pub fn first_turn(
-    free: u32,
-    ports: usize,
-    input: Input,
-    credits: &mut [u32],
-    queues: &mut [u32],
-) -> FirstTurn
-    requires { ⌜ ports ≤ 32 ⌝ }
-    requires { ⌜ Port ports (input .0) ⌝ }
-    requires { ⌜ ports * ports ≤ length (now credits) ⌝ }
-    requires { ⌜ ports * ports ≤ length (now queues) ⌝ }
-    ensures { λ r. ⌜ r .output .0 ≡ lowest (is-open ports free (now (credits .entry)) (now (queues .entry)) (input .0)) ports ⌝ }
-    ensures { λ r. ⌜ now (credits .exit) ≡ charged ports (now (credits .entry)) (input .0) (r .output .0) ⌝ }
-    ensures { λ r. ⌜ now (queues .exit) ≡ charged ports (now (queues .entry)) (input .0) (r .output .0) ⌝ }
-    ensures { λ r. ⌜ r .waiting ≡ ready-mask (now (queues .entry)) (now (queues .entry)) ((input .0 - 1) * ports) ports ⌝ }
-{
-    let bits = BITS;
-    first_turn_with(&bits, free, ports, input, credits, queues)
-}
-
 // A turn of pass two, which goes by queues alone and costs a packet, where the outputs for which the input has a packet are known.
 pub fn waiting_turn(
     free: u32,
@@ -96,7 +74,14 @@ pub fn waiting_turn(
 }
 
 // That turn, where they are not known yet.
-pub fn second_turn(free: u32, ports: usize, input: Input, queues: &mut [u32]) -> Output
+pub fn second_turn(
+    bits: &[u32; 32],
+    free: u32,
+    ports: usize,
+    input: Input,
+    queues: &mut [u32],
+) -> Output
+    requires { ⌜ now bits ≡ powers 0 32 ⌝ }
     requires { ⌜ ports ≤ 32 ⌝ }
     requires { ⌜ Port ports (input .0) ⌝ }
     requires { ⌜ ports * ports ≤ length (now queues) ⌝ }
@@ -104,6 +89,6 @@ pub fn second_turn(free: u32, ports: usize, input: Input, queues: &mut [u32]) ->
     ensures { λ r. ⌜ now (queues .exit) ≡ charged ports (now (queues .entry)) (input .0) (r .0) ⌝ }
 {
     let row = (input.0 - 1) as usize * ports;
-    let waiting = waiting_outputs(ports, row, queues);
+    let waiting = waiting_outputs(bits, ports, row, queues);
     waiting_turn(free, waiting, ports, input, queues)
 }

@@ -1,9 +1,9 @@
 -- `charges::place_of` meets its contract: the place is inside a matrix of at most 32 rows. Assumes nothing.
 use native.Mathlib.Omega.{arith}
-use Rattle.scheduler.proofs.Places.{row-within, square-small}
 use mathlib.Core.Path.{refl}
 use borrow.Author.Needs.{needs}
 use Rattle.wsgs.specs.Words.{place}
+use Rattle.wsgs.proofs.Laws.Words.{row-within, square-small}
 use Rattle.scheduler.proofs.charges.place_of.Statement.{statement}
 use Rattle.scheduler.proofs.charges.place_of.Tie as tie
 

@@ -31,10 +31,10 @@ abbrev μ-loop : tie.MeasureT-loop
     ports - row
 
 -- from the test of a turn's output back to the turn, and from there to the loop's head and the entry
-abbrev turn : tie.After-struct-known Inv-loop μ-loop → tie.After-first-turn-with Inv-loop μ-loop
+abbrev turn : tie.After-struct-known Inv-loop μ-loop → tie.After-first-turn Inv-loop μ-loop
 turn c = c .before .before .before .before .before .before
 
-abbrev head : tie.After-first-turn-with Inv-loop μ-loop → tie.At-loop Inv-loop μ-loop
+abbrev head : tie.After-first-turn Inv-loop μ-loop → tie.At-loop Inv-loop μ-loop
 head c = c .before .before .before .before .before
 
 abbrev start : tie.At-loop Inv-loop μ-loop → tie.Start Inv-loop μ-loop
@@ -42,17 +42,17 @@ start c = c .before .before .before .before
 
 -- the output that is taken
 taken : (c : tie.Else1 Inv-loop μ-loop) → let t = turn (c .before) in let l = head t in
-    Chosen (start l .args .ports) (l .loop .free) (l .loop .credits) (l .loop .queues) (l .loop .row + 1) (t .first-turn-with .result .output .0)
-taken c = chosen _ _ _ _ _ _ (turn (c .before) .first-turn-with .ensures .0) (omega (arith, c .if1 .left))
+    Chosen (start l .args .ports) (l .loop .free) (l .loop .credits) (l .loop .queues) (l .loop .row + 1) (t .first-turn .result .output .0)
+taken c = chosen _ _ _ _ _ _ (turn (c .before) .first-turn .ensures .0) (omega (arith, c .if1 .left))
 
 -- the outputs for which the input had packets
-known : (t : tie.After-first-turn-with Inv-loop μ-loop) → let l = head t in let waiting = set (l .loop .waiting) (l .loop .row) (t .first-turn-with .result .waiting) in
+known : (t : tie.After-first-turn Inv-loop μ-loop) → let l = head t in let waiting = set (l .loop .waiting) (l .loop .row) (t .first-turn .result .waiting) in
     (length waiting ≡ 32) × Waiting (start l .args .ports) (l .loop .row + 1) (start l .args .queues .now) waiting
 known t =
     let l = head t in
     waiting-next _ _ (l .loop .waiting) (l .loop .row) _ (omega arith) (l .loop .inv .4)
     (one-waiting _ (omega arith) _ _ _ _ _ _ _ (omega arith) (l .loop .row) _ (add-one _) (omega arith) (l .loop .inv .3) _
-    (t .first-turn-with .ensures .1 .1 .1))
+    (t .first-turn .ensures .1 .1 .1))
 
 all-free-requires : tie.Need-all-free-requires Inv-loop μ-loop
 all-free-requires c κs = search needs
@@ -64,8 +64,8 @@ loop-holds c = (search needs, refl, refl, one-start _ (omega arith) _ _ _ (c .al
 add-t16 : tie.Need-add-t16 Inv-loop μ-loop
 add-t16 c = search needs
 
-first-turn-with-requires : tie.Need-first-turn-with-requires Inv-loop μ-loop
-first-turn-with-requires c κs = (c .before .before .before .before .loop .inv .5, search needs)
+first-turn-requires : tie.Need-first-turn-requires Inv-loop μ-loop
+first-turn-requires c κs = (c .before .before .before .before .loop .inv .5, search needs)
 
 mul-waiting : tie.Need-mul-waiting Inv-loop μ-loop
 mul-waiting c = search needs
@@ -84,10 +84,10 @@ loop-again c =
     let t = turn (c .before) in
     let l = head t in (
       omega arith,
-      t .first-turn-with .kept .1 .1 .1 .1 .0 ∙ l .loop .inv .1,
-      t .first-turn-with .kept .1 .1 .1 .1 .1 .0 ∙ l .loop .inv .2,
+      t .first-turn .kept .1 .1 .1 .1 .0 ∙ l .loop .inv .1,
+      t .first-turn .kept .1 .1 .1 .1 .1 .0 ∙ l .loop .inv .2,
       one-none _ (omega arith) _ _ _ _ _ _ _ (omega arith) (omega arith) (l .loop .row) _ (add-one _) (omega arith) (l .loop .inv .3) _
-          (t .first-turn-with .ensures .0) (c .if1 .taken) _ _ (t .first-turn-with .ensures .1 .0) (t .first-turn-with .ensures .1 .1 .0),
+          (t .first-turn .ensures .0) (c .if1 .taken) _ _ (t .first-turn .ensures .1 .0) (t .first-turn .ensures .1 .1 .0),
       known t,
       l .loop .inv .5,
     )
@@ -119,11 +119,11 @@ loop-again-2 c =
     let t = turn (w .before .before) in
     let l = head t in (
       omega arith,
-      t .first-turn-with .kept .1 .1 .1 .1 .0 ∙ l .loop .inv .1,
-      t .first-turn-with .kept .1 .1 .1 .1 .1 .0 ∙ l .loop .inv .2,
+      t .first-turn .kept .1 .1 .1 .1 .0 ∙ l .loop .inv .1,
+      t .first-turn .kept .1 .1 .1 .1 .1 .0 ∙ l .loop .inv .2,
       one-some _ (omega arith) _ _ _ _ _ _ _ (omega arith) (omega arith) (l .loop .row) _ (add-one _) (omega arith) (l .loop .inv .3) _
-          (t .first-turn-with .ensures .0) (taken (w .before) .port .low) _ (w .without .ensures) _ (one-shl 32 (l .loop .row) (omega arith)) _ _
-          (t .first-turn-with .ensures .1 .0) (t .first-turn-with .ensures .1 .1 .0),
+          (t .first-turn .ensures .0) (taken (w .before) .port .low) _ (w .without .ensures) _ (one-shl 32 (l .loop .row) (omega arith)) _ _
+          (t .first-turn .ensures .1 .0) (t .first-turn .ensures .1 .1 .0),
       known t,
       l .loop .inv .5,
     )
@@ -150,7 +150,7 @@ pass-one-spec =
     all-free-requires
     loop-holds
     add-t16
-    first-turn-with-requires
+    first-turn-requires
     mul-waiting
     array-write-waiting
     add-row

@@ -6,32 +6,34 @@ use native.Mathlib.Omega.{arith}
 use borrow.Author.Needs.{needs}
 use lib.ListN.{length}
 use Rattle.wsgs.specs.Pipelined.{turns}
+use Rattle.scheduler.specs.Masks.{powers}
 use Rattle.scheduler.specs.Turnings.{turning-of, Foreseen}
 use Rattle.scheduler.proofs.PipelinedTurns.{turns-more}
 use Rattle.scheduler.proofs.pipeline_turns.all_turns.Statement.{statement}
 use Rattle.scheduler.proofs.pipeline_turns.all_turns.Tie as tie
 
 abbrev Inv-loop : tie.InvT-loop
-Inv-loop ports time ahead copy credits₀ queues₀ flight₀ done₀ credits queues flight done =
+Inv-loop ports time ahead copy credits₀ queues₀ flight₀ bits done₀ credits queues flight done =
     (done ≤ ports)
     × (length credits ≡ length credits₀)
     × (length queues ≡ length queues₀)
     × (length flight ≡ length flight₀)
     × ((frame : ℕ) → Foreseen ports frame time (ahead .one) (ahead .two) (ahead .into)
     → turning-of credits queues flight ≡ turns ports frame copy time (turning-of credits₀ queues₀ flight₀) done)
+    × (bits ≡ powers 0 32)
 
 abbrev μ-loop : tie.MeasureT-loop
-μ-loop ports time ahead copy credits₀ queues₀ flight₀ done₀ credits queues flight done = ports - done
+μ-loop ports time ahead copy credits₀ queues₀ flight₀ bits done₀ credits queues flight done = ports - done
 
 loop-holds : tie.Need-loop-holds Inv-loop μ-loop
-unfolding turns
-loop-holds c = (search needs, refl, refl, refl, λ frame a. refl)
+unfolding turns powers
+loop-holds c = (search needs, refl, refl, refl, λ frame a. refl, refl)
 
-add-t12 : tie.Need-add-t12 Inv-loop μ-loop
-add-t12 c = search needs
+add-t14 : tie.Need-add-t14 Inv-loop μ-loop
+add-t14 c = search needs
 
 turns-of-requires : tie.Need-turns-of-requires Inv-loop μ-loop
-turns-of-requires c κs = search needs
+turns-of-requires c κs = (search needs, (search needs, (search needs, (search needs, search needs))))
 
 add-done : tie.Need-add-done Inv-loop μ-loop
 add-done c = search needs
@@ -42,12 +44,13 @@ loop-less c = search needs
 loop-again : tie.Need-loop-again Inv-loop μ-loop
 loop-again c =
     let t = c .before .before .before .before .before .before in
-    let l = t .before .before .before .before .before in (
+    let l = t .before .before .before .before .before .before in (
       omega arith,
-      t .turns-of .kept .1 .1 .1 .1 .1 .0 ∙ l .loop .inv .1,
-      t .turns-of .kept .1 .1 .1 .1 .1 .1 .0 ∙ l .loop .inv .2,
-      t .turns-of .kept .1 .1 .1 .1 .1 .1 .1 .0 ∙ l .loop .inv .3,
+      t .turns-of .kept .1 .1 .1 .1 .1 .1 .0 ∙ l .loop .inv .1,
+      t .turns-of .kept .1 .1 .1 .1 .1 .1 .1 .0 ∙ l .loop .inv .2,
+      t .turns-of .kept .1 .1 .1 .1 .1 .1 .1 .1 .0 ∙ l .loop .inv .3,
       λ frame a. turns-more _ frame _ _ _ _ _ _ (l .loop .inv .4 frame a) (t .turns-of .ensures frame a),
+      l .loop .inv .5,
     )
 
 same-length : tie.Need-same-length Inv-loop μ-loop
@@ -69,7 +72,7 @@ all-turns-spec =
     Inv-loop
     μ-loop
     loop-holds
-    add-t12
+    add-t14
     turns-of-requires
     add-done
     loop-less

@@ -2,7 +2,7 @@
 use mathlib.Core.Path.{refl}
 use native.Mathlib.Omega.{arith}
 use borrow.Author.Needs.{needs}
-use Rattle.scheduler.proofs.Places.{row-within, square-small}
+use Rattle.wsgs.proofs.Laws.Words.{row-within, square-small}
 use Rattle.scheduler.proofs.pipeline_turns.row_of_input.Statement.{statement}
 use Rattle.scheduler.proofs.pipeline_turns.row_of_input.Tie as tie
 

@@ -17,6 +17,9 @@ freed c = c .before .before .before
 abbrev read : tie.After-free-for → tie.After-output-of
 read c = c .before .before .before .before
 
+abbrev start : tie.After-output-of → tie.Start
+start c = c .before .before .before .before .before .before
+
 sub-at : tie.Need-sub-at
 sub-at c = search needs
 
@@ -41,14 +44,16 @@ free-for-requires : tie.Need-free-for-requires
 free-for-requires c κs = search needs
 
 first-turn-requires : tie.Need-first-turn-requires
-first-turn-requires c κs = search needs
+first-turn-requires c κs =
+    let p = start (read (c .before .before)) .pre in
+    (p .1 .1 .1 .1 .1, (p .0, (p .1 .0, (p .1 .1 .0, p .1 .1 .1 .0))))
 
 -- the output that is taken is a port
 small : (c : tie.Then2) → turned (c .before) .first-turn .result .output .0 ≤ 32
 small c =
     let t = turned (c .before) in
     let p = chosen _ _ _ _ _ _ (t .first-turn .ensures .0) (c .if2 .taken) .port in
-    omega (arith, read (freed t) .before .before .before .before .before .before .pre .0)
+    omega (arith, start (read (freed t)) .pre .0)
 
 cast-flight : tie.Need-cast-flight
 cast-flight c = omega (arith, small (c .before))
@@ -61,7 +66,7 @@ mul-flight : tie.Need-mul-flight
 mul-flight c = mul-output-of (read (freed (turned (c .before .before))) .before .before)
 
 slice-write-flight : tie.Need-slice-write-flight
-slice-write-flight c = search needs
+slice-write-flight c = let p = start (read (freed (turned (c .before .before)))) .pre in omega (arith, p .1 .0, p .1 .1 .1 .1 .0)
 
 same-length : tie.Need-same-length
 same-length c = search needs

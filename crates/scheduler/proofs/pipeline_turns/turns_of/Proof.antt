@@ -5,6 +5,13 @@ use Rattle.scheduler.proofs.PipelinedTurns.{turns-due, turns-early}
 use Rattle.scheduler.proofs.pipeline_turns.turns_of.Statement.{statement}
 use Rattle.scheduler.proofs.pipeline_turns.turns_of.Tie as tie
 
+-- from the second row back to the first, and from there to the entry
+abbrev first : tie.After-row-before2 → tie.After-row-before
+first c = c .before .before .before .before .before .before .before .before .before .before .before
+
+abbrev start : tie.After-row-before → tie.Start
+start c = c .before .before .before .before .before .before .before .before .before .before .before
+
 reload-row-requires : tie.Need-reload-row-requires
 reload-row-requires c κs = search needs
 
@@ -12,13 +19,17 @@ row-before-requires : tie.Need-row-before-requires
 row-before-requires c κs = search needs
 
 turn-one-requires : tie.Need-turn-one-requires
-turn-one-requires c κs = search needs
+turn-one-requires c κs =
+    let p = start (c .before .before .before) .pre in
+    (search needs, (p .1 .1 .1 .0, (search needs, (search needs, (search needs, p .1 .1 .1 .1)))))
 
 row-before-requires-2 : tie.Need-row-before-requires-2
 row-before-requires-2 c κs = search needs
 
 turn-two-requires : tie.Need-turn-two-requires
-turn-two-requires c κs = search needs
+turn-two-requires c κs =
+    let p = start (first (c .before .before)) .pre in
+    (search needs, (p .1 .1 .1 .0, (search needs, (search needs, p .1 .1 .1 .1))))
 
 same-length : tie.Need-same-length
 same-length c = search needs
