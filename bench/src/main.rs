@@ -141,10 +141,18 @@ fn main() {
                 agree(pipelined, &s);
                 let (mut a, mut b, c, mut d) = (s.clone(), s.clone(), s.clone(), Second::of(pipelined, &s));
                 let t = nanoseconds(20_000, &mut [
-                    &mut || drop(black_box(proved(pipelined, black_box(&mut a)).first)),
-                    &mut || drop(black_box(by_hand(pipelined, black_box(&mut b)).first)),
-                    &mut || drop(black_box(black_box(&mut d).tick().first)),
-                    &mut || drop(black_box(read_once(black_box(&c)))),
+                    &mut || {
+                        black_box(proved(pipelined, black_box(&mut a)).first);
+                    },
+                    &mut || {
+                        black_box(by_hand(pipelined, black_box(&mut b)).first);
+                    },
+                    &mut || {
+                        black_box(black_box(&mut d).tick().first);
+                    },
+                    &mut || {
+                        black_box(read_once(black_box(&c)));
+                    },
                 ]);
                 println!(
                     "| {form} | {n} | {load} | {:.0} | {:.0} | {:.2} | {:.0} | {:.2} | {:.0} | {:.1} |",
