@@ -11,7 +11,7 @@ use lib.Dec.{ltb}
 use Rattle.wsgs.specs.Basics.{pick}
 use Rattle.wsgs.specs.Text.{drop-last, reversed, read-record}
 use Rattle.events.specs.Feeding.{State, appended, kept-record}
-use Rattle.events.proofs.Fields.{over-64}
+use Rattle.records.proofs.Fields.{over-64}
 
 -- a text read back to front
 reversed-onto : (xs done : List ℕ) → reversed xs done ≡ reversed xs [] ++ done

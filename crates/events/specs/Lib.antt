@@ -1,5 +1,4 @@
 -- What the functions of this crate say beyond the definitions of the event program's text.
-pub mod Records
 pub mod Lines
 pub mod Feeding
 pub mod View

@@ -3,7 +3,7 @@ use crate::Machine;
 use crate::Progress;
 use crate::TakenByte;
 use crate::calls::obey;
-use crate::reader::read_record;
+use records::read_record;
 ghost use mathlib.Core.Path.{_≡_};
 ghost use mathlib.Core.Bool.{_&&_};
 ghost use mathlib.Core.List.{List};

@@ -3,7 +3,6 @@ mod bytes;
 mod calls;
 pub mod lines;
 mod printer;
-pub mod reader;
 mod slots;
 mod steps;
 

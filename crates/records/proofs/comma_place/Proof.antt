@@ -2,10 +2,10 @@
 use Prim.Native.Nat.{_-_}
 use native.Mathlib.Omega.{arith}
 use lib.ListN.{length}
-use Rattle.events.proofs.Texts.{NoComma, no-comma, comma-not, comma-here, comma-nowhere}
+use Rattle.records.proofs.Texts.{NoComma, no-comma, comma-not, comma-here, comma-nowhere}
 use borrow.Author.Needs.{needs}
-use Rattle.events.proofs.reader.comma_place.Statement.{statement}
-use Rattle.events.proofs.reader.comma_place.Tie as tie
+use Rattle.records.proofs.comma_place.Statement.{statement}
+use Rattle.records.proofs.comma_place.Tie as tie
 
 abbrev Inv-loop : tie.InvT-loop
 Inv-loop text i₀ i = NoComma text i

@@ -12,7 +12,7 @@ use lib.Seq.{drop-cons}
 use Rattle.wsgs.specs.Basics.{same}
 use Rattle.wsgs.specs.declared.Named.the-variants.{Known}
 use Rattle.wsgs.specs.Text.{comma, bytes, look-up, Name}
-use Rattle.events.specs.Records.{first-comma}
+use Rattle.records.specs.Commas.{first-comma}
 
 -- texts of different lengths differ
 pub lengths-differ : (a b : List ℕ) → (length a ≡ length b → ⊥) → same a b ≡ false

@@ -3,10 +3,10 @@ use Prim.Native.Nat.{_-_}
 use mathlib.Core.Path.{sym}
 use native.Mathlib.Omega.{arith}
 use lib.ListN.{length}
-use Rattle.events.proofs.Texts.{lengths-differ, Agree, agree-none, agree-more, agree-not, agree-all}
+use Rattle.records.proofs.Texts.{lengths-differ, Agree, agree-none, agree-more, agree-not, agree-all}
 use borrow.Author.Needs.{needs}
-use Rattle.events.proofs.reader.is_same.Statement.{statement}
-use Rattle.events.proofs.reader.is_same.Tie as tie
+use Rattle.records.proofs.is_same.Statement.{statement}
+use Rattle.records.proofs.is_same.Tie as tie
 
 abbrev Inv-loop : tie.InvT-loop
 Inv-loop a b i₀ i = Agree a b i

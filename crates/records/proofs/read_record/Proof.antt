@@ -2,10 +2,10 @@
 use mathlib.Core.Path.{refl, sym, _∙_}
 use native.Mathlib.Omega.{arith}
 use lib.Seq.{length-take-le}
-use Rattle.events.proofs.Fields.{last-field, next-field, over-64, one-field, two-fields, three-fields, four-fields, more-fields}
+use Rattle.records.proofs.Fields.{last-field, next-field, over-64, one-field, two-fields, three-fields, four-fields, more-fields}
 use borrow.Author.Needs.{needs}
-use Rattle.events.proofs.reader.read_record.Statement.{statement}
-use Rattle.events.proofs.reader.read_record.Tie as tie
+use Rattle.records.proofs.read_record.Statement.{statement}
+use Rattle.records.proofs.read_record.Tie as tie
 
 returns : tie.Need-returns
 returns c = over-64 _ (omega arith)

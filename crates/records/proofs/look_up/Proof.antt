@@ -5,9 +5,9 @@ use Prim.Native.Nat.{ℕ}
 use borrow.Author.Needs.{needs}
 use lib.ListN.{drop}
 use Rattle.wsgs.specs.Text.{names, look-up, bytes}
-use Rattle.events.proofs.Texts.{found, passed-over}
-use Rattle.events.proofs.reader.look_up.Statement.{statement}
-use Rattle.events.proofs.reader.look_up.Tie as tie
+use Rattle.records.proofs.Texts.{found, passed-over}
+use Rattle.records.proofs.look_up.Statement.{statement}
+use Rattle.records.proofs.look_up.Tie as tie
 
 abbrev text : tie.Start → List ℕ
 text s = s .args .text .now

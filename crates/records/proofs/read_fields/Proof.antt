@@ -1,7 +1,7 @@
 -- What four fields say, each taken apart in turn.
 use borrow.Author.Needs.{needs}
-use Rattle.events.proofs.reader.read_fields.Statement.{statement}
-use Rattle.events.proofs.reader.read_fields.Tie as tie
+use Rattle.records.proofs.read_fields.Statement.{statement}
+use Rattle.records.proofs.read_fields.Tie as tie
 
 look-up-requires : tie.Need-look-up-requires
 look-up-requires c κs = search needs

@@ -11,8 +11,8 @@ use lib.ListN.{length, take, drop, length-drop}
 use lib.Seq.{take-all}
 use Rattle.wsgs.specs.declared.Reading.the-variants.{Unreadable}
 use Rattle.wsgs.specs.Text.{comma, reversed, fields-from, fields, look-up, names, read-field, reading-of, read-record}
-use Rattle.events.specs.Records.{first-comma}
-use Rattle.events.proofs.Texts.{comma-first, comma-later}
+use Rattle.records.specs.Commas.{first-comma}
+use Rattle.records.proofs.Texts.{comma-first, comma-later}
 
 -- what stands after place k of a text, as a part of a slice
 pub rest-after : (k : ℕ) (t : List ℕ) → take (length t - k) (drop k t) ≡ drop k t

@@ -6,7 +6,7 @@ use wsgs::Reading;
 ghost use mathlib.Core.Path.{_≡_};
 ghost use Rattle.wsgs.specs.Basics.{same};
 ghost use Rattle.wsgs.specs.Text.{read-field, look-up, names, unused-are-0, reading-of, read-record};
-ghost use Rattle.events.specs.Records.{first-comma};
+ghost use Rattle.records.specs.Commas.{first-comma};
 
 // A field's number: one to ten decimal digits.
 pub fn read_field(text: &[u8]) -> Field
