@@ -3,15 +3,14 @@ use mathlib.Core.Path.{_≡_, ap, _∙_}
 use mathlib.Core.List.{List}
 use Prim.Native.Nat.{ℕ, _+_, _-_, _*_, _≤_, _<_}
 use native.Mathlib.Omega.{arith}
-use lib.ListN.{length, take, drop, length-drop}
-use Rattle.events.proofs.Fields.{rest-after}
+use lib.ListN.{length, take, drop, length-take, length-drop}
 
 module _ (block : List ℕ) (from : ℕ) where
   abbrev pub part : List ℕ
   part = take (length block - from) (drop from block)
 
   pub part-length : length part ≡ length block - from
-  part-length = ap length (rest-after from block) ∙ length-drop from block
+  part-length = length-take (length block - from) (drop from block) ∙ omega (arith, length-drop from block)
 
   -- the place after a call, and the work left
   module _ (within : from ≤ length block) (taken : ℕ) (few : taken ≤ length part) where
