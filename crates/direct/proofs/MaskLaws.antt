@@ -5,7 +5,6 @@ use Prim.Native.Nat.{ℕ, zero, suc, _-_, _^_, _≤_}
 use native.Mathlib.Omega.{arith}
 use lib.Bits.{bitXor}
 use lib.Dec.{eqb, eqb·suc-suc}
-use Rattle.wsgs.specs.Basics.{Port}
 use Rattle.turns.specs.Masks.{in-mask}
 use Rattle.turns.proofs.BitLaws.{mask-bit, bit-cleared}
 

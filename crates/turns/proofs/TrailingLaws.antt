@@ -1,12 +1,11 @@
--- The lowest set bit of a word, and the word without it. They hold by halving the word. Assumes nothing.
-use mathlib.Core.Path.{_≡_, refl, ap, _∙_}
+-- The lowest set bit of a word. They hold by halving the word. Assumes nothing.
+use mathlib.Core.Path.{_≡_, refl}
 use mathlib.Core.Bool.{true, false}
-use Prim.Native.Nat.{ℕ, zero, suc, _+_, _-_, _*_, _/_, _%_, _^_, _<_}
-use native.Mathlib.Nat.{div-one, le-of-suc-le-suc, not-suc-le-zero, two-pow-succ, pow-suc, one-mul}
+use Prim.Native.Nat.{ℕ, zero, suc, _/_, _%_, _<_}
+use native.Mathlib.Nat.{div-one, le-of-suc-le-suc, not-suc-le-zero}
 use native.Mathlib.Numerals.{one-add}
 use native.Mathlib.Omega.{arith}
-use borrow.Author.Tests.{eqb-true, eq-eqb}
-use lib.Bits.{bitXor, bitAnd, xor-add-and, and-high, and-step, and-self}
+use borrow.Author.Tests.{eq-eqb}
 use lib.Count.{trailingZeros, under}
 use lib.Dec.{eqb}
 use lib.Pow.{shr-shr}

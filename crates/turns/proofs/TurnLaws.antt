@@ -13,7 +13,7 @@ use Rattle.turns.specs.Masks.{powers, is-open, ready-mask}
 use Rattle.turns.specs.Requests.{has-turn, both-above, gathered, requested, lowest-common}
 use Rattle.turns.proofs.Ready.{requested-ready, lowest-requested}
 
--- input i of n ports, on a run of so many words
+-- A TURN of input i of n ports, on a run of so many words
 module _ (n i words : ℕ) where
   -- it has no turn where the ports are too many or it is none of them
   pub many-ports : 32 < n → false ≡ has-turn n i words
@@ -79,31 +79,36 @@ pub requested-at : (table one two : List ℕ) (n i row w : ℕ) → row ≡ (i -
 unfolding requested
 requested-at table one two n i row w d e = e ∙ ap (λ z. gathered table (both-above one two z) n) d
 
--- a turn of input i by the table of all bits, on runs that hold a word for each pair
-module _ (table : List ℕ) (all : table ≡ powers 0 32) (n : ℕ) (few : n ≤ 32) (i : ℕ) (p : Port n i) (free r : ℕ) where
-  -- that of pass one
-  module _ (one two : List ℕ) (long : n * n ≤ length one) (enough : n * n ≤ length two) where
-    pub first-output : r ≡ pick (has-turn n i (length one) && has-turn n i (length two)) (lowest-common free (requested table one two n i) n) 0
-        → r ≡ lowest (is-open n free one two i) n
-    first-output e =
-        lowest-requested n free one two i _ (requested-ready table all one two n i few) r
-        (e ∙ rw (turn-due n i (length one) few p long, turn-due n i (length two) few p enough))
+-- THE TURNS of input i of at most 32 ports, on runs that hold a word for each pair
+module _ (n : ℕ) (few : n ≤ 32) (i : ℕ) (p : Port n i) where
+  -- by the table of all bits
+  module _ (table : List ℕ) (all : table ≡ powers 0 32) where
+    -- that of pass one
+    module _ (one two : List ℕ) (long : n * n ≤ length one) (enough : n * n ≤ length two) where
+      both-due : (has-turn n i (length one) && has-turn n i (length two)) ≡ true
+      both-due = both-yes (turn-due n i (length one) few p long) (turn-due n i (length two) few p enough)
 
-    pub first-waiting : r ≡ pick (has-turn n i (length one) && has-turn n i (length two)) (requested table two two n i) 0
-        → r ≡ ready-mask two two ((i - 1) * n) n
-    first-waiting e =
-        e ∙ rw (turn-due n i (length one) few p long, turn-due n i (length two) few p enough) (requested-ready table all two two n i few)
+      -- takes the lowest output that is open
+      pub first-output : (free r : ℕ)
+          → r ≡ pick (has-turn n i (length one) && has-turn n i (length two)) (lowest-common free (requested table one two n i) n) 0
+          → r ≡ lowest (is-open n free one two i) n
+      first-output free r e = lowest-requested n free one two i _ (requested-ready table all one two n i few) r (e ∙ rw both-due)
 
-  -- that of pass two
-  pub second-output : (queues : List ℕ) → n * n ≤ length queues
-      → r ≡ pick (has-turn n i (length queues)) (lowest-common free (requested table queues queues n i) n) 0
+      -- and tells the outputs for which there is a packet
+      pub first-waiting : (w : ℕ) → w ≡ pick (has-turn n i (length one) && has-turn n i (length two)) (requested table two two n i) 0
+          → w ≡ ready-mask two two ((i - 1) * n) n
+      first-waiting w e = e ∙ rw both-due (requested-ready table all two two n i few)
+
+    -- that of pass two
+    pub second-output : (queues : List ℕ) → n * n ≤ length queues → (free r : ℕ)
+        → r ≡ pick (has-turn n i (length queues)) (lowest-common free (requested table queues queues n i) n) 0
+        → r ≡ lowest (is-open n free queues queues i) n
+    second-output queues long free r e =
+        lowest-requested n free queues queues i _ (requested-ready table all queues queues n i few) r (e ∙ rw (turn-due n i (length queues) few p long))
+
+  -- and where the outputs are known for which there is a packet
+  pub waiting-output : (queues : List ℕ) → n * n ≤ length queues → (waiting : ℕ) → waiting ≡ ready-mask queues queues ((i - 1) * n) n → (free r : ℕ)
+      → r ≡ pick (has-turn n i (length queues)) (lowest-common free waiting n) 0
       → r ≡ lowest (is-open n free queues queues i) n
-  second-output queues long e =
-      lowest-requested n free queues queues i _ (requested-ready table all queues queues n i few) r (e ∙ rw (turn-due n i (length queues) few p long))
-
--- and where the outputs are known for which the input has a packet
-pub waiting-output : (n : ℕ) → n ≤ 32 → (i : ℕ) → Port n i → (free r : ℕ) (queues : List ℕ) → n * n ≤ length queues
-    → (waiting : ℕ) → waiting ≡ ready-mask queues queues ((i - 1) * n) n → r ≡ pick (has-turn n i (length queues)) (lowest-common free waiting n) 0
-    → r ≡ lowest (is-open n free queues queues i) n
-waiting-output n few i p free r queues long waiting known e =
-    lowest-requested n free queues queues i waiting known r (e ∙ rw (turn-due n i (length queues) few p long))
+  waiting-output queues long waiting known free r e =
+      lowest-requested n free queues queues i waiting known r (e ∙ rw (turn-due n i (length queues) few p long))

@@ -48,7 +48,7 @@ found : (t : tie.After-first-turn Inv-loop μ-loop) → let l = head t in let n 
     t .first-turn .result .output .0 ≡ lowest (is-open n (l .loop .free) (l .loop .credits) (l .loop .queues) (l .loop .row + 1)) n
 found t =
     let l = head t in
-    first-output _ (l .loop .inv .5) _ (omega arith) _ (omega arith) _ _ _ _ (omega arith) (omega arith) (t .first-turn .ensures .0)
+    first-output _ (omega arith) _ (omega arith) _ (l .loop .inv .5) _ _ (omega arith) (omega arith) _ _ (t .first-turn .ensures .0)
 
 -- the output that is taken
 taken : (c : tie.Else1 Inv-loop μ-loop) → let t = turn (c .before) in let l = head t in
@@ -62,7 +62,7 @@ known t =
     let l = head t in
     waiting-next _ _ (l .loop .waiting) (l .loop .row) _ (omega arith) (l .loop .inv .4)
     (one-waiting _ (omega arith) _ _ _ _ _ _ _ (omega arith) (l .loop .row) _ (add-one _) (omega arith) (l .loop .inv .3) _
-    (first-waiting _ (l .loop .inv .5) _ (omega arith) (l .loop .row + 1) (omega arith) (l .loop .free) _ (l .loop .credits) _ (omega arith) (omega arith)
+    (first-waiting _ (omega arith) (l .loop .row + 1) (omega arith) _ (l .loop .inv .5) (l .loop .credits) _ (omega arith) (omega arith) _
     (t .first-turn .ensures .1 .1 .1)))
 
 all-free-requires : tie.Need-all-free-requires Inv-loop μ-loop

@@ -53,10 +53,10 @@ found t =
     let l = head t in
     let p = start l .pre .1 .1 in
     let now = l .loop .inv .2 (p .start) (p .one) (p .held) (p .mark) in
-    waiting-output _ (omega arith) _ (omega arith) _ _ _ (omega arith) _
+    waiting-output _ (omega arith) _ (omega arith) _ (omega arith) _
     (two-waiting _ (omega arith) (p .start) (p .one) _ _ _ (l .loop .row) _ (add-one _) now (omega arith) (omega arith)
     (idle (t .before .before) (p .one) (p .mark)) _ (p .known (l .loop .row) (omega arith)))
-    (t .waiting-turn .ensures .0)
+    _ _ (t .waiting-turn .ensures .0)
 
 -- the output that is taken
 taken : (c : tie.Else2 Inv-loop μ-loop) → let t = turn (c .before) in let l = head t in

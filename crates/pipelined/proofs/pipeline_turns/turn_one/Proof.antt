@@ -56,7 +56,7 @@ found : (t : tie.After-first-turn) → let a = start (read (freed t)) .args in
     ≡ lowest (is-open (a .ports) (freed t .free-for .result) (a .credits .now) (a .queues .now) (a .input .0)) (a .ports)
 found t =
     let p = start (read (freed t)) .pre in
-    first-output _ (p .1 .1 .1 .1 .1) _ (p .0) _ (p .1 .0) _ _ _ _ (p .1 .1 .0) (p .1 .1 .1 .0) (t .first-turn .ensures .0)
+    first-output _ (p .0) _ (p .1 .0) _ (p .1 .1 .1 .1 .1) _ _ (p .1 .1 .0) (p .1 .1 .1 .0) _ _ (t .first-turn .ensures .0)
 
 -- the output that is taken is a port
 small : (c : tie.Then2) → turned (c .before) .first-turn .result .output .0 ≤ 32

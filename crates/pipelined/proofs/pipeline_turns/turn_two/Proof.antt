@@ -30,7 +30,7 @@ found : (t : tie.After-second-turn) → let a = start (read (freed t)) .args in
     ≡ lowest (is-open (a .ports) (freed t .free-for .result) (a .queues .now) (a .queues .now) (a .input .0)) (a .ports)
 found t =
     let p = start (read (freed t)) .pre in
-    second-output _ (p .1 .1 .1 .1) _ (p .0) _ (p .1 .0) _ _ _ (p .1 .1 .0) (t .second-turn .ensures .0)
+    second-output _ (p .0) _ (p .1 .0) _ (p .1 .1 .1 .1) _ (p .1 .1 .0) _ _ (t .second-turn .ensures .0)
 
 sub-at : tie.Need-sub-at
 sub-at c = search needs
