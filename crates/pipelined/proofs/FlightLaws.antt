@@ -2,18 +2,14 @@
 use mathlib.Core.Path.{_≡_}
 use mathlib.Core.Bool.{true, false, and-false}
 use Prim.Native.Nat.{ℕ, _+_, _-_, _*_, _≤_, _<_}
-use native.Mathlib.Nat.{mul-le-mul-left, mul-le-mul-right, suc-mul}
+use native.Mathlib.Nat.{mul-le-mul-right, suc-mul}
 use native.Mathlib.Omega.{arith}
 use borrow.Author.Tests.{le-leb, lt-leb}
 use lib.Dec.{leb}
 use Rattle.wsgs.specs.Pipelined.{by-first, output-in}
 use Rattle.wsgs.proofs.Laws.Tests.{in-range}
 
--- 2n rows are few words
-pub rows-few : (n : ℕ) → n ≤ 32 → 2 * n * n ≤ 2048
-rows-few n few = omega (arith, mul-le-mul-left (2 * n) few)
-
--- each row lies within them
+-- each of the 2n rows in flight lies within them
 pub row-within : (n r : ℕ) → r < 2 * n → r * n + n ≤ 2 * n * n
 row-within n r h = rw (← suc-mul r n) (mul-le-mul-right n h)
 

@@ -2,35 +2,28 @@
 use mathlib.Core.Path.{_≡_, refl, sym, ap, _∙_}
 use mathlib.Core.Bool.{true, false, not, _||_}
 use mathlib.Core.List.{List}
-use mathlib.Core.Logic.{_≢_}
 use Prim.Native.Nat.{ℕ, zero, suc, _+_, _-_, _*_, _/_, _%_, _^_, _≤_, _<_}
-use native.Mathlib.Nat.{div-self, div-eq-of-lt, pow-suc, mul-mod-left, mod-lt, zero-div}
+use native.Mathlib.Nat.{mod-lt, zero-div}
 use native.Mathlib.Numerals.{add-one}
-use native.Mathlib.Decide.{ℕ-discrete, decLt}
+use native.Mathlib.Decide.{ℕ-discrete}
 use native.Mathlib.Omega.{arith}
 use borrow.Author.Tests.{eq-eqb, ne-eqb, eqb-true}
 use lib.Bits.{bitOr, bitXor, or-shr, or-mod, xor-shr, xor-mod}
 use lib.Dec.{eqb, eqb·suc-suc}
-use lib.Pow.{pow-pos, pow-lt, pow-add, shl-shr}
 use lib.ListN.{getD}
 use Rattle.wsgs.specs.Basics.{some-of}
 use Rattle.wsgs.specs.Steps.{given}
 use Rattle.wsgs.specs.Pipelined.{output-in, flight-place, in-flight, standing}
 use Rattle.turns.specs.Masks.{in-mask}
-use Rattle.turns.proofs.BitLaws.{one-shl}
+use Rattle.turns.proofs.BitLaws.{one-shl, pow-here, pow-other}
 
 -- bit k of 2 ^ j
 power-bit : (j k : ℕ) → eqb (2 ^ j / 2 ^ k % 2) 1 ≡ eqb j k
-power-bit j k = elim (ℕ-discrete j k) [ yes e ↦ rw (e, div-self (pow-pos k), eq-eqb k k refl) | no d ↦ rw (ne-eqb j k d) (other d) ]
-  where
-    other : j ≢ k → eqb (2 ^ j / 2 ^ k % 2) 1 ≡ false
-    other d = elim (decLt j k) [ yes l ↦ rw (div-eq-of-lt (pow-lt l)) | no g ↦ above (omega arith) ]
-      where
-        above : k < j → eqb (2 ^ j / 2 ^ k % 2) 1 ≡ false
-        above l =
-            let e : j ≡ suc (j - suc k) + k = omega arith in
-            ap (λ (x : ℕ). eqb (2 ^ x / 2 ^ k % 2) 1) e
-            ∙ rw (pow-add 2 (suc (j - suc k)) k, shl-shr (2 ^ suc (j - suc k)) k, pow-suc, mul-mod-left (2 ^ (j - suc k)) 2)
+power-bit j k =
+    elim (ℕ-discrete j k) [
+      | yes e ↦ rw (e, pow-here k, eq-eqb k k refl)
+      | no d ↦ rw (pow-other j k (λ e. d (sym e)), ne-eqb j k d)
+    ]
 
 -- a bit of two words together, and of two words against each other
 or-digit : (x y : ℕ) → x < 2 → y < 2 → eqb (bitOr x y) 1 ≡ (eqb y 1 || eqb x 1)

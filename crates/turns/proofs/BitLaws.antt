@@ -26,12 +26,12 @@ mask-bit w k = ap (λ (x : ℕ). eqb (w / 2 ^ x % 2) 1) (omega arith)
 pub one-shl : (m j : ℕ) → j < m → (1 * 2 ^ j) % 2 ^ m ≡ 2 ^ j
 one-shl m j h = shl-exact 1 j m (omega arith) (omega arith) ∙ one-mul (2 ^ j)
 
--- it has bit j
-pow-here : (j : ℕ) → 2 ^ j / 2 ^ j % 2 ≡ 1
+-- 2 ^ j has bit j
+pub pow-here : (j : ℕ) → 2 ^ j / 2 ^ j % 2 ≡ 1
 pow-here j = rw (div-self (pow-pos j))
 
 -- and no other
-pow-other : (j k : ℕ) → k ≢ j → 2 ^ j / 2 ^ k % 2 ≡ 0
+pub pow-other : (j k : ℕ) → k ≢ j → 2 ^ j / 2 ^ k % 2 ≡ 0
 pow-other j k ne = elim (decLt k j) [ yes l ↦ above l | no g ↦ below (omega arith) ]
   where
     below : j < k → 2 ^ j / 2 ^ k % 2 ≡ 0

@@ -29,7 +29,8 @@ pub fn take_packet(queues: &mut [u32], ports: usize, input: Input, output: Outpu
 {
     let at = place_of(ports, input, output);
     let packets = queues[at];
-    queues[at] = packets - (packets > 0) as u32;
+    let taken = (packets > 0) as u32;
+    queues[at] = packets - taken;
 }
 
 // The pair's credits fall by 1.
@@ -42,6 +43,7 @@ pub fn spend_credit(credits: &mut [u32], ports: usize, input: Input, output: Out
 {
     let at = place_of(ports, input, output);
     let left = Credits(credits[at]);
-    let less = Credits(left.0 - (left.0 > 0) as u32);
+    let spent = (left.0 > 0) as u32;
+    let less = Credits(left.0 - spent);
     credits[at] = less.0;
 }

@@ -2,7 +2,8 @@
 use Prim.Native.Nat.{_+_, _-_, _*_}
 use native.Mathlib.Omega.{arith}
 use borrow.Author.Needs.{needs}
-use Rattle.pipelined.proofs.FlightLaws.{rows-few, row-within}
+use Rattle.wsgs.proofs.Laws.Words.{rows-small}
+use Rattle.pipelined.proofs.FlightLaws.{row-within}
 use Rattle.pipelined.proofs.Remainders.{row-less, row-around}
 use Rattle.pipelined.proofs.flight.row_before.Statement.{statement}
 use Rattle.pipelined.proofs.flight.row_before.Tie as tie
@@ -10,7 +11,7 @@ use Rattle.pipelined.proofs.flight.row_before.Tie as tie
 mul-result : tie.Need-mul-result
 mul-result c =
     let a = c .before .args in
-    omega (arith, rows-few (a .ports) (omega arith), row-within (a .ports) (a .row - a .input .0) (omega arith))
+    omega (arith, rows-small (a .ports) (omega arith), row-within (a .ports) (a .row - a .input .0) (omega arith))
 
 returns : tie.Need-returns
 returns c =
@@ -29,7 +30,7 @@ sub-result c = search needs
 mul-result-3 : tie.Need-mul-result-3
 mul-result-3 c =
     let a = c .before .args in
-    omega (arith, rows-few (a .ports) (omega arith), row-within (a .ports) (a .row + 2 * a .ports - a .input .0) (omega arith))
+    omega (arith, rows-small (a .ports) (omega arith), row-within (a .ports) (a .row + 2 * a .ports - a .input .0) (omega arith))
 
 returns-2 : tie.Need-returns-2
 returns-2 c =

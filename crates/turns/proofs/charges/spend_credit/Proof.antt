@@ -2,6 +2,7 @@
 use Prim.Native.Nat.{_*_, _<_}
 use native.Mathlib.Omega.{arith}
 use borrow.Author.Needs.{needs}
+use lib.ListN.{getD}
 use Rattle.turns.proofs.Places.{taken-fits, at-inside, at-less}
 use Rattle.turns.proofs.charges.spend_credit.Statement.{statement}
 use Rattle.turns.proofs.charges.spend_credit.Tie as tie
@@ -15,17 +16,17 @@ inside c =
 place-of-requires : tie.Need-place-of-requires
 place-of-requires c κs = search needs
 
-mul-t8 : tie.Need-mul-t8
-mul-t8 c = omega (arith, inside c)
+mul-t9 : tie.Need-mul-t9
+mul-t9 c = omega (arith, inside c)
 
-slice-read-t10 : tie.Need-slice-read-t10
-slice-read-t10 c = omega (arith, inside (c .before))
+slice-read-t11 : tie.Need-slice-read-t11
+slice-read-t11 c = omega (arith, inside (c .before))
 
-cast-t10 : tie.Need-cast-t10
-cast-t10 c = search needs
+cast-spent : tie.Need-cast-spent
+cast-spent c = search needs
 
-sub-t12 : tie.Need-sub-t12
-sub-t12 c = taken-fits _
+sub-t11 : tie.Need-sub-t11
+sub-t11 c = let p = c .before .before .before in omega (arith, taken-fits (getD (p .before .before .args .credits .now) (p .place-of .result) 0))
 
 mul-credits : tie.Need-mul-credits
 mul-credits c = omega (arith, inside (c .before .before .before))
@@ -44,10 +45,10 @@ spend-credit-spec =
     tie.close
     (tie.spec
     place-of-requires
-    mul-t8
-    slice-read-t10
-    cast-t10
-    sub-t12
+    mul-t9
+    slice-read-t11
+    cast-spent
+    sub-t11
     mul-credits
     slice-write-credits
     same-length

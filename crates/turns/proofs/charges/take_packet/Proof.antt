@@ -2,6 +2,7 @@
 use Prim.Native.Nat.{_*_, _<_}
 use native.Mathlib.Omega.{arith}
 use borrow.Author.Needs.{needs}
+use lib.ListN.{getD}
 use Rattle.turns.proofs.Places.{taken-fits, at-inside, at-less}
 use Rattle.turns.proofs.charges.take_packet.Statement.{statement}
 use Rattle.turns.proofs.charges.take_packet.Tie as tie
@@ -21,11 +22,11 @@ mul-packets c = omega (arith, inside c)
 slice-read-packets : tie.Need-slice-read-packets
 slice-read-packets c = omega (arith, inside (c .before))
 
-cast-queues : tie.Need-cast-queues
-cast-queues c = search needs
+cast-taken : tie.Need-cast-taken
+cast-taken c = search needs
 
 sub-queues : tie.Need-sub-queues
-sub-queues c = taken-fits _
+sub-queues c = let p = c .before in omega (arith, taken-fits (getD (p .before .before .args .queues .now) (p .place-of .result) 0))
 
 mul-queues : tie.Need-mul-queues
 mul-queues c = omega (arith, inside (c .before))
@@ -46,7 +47,7 @@ take-packet-spec =
     place-of-requires
     mul-packets
     slice-read-packets
-    cast-queues
+    cast-taken
     sub-queues
     mul-queues
     slice-write-queues
