@@ -10,7 +10,6 @@ use Rattle.wsgs.specs.declared.Reading.{Reading}
 use Rattle.wsgs.specs.Basics.{pick}
 use Rattle.wsgs.specs.Text.{LF, read-record}
 use Rattle.wsgs.specs.Program
-use Rattle.events.specs.declared.Machine.{Machine}
 use Rattle.events.specs.declared.Progress.{Progress}
 use Rattle.events.specs.declared.Obeyed.{Obeyed}
 use Rattle.events.specs.Feeding.{State, Out, ended, appended, obeyed, run-slot, record-end, take-byte, step-out}

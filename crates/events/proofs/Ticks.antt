@@ -15,7 +15,7 @@ use Rattle.wsgs.specs.Basics.{bit, between}
 use Rattle.wsgs.specs.Questions.{first-no}
 use Rattle.wsgs.specs.Steps.{Matching, outputs-of, pass-word-of}
 use Rattle.wsgs.specs.Ledger.{slot-of-tick}
-use Rattle.wsgs.specs.Switch.{Switch, pipelined, tick, Outcome, apply, of-direct, of-pipelined}
+use Rattle.wsgs.specs.Switch.{Switch, tick, Outcome, apply, of-direct, of-pipelined}
 use Rattle.wsgs.specs.Program.{Step, refusal-of, match-lines}
 use Rattle.wsgs.specs.Program
 use Rattle.wsgs.specs.Direct

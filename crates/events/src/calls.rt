@@ -83,7 +83,7 @@ fn start_record(
     ensures { λ r. ⌜ ((z : ℕ) (p f : List ℕ) → Obeys (machine-of machine (now (bookings .entry)) (now (credits .entry)) (now (queues .entry)) p f) (Asks Start x y z) r (machine-of (r .machine) (now (bookings .exit)) (now (credits .exit)) (now (queues .exit)) p f) (now (out .entry)) at (now (out .exit))) ⌝ }
 {
     let clock = machine.clock;
-    let started = book::start_direct(x, y, clock, bookings, credits, queues);
+    let started = starts::start_direct(x, y, clock, bookings, credits, queues);
     let next = answer(machine, out, at, x, y, started.refusal);
     Obeyed {
         machine: after_start(machine, false, started),
@@ -109,7 +109,7 @@ fn pipe_record(
     ensures { λ r. ⌜ ((z : ℕ) → Obeys (machine-of machine (now (bookings .entry)) (now (credits .entry)) (now (queues .entry)) (now (copy .entry)) (now (flight .entry))) (Asks Pipe x y z) r (machine-of (r .machine) (now (bookings .exit)) (now (credits .exit)) (now (queues .exit)) (now (copy .exit)) (now (flight .exit))) (now (out .entry)) at (now (out .exit))) ⌝ }
 {
     let clock = machine.clock;
-    let started = book::start_pipelined(x, y, clock, bookings, credits, queues, copy, flight);
+    let started = starts::start_pipelined(x, y, clock, bookings, credits, queues, copy, flight);
     let next = answer(machine, out, at, x, y, started.refusal);
     Obeyed {
         machine: after_start(machine, true, started),
