@@ -56,7 +56,7 @@ pub const BITS: [u32; 32] = [
     2147483648,
 ];
 
-// All outputs are free.
+// All outputs are free: a bit for each, and from 32 ports on all the bits of a word.
 pub fn all_free(ports: usize) -> u32
     ensures { λ r. ⌜ r ≡ all-free ports ⌝ }
 {
@@ -81,10 +81,10 @@ pub fn first_turn(
     credits: &mut [u32],
     queues: &mut [u32],
 ) -> FirstTurn
-    ensures { λ r. ⌜ r .output .0 ≡ pick (has-turn ports (input .0) (length (now (credits .entry))) && has-turn ports (input .0) (length (now (queues .entry)))) (lowest-common free (requested (now (bits .entry)) (now (credits .entry)) (now (queues .entry)) ports (input .0)) ports) 0 ⌝ }
-    ensures { λ r. ⌜ now (credits .exit) ≡ charged ports (now (credits .entry)) (input .0) (r .output .0) ⌝ }
-    ensures { λ r. ⌜ now (queues .exit) ≡ charged ports (now (queues .entry)) (input .0) (r .output .0) ⌝ }
-    ensures { λ r. ⌜ r .waiting ≡ pick (has-turn ports (input .0) (length (now (credits .entry))) && has-turn ports (input .0) (length (now (queues .entry)))) (requested (now (bits .entry)) (now (queues .entry)) (now (queues .entry)) ports (input .0)) 0 ⌝ }
+    ensures output { λ r. ⌜ r .output .0 ≡ pick (has-turn ports (input .0) (length (now (credits .entry))) && has-turn ports (input .0) (length (now (queues .entry)))) (lowest-common free (requested (now (bits .entry)) (now (credits .entry)) (now (queues .entry)) ports (input .0)) ports) 0 ⌝ }
+    ensures credits_exit { λ r. ⌜ now (credits .exit) ≡ charged ports (now (credits .entry)) (input .0) (r .output .0) ⌝ }
+    ensures queues_exit { λ r. ⌜ now (queues .exit) ≡ charged ports (now (queues .entry)) (input .0) (r .output .0) ⌝ }
+    ensures waiting { λ r. ⌜ r .waiting ≡ pick (has-turn ports (input .0) (length (now (credits .entry))) && has-turn ports (input .0) (length (now (queues .entry)))) (requested (now (bits .entry)) (now (queues .entry)) (now (queues .entry)) ports (input .0)) 0 ⌝ }
 {
     if !has_turn(ports, input, credits.len()) || !has_turn(ports, input, queues.len()) {
         return FirstTurn {
@@ -113,8 +113,8 @@ pub fn waiting_turn(
     input: Input,
     queues: &mut [u32],
 ) -> Output
-    ensures { λ r. ⌜ r .0 ≡ pick (has-turn ports (input .0) (length (now (queues .entry)))) (lowest-common free waiting ports) 0 ⌝ }
-    ensures { λ r. ⌜ now (queues .exit) ≡ charged ports (now (queues .entry)) (input .0) (r .0) ⌝ }
+    ensures output { λ r. ⌜ r .0 ≡ pick (has-turn ports (input .0) (length (now (queues .entry)))) (lowest-common free waiting ports) 0 ⌝ }
+    ensures queues_exit { λ r. ⌜ now (queues .exit) ≡ charged ports (now (queues .entry)) (input .0) (r .0) ⌝ }
 {
     if !has_turn(ports, input, queues.len()) {
         return Output(0);
@@ -134,8 +134,8 @@ pub fn second_turn(
     input: Input,
     queues: &mut [u32],
 ) -> Output
-    ensures { λ r. ⌜ r .0 ≡ pick (has-turn ports (input .0) (length (now (queues .entry)))) (lowest-common free (requested (now (bits .entry)) (now (queues .entry)) (now (queues .entry)) ports (input .0)) ports) 0 ⌝ }
-    ensures { λ r. ⌜ now (queues .exit) ≡ charged ports (now (queues .entry)) (input .0) (r .0) ⌝ }
+    ensures output { λ r. ⌜ r .0 ≡ pick (has-turn ports (input .0) (length (now (queues .entry)))) (lowest-common free (requested (now (bits .entry)) (now (queues .entry)) (now (queues .entry)) ports (input .0)) ports) 0 ⌝ }
+    ensures queues_exit { λ r. ⌜ now (queues .exit) ≡ charged ports (now (queues .entry)) (input .0) (r .0) ⌝ }
 {
     if !has_turn(ports, input, queues.len()) {
         return Output(0);
