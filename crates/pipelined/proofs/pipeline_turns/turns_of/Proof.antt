@@ -48,12 +48,12 @@ returns c = λ frame a.
     let w = o .before .before .before .before in
     let r = w .before .before .before in
     let due = r .before .before .if1 .taken in
-    turns-due _ frame _ _ _ _ _ _ _ due (r .reload-row .ensures frame _ (a .covers) (a .place) _ _)
+    turns-due _ frame _ _ _ _ _ _ _ (omega (arith, due)) (r .reload-row .ensures frame _ (a .covers) (a .place) _ _)
     (o .turn-one .ensures _ (w .row-before .ensures .0 _ (a .row-one) (omega (arith, due))))
     (t .turn-two .ensures _ (v .row-before2 .ensures .0 _ (a .row-two) (omega (arith, due))) _)
 
 returns-2 : tie.Need-returns-2
-returns-2 c = λ frame a. turns-early _ frame _ _ _ _ (c .if1 .left)
+returns-2 c = λ frame a. turns-early _ frame _ _ _ _ (omega (arith, c .if1 .left))
 
 pub turns-of-spec : {M : Type 1} → statement M
 turns-of-spec =

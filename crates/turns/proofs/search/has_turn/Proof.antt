@@ -6,13 +6,13 @@ use Rattle.turns.proofs.search.has_turn.Statement.{statement}
 use Rattle.turns.proofs.search.has_turn.Tie as tie
 
 returns : tie.Need-returns
-returns c = many-ports _ _ _ (c .if1 .taken)
+returns c = many-ports _ _ _ (omega arith)
 
 returns-2 : tie.Need-returns-2
-returns-2 c = below-ports _ _ _ (c .if2 .taken)
+returns-2 c = below-ports _ _ _ (omega arith)
 
 returns-3 : tie.Need-returns-3
-returns-3 c = past-ports _ _ _ (c .if3 .taken)
+returns-3 c = past-ports _ _ _ (omega arith)
 
 mul-result : tie.Need-mul-result
 mul-result c = let e = c .before .before .before .before in omega (arith, square-small (e .before .args .ports) (e .if1 .left))
