@@ -24,11 +24,11 @@ use Rattle.wsgs.proofs.Refusals.{unchanged}
 use Rattle.wsgs.proofs.Laws.Tests.{range-in}
 use Rattle.events.specs.declared.Machine.{Machine}
 use Rattle.events.specs.declared.Obeyed.{Obeyed}
-use Rattle.events.specs.Lines.{Wrote}
+use Rattle.lines.specs.Lines.{Wrote}
 use Rattle.events.specs.Feeding.{slots-of, begun}
 use Rattle.events.specs.View.{form-of, machine-of, refusal-text, call-text, started-machine, slots-asked, Unread, Obeys}
 use Rattle.events.proofs.Whole.{begun-slots, begun-once}
-use Rattle.events.proofs.Writing.{wrote-is}
+use Rattle.lines.proofs.Writing.{wrote-is}
 
 -- A CALL on a machine: it is accepted, or refused with its line
 module _ (M : Program.Machine) (form : Form) (call : Call) (x y : ℕ) where

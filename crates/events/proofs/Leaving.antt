@@ -16,7 +16,7 @@ use Rattle.events.specs.declared.Obeyed.{Obeyed}
 use Rattle.events.specs.Feeding.{State, Out, ended, appended, obeyed, run-slot, record-end, take-byte, step-out}
 use Rattle.events.specs.View.{machine-of, state-of, Obeys, Ran, ended-progress, moved-progress, Leaves}
 use Rattle.events.proofs.Whole.{end-read, end-heading, byte-ends, byte-more}
-use Rattle.events.proofs.Writing.{wrote-none}
+use Rattle.lines.proofs.Writing.{wrote-none}
 
 -- an outcome by another name
 pub leaves-is : {o o′ : Out} {s : State} {out out′ : List ℕ} {at next : ℕ} → o ≡ o′ → Leaves o′ s out at next out′ → Leaves o s out at next out′

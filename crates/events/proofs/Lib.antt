@@ -1,6 +1,3 @@
-pub mod Writing
-pub mod Decimals
-pub mod Printing
 pub mod Feeding
 pub mod Kept
 pub mod Whole

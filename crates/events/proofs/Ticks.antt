@@ -27,11 +27,11 @@ use Rattle.wsgs.proofs.Laws.Marked.{marked-bit}
 use Rattle.clock.specs.declared.Stepped.{Stepped}
 use Rattle.events.specs.declared.Machine.{Machine}
 use Rattle.events.specs.declared.Obeyed.{Obeyed}
-use Rattle.events.specs.Lines.{Wrote, matching-of}
+use Rattle.lines.specs.Lines.{Wrote, matching-of}
 use Rattle.events.specs.Feeding.{ticked, slot-run, slots-after}
 use Rattle.events.specs.View.{form-of, machine-of, refusal-text, with-clock, answer-text, Answers, Ran}
-use Rattle.events.proofs.Printing.{matches-suc}
-use Rattle.events.proofs.Writing.{wrote-is}
+use Rattle.lines.proofs.Printing.{matches-suc}
+use Rattle.lines.proofs.Writing.{wrote-is}
 
 -- THE PAIRS as a tick answers them, in an array and a word, print the same lines
 bit-is : (b : Bool) → eqb (bit b) 1 ≡ b
@@ -50,7 +50,7 @@ module _ (slot : ℕ) (a : Matching) where
   unfolding pass-word-of
   same-first x h = let e : suc x - 1 ≡ x = omega arith in rw (e, marked-bit 32 (a .first) x h) (bit-is (a .first (suc x)))
 
-  pub same-lines : (n : ℕ) → n ≤ 32 → match-lines slot answered n ≡ match-lines slot a n
+  same-lines : (n : ℕ) → n ≤ 32 → match-lines slot answered n ≡ match-lines slot a n
   unfolding match-lines
   same-lines zero h = refl
   same-lines (suc x) h =
@@ -75,7 +75,7 @@ module _ (c : Clock) (w : Direct.Runs) where
       go true e = in-range 1 32 (c .ports) (rw e tt) .1
       go false e = let z : _≡_ {A = ℕ} 1 0 = rw e at h in absurd (omega arith)
 
-  pub direct-few : Direct.tick c w .refusal ≡ 0 → Direct.tick c w .clock .ports ≤ 32
+  direct-few : Direct.tick c w .refusal ≡ 0 → Direct.tick c w .clock .ports ≤ 32
   direct-few h = rw direct-ports (direct-small h)
 
   direct-book : Direct.tick c w .runs .bookings ≡ w .bookings
@@ -104,7 +104,7 @@ module _ (c : Clock) (w : Pipelined.Runs) where
       go true e = in-range 1 32 (c .ports) (rw e tt) .1
       go false e = let z : _≡_ {A = ℕ} 1 0 = rw e at h in absurd (omega arith)
 
-  pub pipelined-few : Pipelined.tick c w .refusal ≡ 0 → Pipelined.tick c w .clock .ports ≤ 32
+  pipelined-few : Pipelined.tick c w .refusal ≡ 0 → Pipelined.tick c w .clock .ports ≤ 32
   pipelined-few h = rw pipelined-ports (pipelined-small h)
 
   pipelined-book : Pipelined.tick c w .runs .bookings ≡ w .bookings

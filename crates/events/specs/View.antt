@@ -16,7 +16,7 @@ use Rattle.clock.specs.declared.Stepped.{Stepped}
 use Rattle.events.specs.declared.Machine.{Machine}
 use Rattle.events.specs.declared.Progress.{Progress}
 use Rattle.events.specs.declared.Obeyed.{Obeyed}
-use Rattle.events.specs.Lines.{Wrote, matching-of}
+use Rattle.lines.specs.Lines.{Wrote, matching-of}
 use Rattle.events.specs.Feeding.{State, Out, slots-of, begun, slot-run, slots-after}
 
 abbrev pub form-of : Bool → Form

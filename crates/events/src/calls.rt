@@ -1,7 +1,7 @@
 // What a record does at once to the machine, and prints.
 use crate::Machine;
 use crate::Obeyed;
-use crate::printer::put_line;
+use crate::printing::put_refusal;
 use wsgs::BookedSlots;
 use wsgs::Input;
 use wsgs::Operation;
@@ -14,7 +14,7 @@ ghost use Prim.Native.Nat.{ℕ, _+_, _≤_};
 ghost use lib.ListN.{length};
 ghost use Rattle.wsgs.specs.declared.Operation.the-variants.{Start, Pipe, Book, Release, Arrive, Tick};
 ghost use Rattle.wsgs.specs.declared.Reading.the-variants.{Asks};
-ghost use Rattle.events.specs.Lines.{Wrote};
+ghost use Rattle.lines.specs.Lines.{Wrote};
 ghost use Rattle.events.specs.View.{machine-of, refusal-text, call-text, started-machine, slots-asked, Unread, Obeys};
 
 // An unreadable record, or one that is neither start nor pipe before any of these has been accepted.
@@ -22,7 +22,7 @@ fn unread(machine: Machine, out: &mut [u8], at: usize) -> Obeyed
     requires { ⌜ at + 93 ≤ length (now out) ⌝ }
     ensures { λ r. ⌜ Unread machine r (now (out .entry)) at (now (out .exit)) ⌝ }
 {
-    let next = put_line(out, at, b"refused", 0, 0, 0, 12);
+    let next = put_refusal(out, at, 0, 0, 0, 12);
     Obeyed {
         machine,
         slots: 0,
@@ -37,9 +37,9 @@ pub fn refuse(machine: Machine, out: &mut [u8], at: usize, x: u64, y: u64, numbe
 {
     let clock = machine.clock;
     if machine.running {
-        return put_line(out, at, b"refused", clock.slot as u64, x, y, number as u64);
+        return put_refusal(out, at, clock.slot as u64, x, y, number as u64);
     }
-    put_line(out, at, b"refused", 0, 0, 0, number as u64)
+    put_refusal(out, at, 0, 0, 0, number as u64)
 }
 
 // The line of a call, if it is refused.

@@ -1,8 +1,7 @@
 // The event program's library: records in, lines out, on lent slices.
 mod bytes;
 mod calls;
-pub mod lines;
-mod printer;
+mod printing;
 mod slots;
 mod steps;
 
@@ -11,7 +10,7 @@ use steps::step;
 use wsgs::Clock;
 ghost use mathlib.Core.Path.{_≡_};
 ghost use lib.ListN.{length};
-ghost use Rattle.events.specs.Lines.{written};
+ghost use Rattle.lines.specs.Lines.{written};
 ghost use Rattle.events.specs.Feeding.{fed};
 ghost use Rattle.events.specs.View.{state-of, first-progress};
 

@@ -2,7 +2,7 @@
 use crate::Machine;
 use crate::Obeyed;
 use crate::calls::refuse;
-use crate::printer::put_matches;
+use crate::printing::put_slot;
 use clock::Stepped;
 use wsgs::Clock;
 ghost use mathlib.Core.Path.{_≡_};
@@ -35,7 +35,6 @@ fn with_clock(mut machine: Machine, clock: Clock) -> Machine
 fn answered(machine: Machine, slots: u64, stepped: Stepped, out: &mut [u8], at: usize) -> Obeyed
     requires { ⌜ 1 ≤ slots ⌝ }
     requires { ⌜ at + 2912 ≤ length (now out) ⌝ }
-    requires { ⌜ (stepped .answer .refusal ≡ 0 → stepped .clock .ports ≤ 32) ⌝ }
     ensures { λ r. ⌜ Answers machine slots stepped r (now (out .entry)) at (now (out .exit)) ⌝ }
 {
     let answer = stepped.answer;
@@ -50,7 +49,7 @@ fn answered(machine: Machine, slots: u64, stepped: Stepped, out: &mut [u8], at: 
     let clock = stepped.clock;
     let outputs = answer.outputs;
     let shown = shown_slot(machine.pipelined, clock.slot);
-    let next = put_matches(out, at, shown, clock.ports, outputs, answer.first_pass);
+    let next = put_slot(out, at, shown, clock.ports, outputs, answer.first_pass);
     Obeyed {
         machine: with_clock(machine, clock),
         slots: slots - 1,

@@ -1,7 +1,7 @@
 -- The line of a call, if it is refused.
 use native.Mathlib.Omega.{arith}
 use borrow.Author.Tests.{eq-eqb, ne-eqb}
-use Rattle.events.proofs.Writing.{wrote-none, wrote-is}
+use Rattle.lines.proofs.Writing.{wrote-none, wrote-is}
 use borrow.Author.Needs.{needs}
 use Rattle.events.proofs.calls.answer.Statement.{statement}
 use Rattle.events.proofs.calls.answer.Tie as tie

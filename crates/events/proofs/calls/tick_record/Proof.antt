@@ -3,7 +3,7 @@ use mathlib.Core.Path.{_≡_}
 use borrow.Author.Tests.{not-true, not-false}
 use native.Mathlib.Omega.{arith}
 use Rattle.events.specs.View.{slots-asked}
-use Rattle.events.proofs.Writing.{wrote-none}
+use Rattle.lines.proofs.Writing.{wrote-none}
 use Rattle.events.proofs.Effects.{obeys-tick, obeys-range, idle-tick}
 use borrow.Author.Needs.{needs}
 use Rattle.events.proofs.calls.tick_record.Statement.{statement}

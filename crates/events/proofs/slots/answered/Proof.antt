@@ -1,5 +1,4 @@
 -- What a tick leaves, by its refusal.
-use native.Mathlib.Omega.{arith}
 use Rattle.events.proofs.Ticks.{answers-no, answers-yes}
 use borrow.Author.Needs.{needs}
 use Rattle.events.proofs.slots.answered.Statement.{statement}
@@ -17,8 +16,8 @@ returns c = answers-no _ _ _ (c .before .before .before .before .if1 .taken) (c 
 shown-slot-requires : tie.Need-shown-slot-requires
 shown-slot-requires c κs = search needs
 
-put-matches-requires : tie.Need-put-matches-requires
-put-matches-requires c κs = omega (arith, c .before .before .before .before .before .before .before .before .pre .1 .1 (c .before .before .before .before .if1 .left))
+put-slot-requires : tie.Need-put-slot-requires
+put-slot-requires c κs = search needs
 
 with-clock-requires : tie.Need-with-clock-requires
 with-clock-requires c κs = search needs
@@ -30,7 +29,7 @@ same-length-2 : tie.Need-same-length-2
 same-length-2 c = search needs
 
 returns-2 : tie.Need-returns-2
-returns-2 c = answers-yes _ _ _ _ _ (c .before .before .before .before .before .before .before .before .if1 .left) (c .before .before .before .before .before .shown-slot .ensures) (c .with-clock .ensures) (c .before .before .before .put-matches .ensures)
+returns-2 c = answers-yes _ _ _ _ _ (c .before .before .before .before .before .before .before .before .if1 .left) (c .before .before .before .before .before .shown-slot .ensures) (c .with-clock .ensures) (c .before .before .before .put-slot .ensures)
 
 pub answered-spec : {M : Type 1} → statement M
 answered-spec =
@@ -40,7 +39,7 @@ answered-spec =
     same-length
     returns
     shown-slot-requires
-    put-matches-requires
+    put-slot-requires
     with-clock-requires
     sub-t18
     same-length-2

@@ -1,8 +1,5 @@
 -- A slot of the direct form.
-use mathlib.Core.Path.{ap, sym, _∙_}
-use native.Mathlib.Omega.{arith}
-use Rattle.wsgs.specs.declared.Answer.{Answer}
-use Rattle.events.proofs.Ticks.{direct-few, direct-ran}
+use Rattle.events.proofs.Ticks.{direct-ran}
 use borrow.Author.Needs.{needs}
 use Rattle.events.proofs.slots.direct_slot.Statement.{statement}
 use Rattle.events.proofs.slots.direct_slot.Tie as tie
@@ -11,9 +8,7 @@ step-direct-requires : tie.Need-step-direct-requires
 step-direct-requires c κs = search needs
 
 answered-requires : tie.Need-answered-requires
-answered-requires c κs =
-    let e = c .before .before .before .before .before .step-direct .ensures in
-    (omega arith, (omega arith, λ h. rw (e .1 .0) (direct-few _ _ (sym (ap (λ (a : Answer). a .refusal) (e .0)) ∙ h))))
+answered-requires c κs = search needs
 
 same-length : tie.Need-same-length
 same-length c = search needs

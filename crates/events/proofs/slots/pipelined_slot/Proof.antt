@@ -1,8 +1,5 @@
 -- A slot of the pipelined form.
-use mathlib.Core.Path.{ap, sym, _∙_}
-use native.Mathlib.Omega.{arith}
-use Rattle.wsgs.specs.declared.Answer.{Answer}
-use Rattle.events.proofs.Ticks.{pipelined-few, pipelined-ran}
+use Rattle.events.proofs.Ticks.{pipelined-ran}
 use borrow.Author.Needs.{needs}
 use Rattle.events.proofs.slots.pipelined_slot.Statement.{statement}
 use Rattle.events.proofs.slots.pipelined_slot.Tie as tie
@@ -11,9 +8,7 @@ step-pipelined-requires : tie.Need-step-pipelined-requires
 step-pipelined-requires c κs = search needs
 
 answered-requires : tie.Need-answered-requires
-answered-requires c κs =
-    let e = c .before .before .before .before .before .before .before .before .before .step-pipelined .ensures in
-    (omega arith, (omega arith, λ h. rw (e .1 .0) (pipelined-few _ _ (sym (ap (λ (a : Answer). a .refusal) (e .0)) ∙ h))))
+answered-requires c κs = search needs
 
 same-length : tie.Need-same-length
 same-length c = search needs
