@@ -110,6 +110,14 @@ fn agree(pipelined: bool, s: &Switch) {
     }
 }
 
+/// Keeps the processor busy until it runs at its full speed, so that the first work timed meets the same machine as the others.
+fn warm_up() {
+    let (mut s, begun) = (loaded(32, 50), Instant::now());
+    while begun.elapsed().as_millis() < 2_000 {
+        black_box(by_hand(false, black_box(&mut s)).first);
+    }
+}
+
 /// Nanoseconds of each of several works, done in turn so that all meet the same machine: the least of many rounds.
 fn nanoseconds(times: u32, works: &mut [&mut dyn FnMut()]) -> Vec<f64> {
     let mut least = vec![f64::MAX; works.len()];
@@ -130,6 +138,7 @@ fn read_once(s: &Switch) -> u64 {
 }
 
 fn main() {
+    warm_up();
     let mut values = String::from("form,ports,load,proved_ns,plain_ns,second_ns,read_ns\n");
     println!("| form | N | load | proved, ns | plain Rust, ns | ratio | second program, ns | ratio | matrices read once, ns | ratio |");
     println!("|---|---|---|---|---|---|---|---|---|---|");

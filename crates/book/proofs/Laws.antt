@@ -1,5 +1,4 @@
--- Laws of amounts, of the calls on a pair, of starts, and of sums.
+-- Laws of amounts, of the calls on a pair, and of sums.
 pub mod Amounts
 pub mod Calls
-pub mod Starts
 pub mod Sums

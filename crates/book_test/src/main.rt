@@ -1,12 +1,12 @@
 // Prints what starts, bookings, releases and arrivals answer and leave at the edges of what they accept, a line for each case.
+mod forms;
 mod matrices;
 mod pairs;
 mod show;
-mod starts;
 
 fn main() {
-    starts::direct();
-    starts::pipelined();
+    forms::direct();
+    forms::pipelined();
     pairs::clocks();
     pairs::ports();
     pairs::bookings();

@@ -33,7 +33,7 @@ pub extern "C" fn kivdrag_start_direct(
     ensures { λ _. ⌜ now (credits .exit) ≡ Direct.start ports frame (held (now (clock .entry))) (direct-runs-of (now (bookings .entry)) (now (credits .entry)) (now (queues .entry))) .runs .credits ⌝ }
     ensures { λ _. ⌜ now (queues .exit) ≡ Direct.start ports frame (held (now (clock .entry))) (direct-runs-of (now (bookings .entry)) (now (credits .entry)) (now (queues .entry))) .runs .queues ⌝ }
 {
-    let started = book::start_direct(ports, frame, clock_in(clock), bookings, credits, queues);
+    let started = starts::start_direct(ports, frame, clock_in(clock), bookings, credits, queues);
     put_clock(clock, started.clock);
     started.refusal
 }
@@ -58,7 +58,7 @@ pub extern "C" fn kivdrag_start_pipelined(
     ensures { λ _. ⌜ now (copy .exit) ≡ Pipelined.start ports frame (held (now (clock .entry))) (pipelined-runs-of (now (bookings .entry)) (now (credits .entry)) (now (queues .entry)) (now (copy .entry)) (now (flight .entry))) .runs .copy ⌝ }
     ensures { λ _. ⌜ now (flight .exit) ≡ Pipelined.start ports frame (held (now (clock .entry))) (pipelined-runs-of (now (bookings .entry)) (now (credits .entry)) (now (queues .entry)) (now (copy .entry)) (now (flight .entry))) .runs .flight ⌝ }
 {
-    let started = book::start_pipelined(
+    let started = starts::start_pipelined(
         ports,
         frame,
         clock_in(clock),

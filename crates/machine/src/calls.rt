@@ -3,8 +3,6 @@ use crate::Machine;
 use crate::Obeyed;
 use crate::refusals::refusal;
 use crate::refusals::unread;
-use book::arrive;
-use book::release;
 use wsgs::BookedSlots;
 use wsgs::Input;
 use wsgs::Output;
@@ -44,7 +42,7 @@ pub fn start_record(
     ensures { λ r. ⌜ ((z : ℕ) (p f : List ℕ) → Obeys (machine-of machine (now (bookings .entry)) (now (credits .entry)) (now (queues .entry)) p f) (Asks Start ports frame z) r (machine-of (r .machine) (now (bookings .exit)) (now (credits .exit)) (now (queues .exit)) p f)) ⌝ }
 {
     let clock = machine.clock;
-    let started = book::start_direct(ports, frame, clock, bookings, credits, queues);
+    let started = starts::start_direct(ports, frame, clock, bookings, credits, queues);
     Obeyed {
         machine: after_start(machine, false, started),
         slots: 0,
@@ -66,7 +64,7 @@ pub fn pipe_record(
     ensures { λ r. ⌜ ((z : ℕ) → Obeys (machine-of machine (now (bookings .entry)) (now (credits .entry)) (now (queues .entry)) (now (copy .entry)) (now (flight .entry))) (Asks Pipe ports frame z) r (machine-of (r .machine) (now (bookings .exit)) (now (credits .exit)) (now (queues .exit)) (now (copy .exit)) (now (flight .exit)))) ⌝ }
 {
     let clock = machine.clock;
-    let started = book::start_pipelined(
+    let started = starts::start_pipelined(
         ports,
         frame,
         clock,
@@ -97,13 +95,8 @@ pub fn book_record(
         return unread(machine);
     }
     let clock = machine.clock;
-    let number = book::book(
-        clock,
-        bookings,
-        Input(input),
-        Output(output),
-        BookedSlots(slots),
-    );
+    let slots = BookedSlots(slots);
+    let number = book::book(clock, bookings, Input(input), Output(output), slots);
     Obeyed {
         machine,
         slots: 0,
@@ -125,13 +118,8 @@ pub fn release_record(
         return unread(machine);
     }
     let clock = machine.clock;
-    let number = release(
-        clock,
-        bookings,
-        Input(input),
-        Output(output),
-        BookedSlots(slots),
-    );
+    let slots = BookedSlots(slots);
+    let number = book::release(clock, bookings, Input(input), Output(output), slots);
     Obeyed {
         machine,
         slots: 0,
@@ -153,7 +141,7 @@ pub fn arrive_record(
         return unread(machine);
     }
     let clock = machine.clock;
-    let number = arrive(clock, queues, Input(input), Output(output), packets);
+    let number = book::arrive(clock, queues, Input(input), Output(output), packets);
     Obeyed {
         machine,
         slots: 0,

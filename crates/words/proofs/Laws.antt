@@ -1,4 +1,4 @@
--- Laws of runs cleared and copied: one word more, by induction on the run; the lengths; and what a run that is long enough becomes.
+-- Laws of runs cleared and copied: one word more, by induction on the run; what a run that is long enough becomes; and the length.
 -- Assumes nothing.
 use mathlib.Core.Path.{_≡_, refl, ap}
 use mathlib.Core.Bool.{Bool, true, false, _&&_, and-false}
@@ -8,7 +8,7 @@ use Prim.Native.Nat.{ℕ, zero, suc, _≤_, _<_}
 use native.Mathlib.Nat.{le-of-suc-le-suc, not-suc-le-zero}
 use native.Mathlib.Omega.{arith}
 use lib.Dec.{leb}
-use lib.ListN.{length, getD, set, length-append, length-take, length-drop, length-replicate}
+use lib.ListN.{length, getD, set, length-append, length-take, length-drop}
 use borrow.Author.Tests.{le-leb, lt-leb, leb-true}
 use Rattle.wsgs.specs.Basics.{pick}
 use Rattle.wsgs.specs.Words.{cleared, copied}
@@ -48,16 +48,7 @@ unfolding copy-words
 copy-short count from m (inl h) = rw (lt-leb count (length from) h)
 copy-short count from m (inr h) = rw (lt-leb count (length m) h, and-false (leb count (length from)))
 
--- a cleared run has its old length
-pub clear-length : (count : ℕ) (m : List ℕ) → length (clear-words count m) ≡ length m
-unfolding clear-words
-clear-length count m = go (leb count (length m)) refl
-  where
-    go : (b : Bool) → leb count (length m) ≡ b → length (pick b (cleared count m) m) ≡ length m
-    go true e = simp (length-append, length-replicate, length-drop) (omega (arith, leb-true count (length m) e))
-    go false e = refl
-
--- and one that is copied over
+-- a run that is copied over has its old length
 pub copy-length : (count : ℕ) (from m : List ℕ) → length (copy-words count from m) ≡ length m
 unfolding copy-words
 copy-length count from m = go (leb count (length from)) refl (leb count (length m)) refl

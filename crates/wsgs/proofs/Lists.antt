@@ -1,6 +1,6 @@
 -- What both forms show of a whole list of calls of one form that opens with an accepted start: that its answers follow the nine steps, and
 -- so give no output twice and are maximal. Each list has a trace, which each form reads in its own way. Assumes nothing.
-use mathlib.Core.Path.{_≡_, sym, _∙_}
+use mathlib.Core.Path.{sym, _∙_}
 use mathlib.Core.Bool.{Bool, true, false}
 use mathlib.Core.List.{List}
 use mathlib.Core.Logic.{_≢_}

@@ -1,7 +1,7 @@
 -- Lists of calls on which demand 3 says something: a panel's pair is booked, and so are others of its row and column; every other queue is
 -- full of films; and what the pair waits beyond the others' bookings is just what it has booked. Assumes nothing.
 use mathlib.Core.List.{List, [], _∷_, _++_}
-use Prim.Native.Nat.{ℕ, zero, suc, _-_, _*_}
+use Prim.Native.Nat.{ℕ, zero, suc, _-_}
 use lib.ListN.{replicate}
 use Rattle.wsgs.specs.Switch.{Switch, Form, direct, pipelined, Call, start, book, book-rate, arrive, tick}
 use Rattle.wsgs.specs.Ledger.{Ledger, ledger-of, reading, others, waited, served}

@@ -1,7 +1,6 @@
 -- Runs in which a fault shows: those of "What a hurried scheduler does" of document 01, and those of a careless tick or ledger. Each case is
 -- right as it stands, and another answer would be the fault. Assumes nothing.
 use mathlib.Core.List.{List, [], _∷_, _++_}
-use Prim.Native.Nat.{ℕ}
 use Rattle.wsgs.specs.Switch.{direct, pipelined, Call, start, book, release, arrive, tick}
 use Rattle.wsgs.specs.Ledger.{Ledger, ledger-of, reading, others, waited, served}
 use Rattle.wsgs.specs.Edges.{Case, calls, gives, ok, refused, pairs}

@@ -1,4 +1,4 @@
--- `kivdrag_c::kivdrag_start_direct` meets its contract: that of `book::start_direct` at the clock that the words hold, with the clock afterwards put
+-- `kivdrag_c::kivdrag_start_direct` meets its contract: that of `starts::start_direct` at the clock that the words hold, with the clock afterwards put
 -- back into them. Assumes nothing.
 use borrow.Author.Needs.{needs}
 use Rattle.kivdrag_c.proofs.Laws.{start-left}

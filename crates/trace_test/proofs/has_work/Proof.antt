@@ -2,7 +2,6 @@
 use mathlib.Core.Bool.{false≢true}
 use native.Mathlib.Omega.{arith}
 use borrow.Author.Tests.{ltb-true}
-use borrow.Author.Needs.{needs}
 use Rattle.trace_test.proofs.has_work.Statement.{statement}
 use Rattle.trace_test.proofs.has_work.Tie as tie
 

@@ -1,6 +1,6 @@
 -- Laws of questions put in turn: the first that is answered no gives its number, and questions that are all answered yes leave it to those
 -- after them. They hold by cases on the answers. And what has been asked where the questions on sizes and runs are answered yes. Assumes nothing.
-use mathlib.Core.Path.{_≡_, refl, sym, _∙_}
+use mathlib.Core.Path.{_≡_, refl, _∙_}
 use mathlib.Core.Bool.{Bool, true, false}
 use mathlib.Core.List.{List, [], _∷_, _++_}
 use mathlib.Core.Logic.{_≢_}

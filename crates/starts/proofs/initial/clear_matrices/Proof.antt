@@ -1,9 +1,9 @@
--- `book::starts::clear_matrices` meets its contract. Assumes nothing.
+-- `starts::initial::clear_matrices` meets its contract. Assumes nothing.
 use native.Mathlib.Omega.{arith}
 use borrow.Author.Needs.{needs}
 use Rattle.wsgs.proofs.Laws.Words.{square-small}
-use Rattle.book.proofs.starts.clear_matrices.Statement.{statement}
-use Rattle.book.proofs.starts.clear_matrices.Tie as tie
+use Rattle.starts.proofs.initial.clear_matrices.Statement.{statement}
+use Rattle.starts.proofs.initial.clear_matrices.Tie as tie
 
 mul-words : tie.Need-mul-words
 mul-words c = let s = c .before .before .before in omega (arith, square-small (s .args .ports) (s .pre))

@@ -1,9 +1,9 @@
--- `book::starts::clear_ahead` meets its contract. Assumes nothing.
+-- `starts::initial::clear_ahead` meets its contract. Assumes nothing.
 use native.Mathlib.Omega.{arith}
 use borrow.Author.Needs.{needs}
 use Rattle.wsgs.proofs.Laws.Words.{square-small, rows-small}
-use Rattle.book.proofs.starts.clear_ahead.Statement.{statement}
-use Rattle.book.proofs.starts.clear_ahead.Tie as tie
+use Rattle.starts.proofs.initial.clear_ahead.Statement.{statement}
+use Rattle.starts.proofs.initial.clear_ahead.Tie as tie
 
 mul-clear-words : tie.Need-mul-clear-words
 mul-clear-words c = let s = c .before .before .before in omega (arith, square-small (s .args .ports) (s .pre))

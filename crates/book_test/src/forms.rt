@@ -1,12 +1,12 @@
-// Starts, on runs with 7 in every word. Each line has the clock afterwards and, of each run, its length, its first word, the last that 32 ports
+// Starts of both forms, on runs with 7 in every word. Each line has the clock afterwards and, of each run, its length, its first word, the last that 32 ports
 // use, and the one beyond.
 use crate::show::clock;
 use crate::show::clock_of;
 use crate::show::number;
 use crate::show::text;
 use crate::show::word;
-use book::start_direct;
-use book::start_pipelined;
+use starts::start_direct;
+use starts::start_pipelined;
 use wsgs::Started;
 
 // Prints what a start answers.

@@ -1,13 +1,13 @@
--- `book::start_direct` meets its contract: the start is refused and all stays, or every used word is set to 0. Assumes nothing.
+-- `starts::start_direct` meets its contract: the start is refused and all stays, or every used word is set to 0. Assumes nothing.
 use mathlib.Core.Path.{_≡_, sym, _∙_}
 use borrow.Author.Needs.{needs}
 use Rattle.wsgs.specs.Answers.{direct-runs-of}
 use Rattle.wsgs.specs.Direct
 use Rattle.questions.specs.Asked.{Sizes}
 use Rattle.questions.proofs.Laws.Runs.{direct-asked}
-use Rattle.book.proofs.Laws.Starts.{direct-stays, direct-clears}
-use Rattle.book.proofs.start_direct.Statement.{statement}
-use Rattle.book.proofs.start_direct.Tie as tie
+use Rattle.starts.proofs.Laws.{direct-stays, direct-clears}
+use Rattle.starts.proofs.start_direct.Statement.{statement}
+use Rattle.starts.proofs.start_direct.Tie as tie
 
 abbrev start : tie.After-direct-refusal → tie.Start
 start c = c .before .before .before .before .before .before .before

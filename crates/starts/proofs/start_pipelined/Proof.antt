@@ -1,13 +1,13 @@
--- `book::start_pipelined` meets its contract: the start is refused and all stays, or every used word is set to 0. Assumes nothing.
+-- `starts::start_pipelined` meets its contract: the start is refused and all stays, or every used word is set to 0. Assumes nothing.
 use mathlib.Core.Path.{_≡_, sym, _∙_}
 use borrow.Author.Needs.{needs}
 use Rattle.wsgs.specs.Answers.{pipelined-runs-of}
 use Rattle.wsgs.specs.Pipelined
 use Rattle.questions.specs.Asked.{Sizes}
 use Rattle.questions.proofs.Laws.Runs.{pipelined-asked}
-use Rattle.book.proofs.Laws.Starts.{pipelined-stays, pipelined-clears}
-use Rattle.book.proofs.start_pipelined.Statement.{statement}
-use Rattle.book.proofs.start_pipelined.Tie as tie
+use Rattle.starts.proofs.Laws.{pipelined-stays, pipelined-clears}
+use Rattle.starts.proofs.start_pipelined.Statement.{statement}
+use Rattle.starts.proofs.start_pipelined.Tie as tie
 
 abbrev start : tie.After-pipelined-refusal → tie.Start
 start c = c .before .before .before .before .before .before .before .before .before .before .before
