@@ -12,7 +12,7 @@ use Rattle.wsgs.specs.Basics.{bit, between}
 use Rattle.wsgs.specs.Questions.{first-no}
 use Rattle.wsgs.specs.Steps.{Matching, outputs-of, pass-word-of}
 use Rattle.wsgs.specs.Ledger.{slot-of-tick}
-use Rattle.wsgs.specs.Switch.{Switch, Form, direct, pipelined, tick, Outcome, apply, direct-runs, pipelined-runs}
+use Rattle.wsgs.specs.Switch.{Switch, Form, direct, pipelined, tick, apply, direct-runs, pipelined-runs}
 use Rattle.wsgs.specs.Program.{Machine, Step, refusal-of, match-lines}
 use Rattle.wsgs.specs.Direct
 use Rattle.wsgs.specs.Pipelined

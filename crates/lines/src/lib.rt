@@ -19,14 +19,14 @@ pub fn heading_line(out: &mut [u8]) -> usize
 }
 
 // A refusal's line.
-pub fn refusal_line(out: &mut [u8], slot: u64, x: u64, y: u64, number: u64) -> usize
-    ensures { λ r. ⌜ r ≡ length (with-room 93 (now (out .entry)) (refused-line slot x y number)) ⌝ }
-    ensures { λ _. ⌜ now (out .exit) ≡ written 0 (with-room 93 (now (out .entry)) (refused-line slot x y number)) (now (out .entry)) ⌝ }
+pub fn refusal_line(out: &mut [u8], slot: u64, input: u64, output: u64, number: u64) -> usize
+    ensures { λ r. ⌜ r ≡ length (with-room 93 (now (out .entry)) (refused-line slot input output number)) ⌝ }
+    ensures { λ _. ⌜ now (out .exit) ≡ written 0 (with-room 93 (now (out .entry)) (refused-line slot input output number)) (now (out .entry)) ⌝ }
 {
     if out.len() < 93 {
         return 0;
     }
-    printer::put_line(out, 0, b"refused", slot, x, y, number)
+    printer::put_line(out, 0, b"refused", slot, input, output, number)
 }
 
 // The lines of a slot's pairs, as a tick answers them.

@@ -5,8 +5,8 @@ use mathlib.Core.List.{List, []}
 use Prim.Native.Nat.{ℕ, _<_}
 use native.Mathlib.Decide.{ℕ-discrete}
 use native.Mathlib.Omega.{arith}
-use borrow.Author.Tests.{eq-eqb, ne-eqb, lt-ltb, le-ltb, leb-true}
-use lib.Dec.{eqb, ltb, leb}
+use borrow.Author.Tests.{eq-eqb, ne-eqb, lt-ltb, le-ltb}
+use lib.Dec.{ltb}
 use Rattle.wsgs.specs.declared.Operation.{Operation}
 use Rattle.wsgs.specs.declared.Operation.the-variants.{Start, Pipe, Book, Release, Arrive, Tick}
 use Rattle.wsgs.specs.declared.Reading.{Reading}
@@ -47,7 +47,7 @@ module _ (M : Program.Machine) (x y : ℕ) where
   abbrev bare : ℕ → Refused
   bare n = record { slot = 0; input = 0; output = 0; number = n }
 
-  pub refused-zero : (n : ℕ) → n ≡ 0 → refused-of M x y n ≡ no-refusal
+  refused-zero : (n : ℕ) → n ≡ 0 → refused-of M x y n ≡ no-refusal
   refused-zero n e = rw e (go (M .running))
     where
       go : (b : Bool) → pick (b && false) (full 0) (bare 0) ≡ no-refusal
@@ -61,7 +61,7 @@ module _ (M : Program.Machine) (x y : ℕ) where
       go true = refl
       go false = refl
 
-  pub refused-none : (n : ℕ) → refused-of M x y n .number ≡ 0 → refused-of M x y n ≡ no-refusal
+  refused-none : (n : ℕ) → refused-of M x y n .number ≡ 0 → refused-of M x y n ≡ no-refusal
   refused-none n e = refused-zero n (sym (refused-number n) ∙ e)
 
   pub refused-some : (n : ℕ) → (n ≡ 0 → ⊥) → refused-text (refused-of M x y n) ≡ refusal-of M x y n
@@ -193,13 +193,13 @@ module _ (m : Machine) (a c q p f : List ℕ) where
 
   module _ (x y z : ℕ) where
     -- a start and a pipe
-    pub obeys-start : Obeys M (Asks Start x y z)
+    obeys-start : Obeys M (Asks Start x y z)
         (record { machine = started-machine m false (record { refusal = result (start direct x y) x y .refusal; clock = result (start direct x y) x y .after .clock }); slots = 0; refused = refused-of M x y (result (start direct x y) x y .refusal) })
         (restarted (start direct x y) x y false)
     unfolding obey
     obeys-start = obeys-call (Asks Start x y z) direct (start direct x y) x y refl refl (started-called (start direct x y) x y false)
 
-    pub obeys-pipe : Obeys M (Asks Pipe x y z)
+    obeys-pipe : Obeys M (Asks Pipe x y z)
         (record { machine = started-machine m true (record { refusal = result (start pipelined x y) x y .refusal; clock = result (start pipelined x y) x y .after .clock }); slots = 0; refused = refused-of M x y (result (start pipelined x y) x y .refusal) })
         (restarted (start pipelined x y) x y true)
     unfolding obey
@@ -211,15 +211,15 @@ module _ (m : Machine) (a c q p f : List ℕ) where
       Calls reading call =
           Obeys M reading (record { machine = m; slots = 0; refused = refused-of M x y (result call x y .refusal) }) (moved call x y)
 
-      pub obeys-book : Calls (Asks Book x y z) (book x y z)
+      obeys-book : Calls (Asks Book x y z) (book x y z)
       unfolding obey
       obeys-book = obeys-call (Asks Book x y z) (M .form) (book x y z) x y refl (rw r) (called-machine (book x y z) x y r)
 
-      pub obeys-release : Calls (Asks Release x y z) (release x y z)
+      obeys-release : Calls (Asks Release x y z) (release x y z)
       unfolding obey
       obeys-release = obeys-call (Asks Release x y z) (M .form) (release x y z) x y refl (rw r) (called-machine (release x y z) x y r)
 
-      pub obeys-arrive : Calls (Asks Arrive x y z) (arrive x y z)
+      obeys-arrive : Calls (Asks Arrive x y z) (arrive x y z)
       unfolding obey
       obeys-arrive = obeys-call (Asks Arrive x y z) (M .form) (arrive x y z) x y refl (rw r) (called-machine (arrive x y z) x y r)
 
