@@ -9,13 +9,20 @@ use lib.ListN.{length, getD, take}
 use Rattle.wsgs.specs.declared.Reading.{Reading}
 use Rattle.wsgs.specs.Basics.{pick}
 use Rattle.wsgs.specs.Text.{LF, read-record}
+use Rattle.wsgs.specs.Ledger.{slot-of-tick}
+use Rattle.wsgs.specs.Steps.{outputs-of, pass-word-of}
 use Rattle.wsgs.specs.Program
 use Rattle.events.specs.declared.Progress.{Progress}
-use Rattle.events.specs.declared.Obeyed.{Obeyed}
-use Rattle.events.specs.Feeding.{State, Out, ended, appended, obeyed, run-slot, record-end, take-byte, step-out}
-use Rattle.events.specs.View.{machine-of, state-of, Obeys, Ran, ended-progress, moved-progress, Leaves}
+use Rattle.lines.specs.Lines.{Wrote}
+use Rattle.machine.specs.Effects.{ticked, slots-of, begun}
+use Rattle.machine.specs.View.{machine-of, with-switch, refused-text, refused-of}
+use Rattle.machine.specs.declared.Obeyed.{Obeyed}
+use Rattle.machine.specs.declared.Ran.{Ran}
+use Rattle.events.specs.Feeding.{State, Out, with-machine, ended, appended, obeyed, run-slot, record-end, take-byte, step-out}
+use Rattle.events.specs.View.{state-of, ran-text, slots-left, ended-progress, moved-progress, Leaves}
 use Rattle.events.proofs.Whole.{end-read, end-heading, byte-ends, byte-more}
-use Rattle.events.proofs.Writing.{wrote-none}
+use Rattle.lines.proofs.Writing.{wrote-none, wrote-is}
+use Rattle.events.proofs.Ticks.{slot-machine, slot-slots, slot-text}
 
 -- an outcome by another name
 pub leaves-is : {o o′ : Out} {s : State} {out out′ : List ℕ} {at next : ℕ} → o ≡ o′ → Leaves o′ s out at next out′ → Leaves o s out at next out′
@@ -25,24 +32,26 @@ module _ (k : Progress) (b a c q p f : List ℕ) where
   abbrev S : State
   S = state-of k b a c q p f
 
+  abbrev M : Program.Machine
+  M = machine-of (k .machine) a c q p f
+
   -- THE END OF THE HEADING, and of any other record
   pub heading-left : {out : List ℕ} {at : ℕ} (k′ : Progress) (next : ℕ) → k .«past_heading» ≡ false → k′ ≡ ended-progress (k .machine) 0 → next ≡ at
       → at ≤ length out → Leaves (record-end S) (state-of k′ b a c q p f) out at next out
   heading-left {out = out} {at = at} k′ next h e en l =
       leaves-is (end-heading S h) (record { state = ap (λ (k : Progress). state-of k b a c q p f) e; wrote = rw en (wrote-none out at l) })
 
-  pub record-left : {out out′ : List ℕ} {at : ℕ} (n : ℕ) (reading : Reading) (r : Obeyed) (k′ : Progress) (next : ℕ) (a′ c′ q′ p′ f′ : List ℕ)
+  pub record-left : {out out′ : List ℕ} {at : ℕ} (n : ℕ) (reading : Reading) (r : Obeyed) (k′ : Progress) (next end : ℕ) (a′ c′ q′ p′ f′ : List ℕ)
       → k .«past_heading» ≡ true → n ≡ min (k .count - 1) 65 → reading ≡ read-record (take n b)
-      → Obeys (machine-of (k .machine) a c q p f) reading r (machine-of (r .machine) a′ c′ q′ p′ f′) out at out′
-      → k′ ≡ ended-progress (r .machine) (r .slots) → next ≡ r .next → Leaves (record-end S) (state-of k′ b a′ c′ q′ p′ f′) out at next out′
-  record-left {out} {out′} {at} n reading r k′ next a′ c′ q′ p′ f′ h en er o ek el =
+      → machine-of (r .machine) a′ c′ q′ p′ f′ ≡ begun M reading .machine → r .slots ≡ slots-of M reading
+      → refused-text (r .refused) ≡ begun M reading .printed → Wrote out at (refused-text (r .refused)) next out′
+      → k′ ≡ ended-progress (r .machine) (r .slots) → end ≡ next → Leaves (record-end S) (state-of k′ b a′ c′ q′ p′ f′) out at end out′
+  record-left n reading r k′ next end a′ c′ q′ p′ f′ h en er em es et w ek el =
       let is : reading ≡ read-record (take (min (k .count - 1) 65) b) = er ∙ ap (λ n. read-record (take n b)) en in
       leaves-is (end-read S h ∙ ap (obeyed S) (sym is))
       (record {
-        state =
-            ap (λ (k : Progress). state-of k b a′ c′ q′ p′ f′) ek
-            ∙ ap₂ (λ (m : Program.Machine) (n : ℕ). ended S m n) (o .machine) (o .slots);
-        wrote = rw el (o .wrote);
+        state = ap (λ (k : Progress). state-of k b a′ c′ q′ p′ f′) ek ∙ ap₂ (λ (m : Program.Machine) (n : ℕ). ended S m n) em es;
+        wrote = rw el (wrote-is w et);
       })
 
   -- A BYTE
@@ -56,16 +65,18 @@ module _ (k : Progress) (b a c q p f : List ℕ) where
     byte-kept {out = out} {at = at} is e t h l = leaves-is (byte-more S x (sym e ∙ t)) (record { state = h; wrote = wrote-none out at l })
 
   -- A SLOT
-  pub slot-left : {out out′ : List ℕ} {at : ℕ} (r : Obeyed) (k′ : Progress) (c′ q′ p′ f′ : List ℕ)
-      → Ran (machine-of (k .machine) a c q p f) (k .«slots_left») r (machine-of (r .machine) a c′ q′ p′ f′) out at out′
-      → k′ ≡ moved-progress k (r .machine) (r .slots) → Leaves (run-slot S) (state-of k′ b a c′ q′ p′ f′) out at (r .next) out′
-  slot-left r k′ c′ q′ p′ f′ o ek =
-      record {
-        state =
-            ap (λ (k : Progress). state-of k b a c′ q′ p′ f′) ek
-            ∙ ap₂ (λ (m : Program.Machine) (n : ℕ). record { machine = m; past-heading = k .«past_heading»; after-CR = k .«after_cr»; count = k .count; buffer = b; slots-left = n }) (o .machine) (o .slots);
-        wrote = o .wrote;
-      }
+  module _ {out out′ : List ℕ} {at : ℕ} (r : Ran) (k′ : Progress) (slots next : ℕ) (c′ q′ p′ f′ : List ℕ) where
+    pub slot-left : machine-of (r .machine) a c′ q′ p′ f′ ≡ with-switch M (ticked M .after) → r .refused ≡ refused-of M 0 0 (ticked M .refusal)
+        → r .slot ≡ slot-of-tick (M .form) (ticked M .after .clock .slot) → r .outputs ≡ outputs-of (ticked M .matching)
+        → r .«first_pass» ≡ pass-word-of (ticked M .matching) → Wrote out at (ran-text r) next out′ → slots ≡ slots-left (k .«slots_left») (r .refused .number)
+        → k′ ≡ moved-progress k (r .machine) slots → Leaves (run-slot S) (state-of k′ b a c′ q′ p′ f′) out at next out′
+    slot-left em er es eo ep w en ek =
+        record {
+          state =
+              ap (λ (k : Progress). state-of k b a c′ q′ p′ f′) ek
+              ∙ ap₂ (with-machine S) (em ∙ slot-machine M) (en ∙ slot-slots M r er (k .«slots_left»));
+          wrote = wrote-is w (slot-text M r er (ap (λ (m : Program.Machine). m .switch .clock .ports) em) es eo ep);
+        }
 
   -- A STEP
   module _ (block : List ℕ) (taken : ℕ) {s : State} {out out′ : List ℕ} {at next : ℕ} where

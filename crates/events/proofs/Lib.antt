@@ -1,10 +1,6 @@
-pub mod Writing
-pub mod Decimals
-pub mod Printing
 pub mod Feeding
 pub mod Kept
 pub mod Whole
-pub mod Effects
 pub mod Ticks
 pub mod Leaving
 pub mod Rounds

@@ -15,11 +15,12 @@ use Rattle.wsgs.specs.Basics.{pick, between}
 use Rattle.wsgs.specs.Text.{LF, read-record}
 use Rattle.wsgs.specs.Program.{Machine}
 use Rattle.wsgs.proofs.Laws.Tests.{in-range}
-use Rattle.events.specs.Feeding.{State, slots-of, kept-record, record-end, ticked, slots-after, take-byte, Fed, most-printed, goes-on, step-out, step-taken, step, steps, work, fed}
-use Rattle.events.specs.Lines.{Wrote, written}
+use Rattle.events.specs.Feeding.{State, kept-record, record-end, slots-after, take-byte, Fed, most-printed, goes-on, step-out, step-taken, step, steps, work, fed}
+use Rattle.machine.specs.Effects.{ticked, slots-of}
+use Rattle.lines.specs.Lines.{Wrote, written}
 use Rattle.events.specs.View.{Leaves}
 use Rattle.events.proofs.Feeding.{Ready, ready, step-slot, step-byte}
-use Rattle.events.proofs.Writing.{wrote-none, wrote-then, wrote-long}
+use Rattle.lines.proofs.Writing.{wrote-none, wrote-then, wrote-long}
 use Rattle.events.proofs.Whole.{end-read, end-heading, byte-ends, byte-more}
 
 -- a record leaves at most 10,000 slots to run

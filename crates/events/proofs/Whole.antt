@@ -5,7 +5,7 @@ use mathlib.Core.List.{List, [], _∷_, _++_, append-assoc, append-nil}
 use Prim.Native.Nat.{ℕ, _≤_, _<_}
 use native.Mathlib.Decide.{decLt}
 use native.Mathlib.Omega.{arith}
-use borrow.Author.Tests.{lt-ltb, le-ltb, eq-eqb, ne-eqb}
+use borrow.Author.Tests.{eq-eqb, ne-eqb}
 use lib.Dec.{eqb}
 use lib.ListN.{length, replicate}
 use Rattle.wsgs.specs.declared.Operation.the-variants.{Start, Pipe, Book, Release, Arrive, Tick}
@@ -14,7 +14,9 @@ use Rattle.wsgs.specs.declared.Reading.the-variants.{Asks, Unreadable}
 use Rattle.wsgs.specs.Basics.{pick, between}
 use Rattle.wsgs.specs.Text.{CR, LF, drop-last, reversed, records-from, records, read-record, heading}
 use Rattle.wsgs.specs.Program.{Machine, Step, run-ticks, obey, obey-all, skip-heading, program}
-use Rattle.events.specs.Feeding.{State, Out, after, ended, appended, slots-of, begun, obeyed, kept-record, record-end, take-byte, drained, finish, ending, Calls, Begins}
+use Rattle.events.specs.Feeding.{State, Out, after, ended, appended, obeyed, kept-record, record-end, take-byte, drained, finish, ending, Calls, Begins}
+use Rattle.machine.specs.Effects.{slots-of}
+use Rattle.machine.proofs.Effects.{begun-slots, begun-once}
 use Rattle.events.specs.View.{state-of, first-progress}
 use Rattle.events.proofs.Feeding.{after-after, drained-first, drained-none, finish-byte, finish-none, calls-print}
 use Rattle.events.proofs.Kept.{Holds, holds-none, holds-more, reads-same}
@@ -41,15 +43,6 @@ runs-slots m (Asks Tick x y z) h = by-tests (m .running) (between 1 10000 z) ref
     by-tests false c p q l = absurd (omega arith)
 
 -- a record that has ended, with the slots that it leaves, is obeyed
-module _ (m : Machine) (r : Reading) where
-  pub begun-slots : 0 < slots-of m r → begun m r ≡ record { machine = m; printed = [] }
-  unfolding begun
-  begun-slots h = rw (lt-ltb 0 (slots-of m r) h, begun)
-
-  pub begun-once : slots-of m r ≡ 0 → begun m r ≡ obey m r
-  unfolding begun
-  begun-once e = rw (le-ltb 0 (slots-of m r) (omega arith), begun)
-
 module _ (s : State) (r : Reading) where
   abbrev m : Machine
   m = s .machine

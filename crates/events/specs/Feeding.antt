@@ -6,14 +6,13 @@ use mathlib.Core.List.{List, [], _∷_, _++_}
 use Prim.Native.Nat.{ℕ, zero, suc, _+_, _-_, _*_, _≤_, min}
 use lib.Dec.{eqb, leb, ltb}
 use lib.ListN.{length, getD, set, take, drop}
-use Rattle.wsgs.specs.declared.Operation.the-variants.{Start, Pipe, Book, Release, Arrive, Tick}
 use Rattle.wsgs.specs.declared.Reading.{Reading}
-use Rattle.wsgs.specs.declared.Reading.the-variants.{Asks, Unreadable}
-use Rattle.wsgs.specs.Basics.{pick, between}
+use Rattle.wsgs.specs.Basics.{pick}
 use Rattle.wsgs.specs.Ledger.{slot-of-tick}
-use Rattle.wsgs.specs.Switch.{tick, Outcome, apply}
+use Rattle.wsgs.specs.Switch.{Outcome, apply}
 use Rattle.wsgs.specs.Text.{CR, LF, read-record}
-use Rattle.wsgs.specs.Program.{Machine, Step, refusal-of, match-lines, run-ticks, obey, fresh}
+use Rattle.wsgs.specs.Program.{Machine, Step, refusal-of, match-lines, run-ticks, fresh}
+use Rattle.machine.specs.Effects.{ticked, slots-of, begun}
 
 -- Of the record so far only the first 65 bytes are kept, in a buffer, and its bytes are counted up to 66: one of more than 64 bytes without
 -- its CR LF is unreadable whatever they are.
@@ -67,9 +66,6 @@ appended s x =
     }
 
 -- THE FIRST STEP: a slot of a tick record. The first slot that is refused prints its line and ends the record.
-abbrev pub ticked : Machine → Outcome
-ticked m = apply (tick (m .form)) (m .switch)
-
 unfoldable pub slot-run : Machine → Step
 unfolding apply match-lines
 slot-run m =
@@ -90,21 +86,6 @@ abbrev pub run-slot : State → Out
 run-slot s =
     let t : Step = slot-run (s .machine) in
     record { state = with-machine s (t .machine) (slots-after (s .machine) (s .slots-left)); printed = t .printed }
-
--- the slots that a record asks a machine to run: those of a tick record that asks for 1 to 10,000
-abbrev pub slots-of : Machine → Reading → ℕ
-slots-of m Unreadable = 0
-slots-of m (Asks Start x y z) = 0
-slots-of m (Asks Pipe x y z) = 0
-slots-of m (Asks Book x y z) = 0
-slots-of m (Asks Release x y z) = 0
-slots-of m (Asks Arrive x y z) = 0
-slots-of m (Asks Tick x y z) = pick (m .running && between 1 10000 z) z 0
-
--- what a record does at once: one that asks for slots leaves them to be run, and any other is obeyed
-unfoldable pub begun : Machine → Reading → Step
-unfolding obey
-begun m r = elim (ltb 0 (slots-of m r)) [ true ↦ record { machine = m; printed = [] } | false ↦ obey m r ]
 
 -- a record that has ended
 abbrev pub obeyed : State → Reading → Out

@@ -1,4 +1,3 @@
--- What the functions of this crate say beyond the definitions of the event program's text.
-pub mod Lines
+-- What the functions of this crate say beyond the definitions of the event program.
 pub mod Feeding
 pub mod View

@@ -1,8 +1,9 @@
 // A byte of the input: one more of the record so far, or the end of the record.
-use crate::Machine;
 use crate::Progress;
 use crate::TakenByte;
-use crate::calls::obey;
+use crate::printing::put_refused;
+use machine::Machine;
+use machine::obey;
 use records::read_record;
 ghost use mathlib.Core.Path.{_≡_};
 ghost use mathlib.Core.Bool.{_&&_};
@@ -64,19 +65,11 @@ fn end_record(
     }
     let length = kept_length(progress.count);
     let reading = read_record(&buffer[..length]);
-    let obeyed = obey(
-        machine,
-        reading,
-        out,
-        at,
-        bookings,
-        credits,
-        queues,
-        copy,
-        flight,
-    );
+    let obeyed = obey(machine, reading, bookings, credits, queues, copy, flight);
+    let refused = obeyed.refused;
+    let next = put_refused(out, at, refused);
     let after = obeyed.machine;
-    ended(after, obeyed.slots, obeyed.next)
+    ended(after, obeyed.slots, next)
 }
 
 // Keeps a byte of the record so far, if it is one of the first 65.

@@ -1,26 +1,17 @@
 // The event program's library: records in, lines out, on lent slices.
 mod bytes;
-mod calls;
-pub mod lines;
-mod printer;
-mod slots;
+mod printing;
 mod steps;
 
+use machine::Machine;
 use steps::goes_on;
 use steps::step;
 use wsgs::Clock;
 ghost use mathlib.Core.Path.{_≡_};
 ghost use lib.ListN.{length};
-ghost use Rattle.events.specs.Lines.{written};
+ghost use Rattle.lines.specs.Lines.{written};
 ghost use Rattle.events.specs.Feeding.{fed};
 ghost use Rattle.events.specs.View.{state-of, first-progress};
-
-// The machine beside its lent runs: whether a start or pipe has been accepted, the form of the last one, and the clock.
-pub struct Machine {
-    pub running: bool,
-    pub pipelined: bool,
-    pub clock: Clock,
-}
 
 // What is kept between two bytes beside the lent runs: the machine, whether the heading is past, whether the last byte of the record so far
 // is a CR, how many bytes it has, counted up to 66, and the slots of a tick record that are still to run.
@@ -37,13 +28,6 @@ pub struct Fed {
     pub progress: Progress,
     pub taken: usize,
     pub written: usize,
-}
-
-// What a record or a slot leaves: the machine, the slots still to run, and the place after what was put.
-struct Obeyed {
-    machine: Machine,
-    slots: u64,
-    next: usize,
 }
 
 // What a byte leaves, and the place after what was put.

@@ -1,9 +1,10 @@
 // The steps of feeding: a slot where one is to run, else a byte, as long as there is work and room.
 use crate::Fed;
-use crate::Machine;
 use crate::Progress;
 use crate::bytes::take_byte;
-use crate::slots::run_slot;
+use crate::printing::put_ran;
+use machine::Machine;
+use machine::run_slot;
 ghost use mathlib.Core.Path.{_≡_};
 ghost use mathlib.Core.Bool.{_&&_, _||_};
 ghost use mathlib.Core.List.{List};
@@ -11,7 +12,7 @@ ghost use Prim.Native.Nat.{ℕ, _+_, _≤_, _<_};
 ghost use lib.Dec.{ltb, leb};
 ghost use lib.ListN.{length, getD};
 ghost use Rattle.events.specs.Feeding.{run-slot, take-byte, step-out, step-taken};
-ghost use Rattle.events.specs.View.{state-of, moved-progress, Leaves};
+ghost use Rattle.events.specs.View.{state-of, slots-left, moved-progress, Leaves};
 
 // Whether there is a slot to run or a byte to take, and room for what it may print.
 pub fn goes_on(fed: Fed, block: usize, buffer: usize, room: usize) -> bool
@@ -42,6 +43,17 @@ fn moved(mut progress: Progress, machine: Machine, slots: u64) -> Progress
     progress
 }
 
+// The slots left to run after one of them, by its refusal: the first slot that is refused ends the record.
+fn slots_after(slots: u64, refusal: u32) -> u64
+    requires { ⌜ 1 ≤ slots ⌝ }
+    ensures { λ r. ⌜ r ≡ slots-left slots refusal ⌝ }
+{
+    if refusal != 0 {
+        return 0;
+    }
+    slots - 1
+}
+
 // A slot of a tick record.
 fn step_slot(
     fed: Fed,
@@ -59,22 +71,15 @@ fn step_slot(
 {
     let progress = fed.progress;
     let machine = progress.machine;
-    let ran = run_slot(
-        machine,
-        progress.slots_left,
-        out,
-        fed.written,
-        bookings,
-        credits,
-        queues,
-        copy,
-        flight,
-    );
+    let ran = run_slot(machine, bookings, credits, queues, copy, flight);
+    let written = put_ran(out, fed.written, ran);
     let after = ran.machine;
+    let refused = ran.refused;
+    let slots = slots_after(progress.slots_left, refused.number);
     Fed {
-        progress: moved(progress, after, ran.slots),
+        progress: moved(progress, after, slots),
         taken: fed.taken,
-        written: ran.next,
+        written,
     }
 }
 

@@ -279,7 +279,7 @@ fn main() {
     let mut queues = [0u32; 1024];
     let mut copy = [0u32; 1024];
     let mut flight = [0u32; 2048];
-    let count = events::lines::heading_line(&mut out);
+    let count = lines::heading_line(&mut out);
     if !write_front(&out, count) {
         return;
     }

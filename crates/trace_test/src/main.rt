@@ -200,7 +200,7 @@ fn run_input(input: &[u8]) {
     let mut queues = [0u32; 1024];
     let mut copy = [0u32; 1024];
     let mut flight = [0u32; 2048];
-    let count = events::lines::heading_line(&mut out);
+    let count = lines::heading_line(&mut out);
     if !write_front(&out, count) {
         return;
     }

@@ -5,7 +5,7 @@ use borrow.Author.Needs.{needs}
 use lib.ListN.{length}
 use Rattle.events.specs.View.{state-of}
 use Rattle.events.proofs.Rounds.{Feeds, feeds-none, feeds-ready, feeds-room, feeds-less, feeds-more, feeds-state, feeds-taken, feeds-count, feeds-out}
-use Rattle.events.proofs.Writing.{wrote-long}
+use Rattle.lines.proofs.Writing.{wrote-long}
 use Rattle.events.proofs.feed.Statement.{statement}
 use Rattle.events.proofs.feed.Tie as tie
 

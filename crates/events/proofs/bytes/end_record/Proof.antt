@@ -14,7 +14,8 @@ ended-requires c κs = search needs
 returns : tie.Need-returns
 returns c =
     let s = c .before .before .before .before .before .before .before .before .before .before .before .args in
-    heading-left (s .progress) (s .buffer .now) (s .bookings .now) (s .credits .now) (s .queues .now) (s .copy .now) (s .flight .now) _ _ (not-true (s .progress .«past_heading») (c .before .if1 .taken)) (c .ended .ensures .0) (c .ended .ensures .1) (omega arith)
+    heading-left (s .progress) (s .buffer .now) (s .bookings .now) (s .credits .now) (s .queues .now) (s .copy .now) (s .flight .now) _ _
+    (not-true (s .progress .«past_heading») (c .before .if1 .taken)) (c .ended .ensures .0) (c .ended .ensures .1) (omega arith)
 
 kept-length-requires : tie.Need-kept-length-requires
 kept-length-requires c κs = search needs
@@ -27,6 +28,12 @@ read-record-requires c κs = search needs
 
 obey-requires : tie.Need-obey-requires
 obey-requires c κs = search needs
+
+put-refused-requires : tie.Need-put-refused-requires
+put-refused-requires c κs =
+    let call = c .before .before .before .before .before .before .before .before .before .before .before .before in
+    let start = call .before .before .before .before .before .before .before .before .before .before .before .before .before .before .before .before .before .before .before in
+    omega (arith, start .pre .1)
 
 ended-requires-2 : tie.Need-ended-requires-2
 ended-requires-2 c κs = search needs
@@ -51,11 +58,15 @@ same-length-6 c = search needs
 
 returns-2 : tie.Need-returns-2
 returns-2 c =
-    let call = c .before .before .before .before .before .before .before .before .before .before .before .before .before .before in
-    let length = call .before .before .before .before .before .before .before .before .before in
+    let put = c .before .before .before .before in
+    let call = put .before .before .before .before .before .before .before .before .before .before .before .before .before in
+    let read = call .before .before .before .before .before .before in
+    let length = read .before .before in
     let s = length .before .before .before .before .before .before .before .before .before .before .before .args in
-    record-left (s .progress) (s .buffer .now) (s .bookings .now) (s .credits .now) (s .queues .now) (s .copy .now) (s .flight .now) _ _ _ _ _ _ _ _ _ _ (not-false (s .progress .«past_heading») (length .before .if1 .left)) (length .kept-length .ensures)
-    (call .before .before .before .before .before .before .before .read-record .ensures) (call .obey .ensures) (c .ended2 .ensures .0) (c .ended2 .ensures .1)
+    let e = call .obey .ensures in
+    record-left (s .progress) (s .buffer .now) (s .bookings .now) (s .credits .now) (s .queues .now) (s .copy .now) (s .flight .now) _ _ (call .obey .result) _ _ _ _ _ _ _ _
+    (not-false (s .progress .«past_heading») (length .before .if1 .left)) (length .kept-length .ensures) (read .read-record .ensures) (e .0) (e .1 .0)
+    (e .1 .1 .0) (put .put-refused .ensures) (c .ended2 .ensures .0) (c .ended2 .ensures .1)
 
 pub end-record-spec : {M : Type 1} → statement M
 end-record-spec =
@@ -67,6 +78,7 @@ end-record-spec =
     slice-aggregate-read-record
     read-record-requires
     obey-requires
+    put-refused-requires
     ended-requires-2
     same-length
     same-length-2

@@ -1,5 +1,6 @@
 -- A slot of a tick record.
 use mathlib.Core.Path.{refl}
+use native.Mathlib.Omega.{arith}
 use Rattle.events.proofs.Leaving.{slot-left}
 use borrow.Author.Needs.{needs}
 use Rattle.events.proofs.steps.step_slot.Statement.{statement}
@@ -7,6 +8,15 @@ use Rattle.events.proofs.steps.step_slot.Tie as tie
 
 run-slot-requires : tie.Need-run-slot-requires
 run-slot-requires c κs = search needs
+
+put-ran-requires : tie.Need-put-ran-requires
+put-ran-requires c κs = search needs
+
+slots-after-requires : tie.Need-slots-after-requires
+slots-after-requires c κs =
+    let call = c .before .before .before .before .before .before .before .before .before .before .before .before .before .before in
+    let start = call .before .before .before .before .before .before .before .before .before .before .before .before .before in
+    omega (arith, start .pre .0)
 
 moved-requires : tie.Need-moved-requires
 moved-requires c κs = search needs
@@ -28,15 +38,22 @@ same-length-5 c = search needs
 
 returns : tie.Need-returns
 returns c =
-    let call = c .before .before .before .before .before .before .before .before .before .before .before .before in
-    let s = call .before .before .before .before .before .before .before .before .before .before .before .before .before .before .args in
-    (refl, λ b. slot-left (s .fed .progress) b (s .bookings .now) (s .credits .now) (s .queues .now) (s .copy .now) (s .flight .now) _ _ _ _ _ _ (call .run-slot .ensures) (c .moved .ensures))
+    let put = c .before .before .before .before .before .before in
+    let call = put .before .before .before .before .before .before .before .before .before .before in
+    let s = call .before .before .before .before .before .before .before .before .before .before .before .before .before .args in
+    let e = call .run-slot .ensures in (
+      refl,
+      λ b. slot-left (s .fed .progress) b (s .bookings .now) (s .credits .now) (s .queues .now) (s .copy .now) (s .flight .now) _ _ _ _ _ _ _ _ (e .0) (e .1 .0) (e .1 .1 .0)
+          (e .1 .1 .1 .0) (e .1 .1 .1 .1) (put .put-ran .ensures) (c .before .slots-after .ensures) (c .moved .ensures),
+    )
 
 pub step-slot-spec : {M : Type 1} → statement M
 step-slot-spec =
     tie.close
     (tie.spec
     run-slot-requires
+    put-ran-requires
+    slots-after-requires
     moved-requires
     same-length
     same-length-2

@@ -1,0 +1,3 @@
+-- What the functions of this crate say beyond the definitions of the event program.
+pub mod Effects
+pub mod View
