@@ -1,13 +1,14 @@
 -- Laws of the rows in flight: where a row stands, and how a word is read. Assumes nothing.
 use mathlib.Core.Path.{_≡_}
 use mathlib.Core.Bool.{true, false, and-false}
-use Prim.Native.Nat.{ℕ, _+_, _-_, _*_, _≤_, _<_}
+use Prim.Native.Nat.{ℕ, _+_, _-_, _*_, _%_, _^_, _≤_, _<_}
+use native.Mathlib.Decide.{decLt, decLe}
 use native.Mathlib.Nat.{mul-le-mul-right, suc-mul}
 use native.Mathlib.Omega.{arith}
-use borrow.Author.Tests.{le-leb, lt-leb}
-use lib.Dec.{leb}
+use borrow.Author.Tests.{le-leb, lt-leb, lt-ltb, le-ltb}
+use lib.Dec.{leb, ltb}
 use Rattle.wsgs.specs.Pipelined.{by-first, output-in}
-use Rattle.wsgs.proofs.Laws.Tests.{in-range}
+use Rattle.wsgs.proofs.Laws.Tests.{in-range, range-in}
 
 -- each of the 2n rows in flight lies within them
 pub row-within : (n r : ℕ) → r < 2 * n → r * n + n ≤ 2 * n * n
@@ -18,7 +19,15 @@ abbrev pub ReadAs : ℕ → ℕ → ℕ → Type 0
 ReadAs n v o = (o ≡ output-in n v) × (o ≤ n)
 
 module _ (n v : ℕ) where
-  -- a word by pass one
+  -- a word by pass one: less 101 in 32 bits, where what is below wraps, it is below the ports
+  pub first-wrapped : (less : ℕ) → n ≤ 32 → less < 2 ^ 32 → (less + 101) % 2 ^ 32 ≡ v → ltb less n ≡ by-first n v
+  first-wrapped less few fits e = go (decLt less n) (decLe 101 v)
+    where
+      go : Dec (less < n) → Dec (101 ≤ v) → ltb less n ≡ by-first n v
+      go (yes h) d = rw (lt-ltb less n h, range-in 101 (100 + n) v (omega arith) (omega arith))
+      go (no h) (yes l) = rw (le-ltb less n (omega arith), le-leb 101 v l, lt-leb v (100 + n) (omega arith))
+      go (no h) (no l) = rw (le-ltb less n (omega arith), lt-leb 101 v (omega arith))
+
   pub first-low : by-first n v ≡ true → 101 ≤ v
   first-low e = in-range 101 (100 + n) v (rw e tt) .0
 

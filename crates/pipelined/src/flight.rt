@@ -9,6 +9,7 @@ ghost use Rattle.wsgs.specs.Basics.{Port};
 ghost use Rattle.wsgs.specs.Pipelined.{by-first, output-in, standing, handed-out, row-cleared};
 ghost use Rattle.turns.specs.Masks.{in-mask};
 ghost use Rattle.pipelined.specs.Turnings.{answering};
+use std::num::wrapping_sub_u32;
 use turns::all_free;
 use words::clear_words;
 use wsgs::Input;
@@ -40,12 +41,12 @@ pub fn row_before(ports: usize, row: usize, input: Input) -> usize
     (row + 2 * ports - back) * ports
 }
 
-// Whether a word in flight stands for an output by pass one.
+// Whether a word in flight stands for an output by pass one. A word below 101 wraps to one far above the ports, so one comparison suffices.
 pub fn is_by_first(ports: u32, word: u32) -> bool
     requires { ⌜ ports ≤ 32 ⌝ }
     ensures { λ r. ⌜ r ≡ by-first ports word ⌝ }
 {
-    101 <= word && word <= 100 + ports
+    wrapping_sub_u32(word, 101) < ports
 }
 
 // The number of the output that a word in flight stands for, 0 for none, in u32 as the words are.

@@ -1,18 +1,15 @@
--- `flight::is_by_first` meets its contract, by the two tests. Assumes nothing.
+-- `flight::is_by_first` meets its contract, by the law of the wrapped word. Assumes nothing.
 use native.Mathlib.Omega.{arith}
 use borrow.Author.Needs.{needs}
-use borrow.Author.Tests.{le-leb, lt-leb}
+use Rattle.pipelined.proofs.FlightLaws.{first-wrapped}
 use Rattle.pipelined.proofs.flight.is_by_first.Statement.{statement}
 use Rattle.pipelined.proofs.flight.is_by_first.Tie as tie
 
-add-result : tie.Need-add-result
-add-result c = search needs
+wrapping-sub-u32-requires : tie.Need-wrapping-sub-u32-requires
+wrapping-sub-u32-requires c κs = search needs
 
 returns : tie.Need-returns
-returns c = rw (le-leb 101 (c .before .args .word) (omega arith))
-
-returns-2 : tie.Need-returns-2
-returns-2 c = rw (lt-leb 101 (c .before .args .word) (omega arith))
+returns c = first-wrapped _ _ _ (c .before .pre) (omega arith) (omega (arith, c .wrapping-sub-u32 .ensures))
 
 pub is-by-first-spec : {M : Type 1} → statement M
-is-by-first-spec = tie.close (tie.spec add-result returns returns-2)
+is-by-first-spec = tie.close (tie.spec wrapping-sub-u32-requires returns)
