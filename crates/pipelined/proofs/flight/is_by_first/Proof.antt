@@ -9,7 +9,9 @@ wrapping-sub-u32-requires : tie.Need-wrapping-sub-u32-requires
 wrapping-sub-u32-requires c κs = search needs
 
 returns : tie.Need-returns
-returns c = first-wrapped _ _ _ (c .before .pre) (omega arith) (omega (arith, c .wrapping-sub-u32 .ensures))
+returns c =
+    let a = c .before .args in
+    first-wrapped (a .ports) (a .word) (c .wrapping-sub-u32 .result) (c .before .pre) (omega arith) (omega (arith, c .wrapping-sub-u32 .ensures))
 
 pub is-by-first-spec : {M : Type 1} → statement M
 is-by-first-spec = tie.close (tie.spec wrapping-sub-u32-requires returns)
