@@ -115,7 +115,7 @@ module _ {M : Type 1} {𝓤 : URA M} {H : Heap 𝓤} {A : Atoms 𝓤} {K : Type 
       assigns t (of-opd t (load t (found t (ap (local-at 𝓤 H 0) places) (hop t (look t p (ap (n 4) entries)) (fld t refl (stop t)))) (within t 0 (ap (n 3) entries) (sub t 1 refl (whole t))))) (found t (ap (local-at 𝓤 H 2) places) (stop t)) (init t j (ap (n 5) entries) (tt, record { fits = f .1 .0 })) $
       assigns t (of-opd t (load t (found t (ap (local-at 𝓤 H 0) places) (hop t (look t p (ap (n 7) entries)) (fld t refl (stop t)))) (within t 0 (ap (n 6) entries) (sub t 2 refl (whole t))))) (found t (ap (local-at 𝓤 H 3) places) (stop t)) (init t h (ap (n 8) entries) (tt, record { fits = f .1 .1 })) $ s)
 
-  -- the slot that the scheduler's tick gave back is written into a clock behind a reference, and its other fields make the answer: entry c is the clock's cell, entry p the reference's, entry s what was given back, entry r room for the answer
+  -- the slot that the form's tick gave back is written into a clock behind a reference, and its other fields make the answer: entry c is the clock's cell, entry p the reference's, entry s what was given back, entry r room for the answer
   pub answers : K → (c p s r : ℕ) (k : Clock) (d : Ticked) {us : List Val} → Is ticked.the-row d us → {E : Env 𝓤 H} {C : Calls 𝓤 H} {Λ : Loops 𝓤 H} {q : Post 𝓤 H} {rest : Body} {x y z : ℕ} {τ : Ty} {l l₁ l₂ b o : ℕ}
       → local-at 𝓤 H x E ∷ local-at 𝓤 H y E ∷ local-at 𝓤 H z E ∷ [] ≡ (τ, l) ∷ (ticked-laws.mir, l₁) ∷ (answered-laws.mir, l₂) ∷ []
       → let Δ = put 𝓤 H A c (clock-at (at-slot k (d .slot)) b o) Γ in let given : Item 𝓤 = ‵ (fat fullShare ticked-laws.mir l₁ zero (LL.val ticked.the-type ticked-laws.the-laws d)) in

@@ -1,5 +1,5 @@
-// The ticks of both forms, with the clock advanced in place. The slot is run by crates/scheduler on the clock's three numbers, and the last slot
-// run that it gives back, the old one where the tick is refused, is written into the clock.
+// The ticks of both forms, with the clock advanced in place. The slot is run by crates/direct or crates/pipelined on the clock's three numbers, and
+// the last slot run that it gives back, the old one where the tick is refused, is written into the clock.
 ghost use mathlib.Core.Path.{_≡_};
 ghost use Rattle.wsgs.specs.Answers.{answer-of, direct-runs-of, pipelined-runs-of};
 ghost use Rattle.wsgs.specs.Direct;
@@ -25,7 +25,7 @@ pub fn tick_direct(
     ensures credits_exit { λ _. ⌜ now (credits .exit) ≡ Direct.tick (now (clock .entry)) (direct-runs-of (now (bookings .entry)) (now (credits .entry)) (now (queues .entry))) .runs .credits ⌝ }
     ensures queues_exit { λ _. ⌜ now (queues .exit) ≡ Direct.tick (now (clock .entry)) (direct-runs-of (now (bookings .entry)) (now (credits .entry)) (now (queues .entry))) .runs .queues ⌝ }
 {
-    let direct = scheduler::direct::tick(
+    let direct = direct::tick(
         clock.ports,
         clock.frame,
         clock.slot,
@@ -77,7 +77,7 @@ pub fn tick_pipelined(
     ensures copy_exit { λ _. ⌜ now (copy .exit) ≡ Pipelined.tick (now (clock .entry)) (pipelined-runs-of (now (bookings .entry)) (now (credits .entry)) (now (queues .entry)) (now (copy .entry)) (now (flight .entry))) .runs .copy ⌝ }
     ensures flight_exit { λ _. ⌜ now (flight .exit) ≡ Pipelined.tick (now (clock .entry)) (pipelined-runs-of (now (bookings .entry)) (now (credits .entry)) (now (queues .entry)) (now (copy .entry)) (now (flight .entry))) .runs .flight ⌝ }
 {
-    let pipelined = scheduler::pipelined::tick(
+    let pipelined = pipelined::tick(
         clock.ports,
         clock.frame,
         clock.slot,

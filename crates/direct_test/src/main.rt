@@ -1,7 +1,7 @@
 // Ticks of the direct form at the edges of document 01. Each case prints one line: the refusal, the slot, the pairs as input>output/pass, the word
 // of pass one, and the credits and queues afterwards (of more than eight words their sum). `stdout` was worked out by hand.
 ghost use Prim.Native.Nat.{_<_};
-use scheduler::direct::tick;
+use direct::tick;
 use wsgs::Ticked;
 
 const STDOUT: i32 = 1;

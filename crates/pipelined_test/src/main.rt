@@ -2,7 +2,7 @@
 // input>output/pass, the word of pass one, and of each run afterwards the words that are not 0, as place=word with places from 0 (of more than
 // 20 words their sum). `stdout` was worked out by hand.
 ghost use Prim.Native.Nat.{_≤_, _<_};
-use scheduler::pipelined::tick;
+use pipelined::tick;
 use wsgs::Ticked;
 
 const STDOUT: i32 = 1;

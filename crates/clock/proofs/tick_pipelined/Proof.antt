@@ -1,6 +1,6 @@
--- `clock::tick_pipelined` meets its contract: a walk of its MIR. The clock's borrow is opened and its numbers are read; the runs go to the
--- scheduler's tick at their own lifetimes, and what that tick says of them is what this one says; the slot that comes back is stored in the
--- clock's cell, the other fields are the answer, and the borrow is closed at the new clock. All that is known of the scheduler's tick is its
+-- `clock::tick_pipelined` meets its contract: a walk of its MIR. The clock's borrow is opened and its numbers are read; the runs go to
+-- `pipelined::tick` at their own lifetimes, and what that tick says of them is what this one says; the slot that comes back is stored in the
+-- clock's cell, the other fields are the answer, and the borrow is closed at the new clock. All that is known of `pipelined::tick` is its
 -- contract. Assumes nothing.
 use mathlib.Core.Path.{_≡_, refl, ap, _∙_}
 use mathlib.Core.List.{[], _∷_, List}
@@ -45,10 +45,10 @@ use Rattle.wsgs.proofs.Ticked as ticked
 use Rattle.wsgs.proofs.Ticked.Laws as ticked-laws
 use Rattle.wsgs.proofs.Answer as answered
 use Rattle.wsgs.proofs.Answer.Laws as answered-laws
-use Rattle.scheduler.proofs.pipelined.tick as core
-use Rattle.scheduler.proofs.pipelined.tick.Symbol as core-def
-use Rattle.scheduler.proofs.pipelined.tick.Symbol.{name as #scheduler·pipelined·tick}
-use Rattle.scheduler.proofs.pipelined.tick.Met as core-thm
+use Rattle.pipelined.proofs.tick as core
+use Rattle.pipelined.proofs.tick.Symbol as core-def
+use Rattle.pipelined.proofs.tick.Symbol.{name as #pipelined·tick}
+use Rattle.pipelined.proofs.tick.Met as core-thm
 use Rattle.clock.proofs.Advance.{at-slot, pipelined-moved}
 use Rattle.clock.proofs.Locals.{locals, leaves}
 use Rattle.clock.proofs.Statements.{takes, reads-numbers, lends-on, copies, lands-as, answers}
@@ -66,7 +66,7 @@ stayed = all-said (tick.ended .signature .params) (tick.ended .kept)
 abbrev spells : (κs : Lfts 6) → Spells (typesAt (tick.signature .params) κs)
 spells κs = (ptr-vals, (slice-vals, (slice-vals, (slice-vals, (slice-vals, (slice-vals, tt))))))
 
--- the contract of the scheduler's tick
+-- the contract of `pipelined::tick`
 abbrev Core : {M : Type 1} (𝓤 : URA M) (H : Heap 𝓤) (A : Atoms 𝓤) (mem : Memory → SProp 𝓤) (run : Routine → Fun 𝓤) → Contract 𝓤
 Core 𝓤 H A mem run = tripleOf 𝓤 H A core.signature (core.spec 𝓤 H A mem run)
 
@@ -115,7 +115,7 @@ module _ {M : Type 1} (𝓤 : URA M) (H : Heap 𝓤) (A : Atoms 𝓤) (W : Given
   abbrev Runs-said : Lasts core.ended (κs .1) (y′ .0 .3) → SProp 𝓤
   Runs-said zs = sep 𝓤 (fact 𝓤 (zs .1 .1 .1 .1 .0 ≡ out .runs .credits)) (sep 𝓤 (fact 𝓤 (zs .1 .1 .1 .1 .1 .0 ≡ out .runs .queues)) (sep 𝓤 (fact 𝓤 (zs .1 .1 .1 .1 .1 .1 .0 ≡ out .runs .copy)) (fact 𝓤 (zs .1 .1 .1 .1 .1 .1 .1 .0 ≡ out .runs .flight))))
 
-  module _ (C : Calls 𝓤 H) (Λ : Loops 𝓤 H) (fm : FmC 𝓤 H (W .laws) C) (known : Triple 𝓤 (C #scheduler·pipelined·tick) (Core 𝓤 H A mem run)) where
+  module _ (C : Calls 𝓤 H) (Λ : Loops 𝓤 H) (fm : FmC 𝓤 H (W .laws) C) (known : Triple 𝓤 (C #pipelined·tick) (Core 𝓤 H A mem run)) where
     walk : Room u32 (length (a .1 .0 .now)) → Room u32 (length (a .1 .1 .0 .now)) → Room u32 (length (a .1 .1 .1 .0 .now)) → Room u32 (length (a .1 .1 .1 .1 .0 .now)) → Room u32 (length (a .1 .1 .1 .1 .1 .0 .now))
         → ent 𝓤 (onEntry 𝓤 H A tick.signature κs qs a (y .0 .4)) (WpFn 𝓤 H C Λ code.function (flat (typesAt (tick.signature .params) κs) (y .0 .4)) (walkOf 𝓤 H A tick.ended stayed (tick.clauses 𝓤 H A mem run) .post y))
     walk r₁ r₂ r₃ r₄ r₅ =
@@ -143,7 +143,7 @@ module _ {M : Type 1} (𝓤 : URA M) (H : Heap 𝓤) (A : Atoms 𝓤) (W : Given
         -- [the borrow; what is said of the runs]
         drop ! $ told ! (ap answer e) $ told ! (ap (λ (s : Ticked). at-slot k (s .slot)) e ∙ pipelined-moved k _) $ done !))))))
 
-tick-meets : {M : Type 1} (𝓤 : URA M) (H : Heap 𝓤) (A : Atoms 𝓤) (W : Given 𝓤 H A) (mem : Memory → SProp 𝓤) (run : Routine → Fun 𝓤) (𝓣 : Tables 𝓤 H) → Triple 𝓤 (𝓣 .C #scheduler·pipelined·tick) (Core 𝓤 H A mem run)
+tick-meets : {M : Type 1} (𝓤 : URA M) (H : Heap 𝓤) (A : Atoms 𝓤) (W : Given 𝓤 H A) (mem : Memory → SProp 𝓤) (run : Routine → Fun 𝓤) (𝓣 : Tables 𝓤 H) → Triple 𝓤 (𝓣 .C #pipelined·tick) (Core 𝓤 H A mem run)
     → Meets 𝓤 H A tick.signature (WpFn 𝓤 H (𝓣 .C) (𝓣 .Λ) code.function) (tick.spec 𝓤 H A mem run)
 tick-meets 𝓤 H A W mem run 𝓣 known =
     by-walk 𝓤 H A W tick.ended (tick.clauses 𝓤 H A mem run) 𝓣 code.function spells
@@ -156,4 +156,4 @@ tick-pipelined-spec 𝓤 H 𝓜 𝓖 𝓡 =
     entered 𝓤 H (tripleOf 𝓤 H (𝓖 .A) tick.signature (tick.spec 𝓤 H (𝓖 .A) (𝓜 .mem) (𝓡 .run)))
     (tables 𝓤 H 𝓜 𝓡 code.env .C) (tables 𝓤 H 𝓜 𝓡 code.env .Λ) #clock·tick-pipelined code.function (code.unfolded 𝓤 H 𝓜 𝓡)
     (tick-meets 𝓤 H (𝓖 .A) (givenOf 𝓤 H 𝓜 𝓖) (𝓜 .mem) (𝓡 .run) (tablesOf 𝓤 H 𝓜 (tables 𝓤 H 𝓜 𝓡 code.env))
-    (cited 𝓤 H (Core 𝓤 H (𝓖 .A) (𝓜 .mem) (𝓡 .run)) 𝓜 𝓡 code.env #scheduler·pipelined·tick core-def.routine code.calls-scheduler·pipelined·tick (core-thm.met 𝓤 H 𝓜 𝓖 𝓡)))
+    (cited 𝓤 H (Core 𝓤 H (𝓖 .A) (𝓜 .mem) (𝓡 .run)) 𝓜 𝓡 code.env #pipelined·tick core-def.routine code.calls-pipelined·tick (core-thm.met 𝓤 H 𝓜 𝓖 𝓡)))

@@ -1,0 +1,212 @@
+-- The turns of the two passes. What the inputs hold after a turn is what the definition says, for the row of an input is untouched until its
+-- turn, and the mask has the outputs that nobody holds. Assumes nothing.
+use mathlib.Core.Path.{_≡_, refl, sym, _∙_, ap, fun-ext}
+use mathlib.Core.Bool.{Bool, true, false, not, _&&_, and-self}
+use mathlib.Core.List.{List}
+use Prim.Native.Nat.{ℕ, zero, suc, _+_, _-_, _*_, _^_, _≤_, _<_}
+use native.Mathlib.Decide.{ℕ-discrete}
+use native.Mathlib.Omega.{arith}
+use borrow.Author.Count.{below-more}
+use borrow.Author.Tests.{lt-ltb, ltb-false}
+use lib.Bits.{bitOr}
+use lib.Dec.{eqb, ltb}
+use lib.ListN.{length, getD, set, replicate, length-set}
+use lib.Seq.{getD-set-same, getD-set-other}
+use Rattle.wsgs.specs.Basics.{pick, Port, lowest, updated}
+use Rattle.wsgs.specs.Words.{place, word}
+use Rattle.wsgs.specs.Steps.{given, pass-one, pass-two, marked}
+use Rattle.wsgs.specs.Direct.{spent}
+use Rattle.wsgs.proofs.Laws.Tests.{updated-at, updated-other}
+use Rattle.wsgs.proofs.Laws.Lowest.{lowest-ext}
+use Rattle.wsgs.proofs.Steps.{two-untouched}
+use Rattle.wsgs.proofs.Laws.Marked.{marked-none, marked-ext, marked-set}
+use Rattle.turns.specs.Masks.{in-mask, is-open, ready-mask}
+use Rattle.turns.specs.Charges.{charged}
+use Rattle.direct.specs.Passes.{Held, Waiting}
+use Rattle.turns.proofs.Choice.{chosen, charged-some, charged-none}
+use Rattle.direct.proofs.Held.{given-short, held-none, held-more}
+use Rattle.direct.proofs.Spent.{spent-length, spent-none, spent-row, spent-more}
+
+-- a value that is there already changes nothing
+updated-same : (f : ℕ → ℕ) (k v : ℕ) → f k ≡ v → updated f k v ≡ f
+updated-same f k v e = fun-ext (λ i. go i (ℕ-discrete i k))
+  where
+    go : (i : ℕ) → Dec (i ≡ k) → updated f k v i ≡ f i
+    go i (yes d) = updated-at f k i v d ∙ sym (ap f d ∙ e)
+    go i (no d) = updated-other f k i v d
+
+-- an output that is above 0 is one more that is
+updated-above : (f : ℕ → ℕ) (k v : ℕ) → 1 ≤ v → (i : ℕ) → updated (λ i. ltb 0 (f i)) k true i ≡ ltb 0 (updated f k v i)
+updated-above f k v h i = go (eqb i k)
+  where
+    go : (b : Bool) → pick b true (ltb 0 (f i)) ≡ ltb 0 (pick b v (f i))
+    go true = sym (lt-ltb 0 v h)
+    go false = refl
+
+-- what is open to input k, which holds none, in runs from which the outputs that are held have been spent
+module _ (n : ℕ) (start other : List ℕ) (f : ℕ → ℕ) (free : ℕ) (outputs queues one : List ℕ) (h : Held n start f free outputs queues)
+    (cost : one ≡ spent n other f n) (long : n * n ≤ length one) (enough : n * n ≤ length queues) (k : ℕ) (pk : Port n k) (none : f k ≡ 0) where
+  -- each output
+  open-is : (j : ℕ) → Port n j → is-open n free one queues k j ≡ (not (given f n j) && (ltb 0 (word n other k j) && ltb 0 (word n start k j)))
+  unfolding is-open
+  open-is j pj =
+      let l : n * n ≤ length other = rw (cost, spent-length n other f n) at long in
+      let m : n * n ≤ length start = rw (h .cost, spent-length n start f n) at enough in
+      rw (h .mask j pj, cost, h .cost, spent-row n other l f (h .bound) k j pk pj none, spent-row n start m f (h .bound) k j pk pj none)
+
+  -- so the lowest
+  pub lowest-is : lowest (is-open n free one queues k) n ≡ lowest (λ j. not (given f n j) && (ltb 0 (word n other k j) && ltb 0 (word n start k j))) n
+  lowest-is = lowest-ext _ _ n open-is
+
+-- where input k holds none, the outputs for which it has packets are those at the start
+row-waiting : (n : ℕ) (start : List ℕ) (f : ℕ → ℕ) (free : ℕ) (outputs queues : List ℕ) → Held n start f free outputs queues
+    → n * n ≤ length queues → (x k : ℕ) → k ≡ suc x → x < n → f k ≡ 0
+    → ready-mask queues queues ((k - 1) * n) n ≡ ready-mask start start (x * n) n
+unfolding ready-mask word place
+row-waiting n start f free outputs queues h enough x k next l none =
+    let m : n * n ≤ length start = rw (h .cost, spent-length n start f n) at enough in
+    let row : k - 1 ≡ x = omega arith in
+    marked-ext n _ _ (λ j p. ap (λ v. ltb 0 v && ltb 0 v) (same m j p)) ∙ ap (λ z. ready-mask start start (z * n) n) row
+  where
+    same : n * n ≤ length start → (j : ℕ) → Port n j → word n queues k j ≡ word n start k j
+    same m j p = ap (λ q. word n q k j) (h .cost) ∙ spent-row n start m f (h .bound) k j (omega arith) p none
+
+-- they are known of one row more
+pub waiting-next : (n : ℕ) (start waiting : List ℕ) (x w : ℕ) → x < 32 → (length waiting ≡ 32) × Waiting n x start waiting
+    → w ≡ ready-mask start start (x * n) n → (length (set waiting x w) ≡ 32) × Waiting n (x + 1) start (set waiting x w)
+waiting-next n start waiting x w l known e = (
+  length-set waiting x w ∙ known .0,
+  below-more (λ k. getD (set waiting x w) k 0 ≡ ready-mask start start (k * n) n) x
+      (λ k u. getD-set-other waiting x k w 0 (λ d. absurd (omega arith)) ∙ known .1 k u) (getD-set-same waiting x w 0 (omega arith) ∙ e),
+)
+
+-- PASS ONE: what the inputs hold, with the credits that they have spent and the word of those that hold an output
+pub record One (n : ℕ) (other start : List ℕ) (f : ℕ → ℕ) (free first : ℕ) (outputs credits queues : List ℕ) : Type 0 where
+  pub held : Held n start f free outputs queues
+  pub cost : credits ≡ spent n other f n
+  pub mark : first ≡ marked 32 (λ i. ltb 0 (f i))
+
+module _ (n : ℕ) (few : n ≤ 32) (other start : List ℕ) where
+  -- what the inputs 1..x hold
+  abbrev before : ℕ → ℕ → ℕ
+  before x = pass-one n (word n other) (word n start) x
+
+  -- the inputs past x hold none
+  one-beyond : (x i : ℕ) → x < i → before x i ≡ 0
+  unfolding pass-one
+  one-beyond zero i l = refl
+  one-beyond (suc x) i l = updated-other (before x) (suc x) i _ (omega arith) ∙ one-beyond x i (omega arith)
+
+  -- at first all outputs are free
+  pub one-start : (free : ℕ) → ((j : ℕ) → Port n j → in-mask free j ≡ true) → One n other start (before 0) free 0 (replicate 32 0) other start
+  unfolding pass-one
+  one-start free h = record { held = held-none n free start h; cost = sym (spent-none n other n); mark = sym (marked-none 32) }
+
+  -- the outputs for which input x + 1 has packets
+  pub one-waiting : (free first : ℕ) (outputs credits queues : List ℕ) → n * n ≤ length queues → (x k : ℕ) → k ≡ suc x → x < n
+      → One n other start (before x) free first outputs credits queues → (w : ℕ) → w ≡ ready-mask queues queues ((k - 1) * n) n
+      → w ≡ ready-mask start start (x * n) n
+  one-waiting free first outputs credits queues enough x k next l h w e =
+      e ∙ row-waiting n start (before x) free outputs queues (h .held) enough x k next l (one-beyond x k (omega arith))
+
+  module _ (free first : ℕ) (outputs credits queues : List ℕ) (long : n * n ≤ length credits) (enough : n * n ≤ length queues) (x k : ℕ)
+      (next : k ≡ suc x) (l : x < n) (h : One n other start (before x) free first outputs credits queues) (r : ℕ)
+      (found : r ≡ lowest (is-open n free credits queues k) n) where
+    -- input x + 1 holds none yet
+    free-yet : before x k ≡ 0
+    free-yet = one-beyond x k (omega arith)
+
+    -- and takes what the search finds
+    at-turn : r ≡ lowest (is-open n free credits queues (suc x)) n → before (suc x) ≡ updated (before x) (suc x) r
+    unfolding pass-one
+    at-turn e =
+        let wanted : ℕ → Bool = λ j. ltb 0 (word n other (suc x) j) && ltb 0 (word n start (suc x) j) in
+        ap (updated (before x) (suc x))
+        (sym (e
+        ∙ lowest-is n start other (before x) free outputs queues credits (h .held) (h .cost) long enough (suc x)
+        (omega arith) (one-beyond x (suc x) (omega arith))
+        ∙ lowest-ext _ _ n (λ j p. ap (λ b. not b && wanted j) (sym (given-short (before x) x n j (omega arith) (p .low) (one-beyond x))))))
+
+    one-next : before k ≡ updated (before x) k r
+    one-next = rw next (at-turn (rw next at found))
+
+    -- it takes none
+    pub one-none : r ≡ 0 → (credits′ queues′ : List ℕ) → credits′ ≡ charged n credits k r → queues′ ≡ charged n queues k r
+        → One n other start (before k) free first outputs credits′ queues′
+    one-none z credits′ queues′ c q =
+        let e : before k ≡ before x = one-next ∙ updated-same (before x) k r (free-yet ∙ sym z) in
+        rw (e, c ∙ charged-none n credits k r (omega arith), q ∙ charged-none n queues k r (omega arith)) h
+
+    -- it takes output r
+    pub one-some : 1 ≤ r → (free′ : ℕ) → ((j : ℕ) → Port 32 j → in-mask free′ j ≡ (in-mask free j && not (eqb j r))) → (mine : ℕ) → mine ≡ 2 ^ x
+        → (credits′ queues′ : List ℕ) → credits′ ≡ charged n credits k r → queues′ ≡ charged n queues k r
+        → One n other start (before k) free′ (bitOr first mine) (set outputs x r) credits′ queues′
+    one-some p free′ m mine b credits′ queues′ c q =
+        let port : Port n r = chosen n free credits queues k r found p .port in
+        let none : before x (suc x) ≡ 0 = one-beyond x (suc x) (omega arith) in
+        rw (one-next, b, c ∙ charged-some n credits k r p, q ∙ charged-some n queues k r p, next)
+        (record {
+          held = held-more n few start (before x) free outputs queues (h .held) x r free′ l none port m;
+          cost = rw (h .cost) (sym (spent-more n other (before x) (suc x) r n (omega arith) none p));
+          mark = rw (h .mark) (marked-set 32 _ x (omega arith) ∙ marked-ext 32 _ _ (λ i _. updated-above (before x) (suc x) r p i));
+        })
+
+-- PASS TWO: what the inputs hold, where pass one gave the outputs `one`
+module _ (n : ℕ) (few : n ≤ 32) (start : List ℕ) (one : ℕ → ℕ) where
+  -- after the turns of the inputs 1..x
+  abbrev after : ℕ → ℕ → ℕ
+  after x = pass-two n (word n start) one x
+
+  -- at the turn of input x + 1
+  module _ (free : ℕ) (outputs queues : List ℕ) (x k : ℕ) (next : k ≡ suc x) (h : Held n start (after x) free outputs queues) where
+    -- it holds what pass one gave
+    held-yet : after x (suc x) ≡ one (suc x)
+    held-yet = two-untouched n (word n start) one x (suc x) (omega arith)
+
+    stay : ltb 0 (one (suc x)) ≡ true → after (suc x) ≡ after x
+    unfolding pass-two
+    stay e = rw e (updated-same (after x) (suc x) (one (suc x)) held-yet)
+
+    -- it was served by pass one
+    pub two-served : ltb 0 (one (suc x)) ≡ true → Held n start (after k) free outputs queues
+    two-served e = rw (next, stay e) h
+
+    -- it was not, and holds none
+    none-yet : ltb 0 (one (suc x)) ≡ false → after x (suc x) ≡ 0
+    none-yet idle = held-yet ∙ omega (arith, ltb-false 0 (one (suc x)) idle)
+
+    -- the outputs for which it has packets
+    pub two-waiting : n * n ≤ length queues → x < n → ltb 0 (one (suc x)) ≡ false → (w : ℕ) → w ≡ ready-mask start start (x * n) n
+        → w ≡ ready-mask queues queues ((k - 1) * n) n
+    two-waiting enough l idle w e =
+        e ∙ sym (row-waiting n start (after x) free outputs queues h enough x k next l (ap (after x) next ∙ none-yet idle))
+
+    -- its turn
+    module _ (l : x < n) (enough : n * n ≤ length queues) (idle : ltb 0 (one (suc x)) ≡ false) (r : ℕ)
+        (found : r ≡ lowest (is-open n free queues queues k) n) where
+      -- and takes what the search finds
+      next-turn : r ≡ lowest (is-open n free queues queues (suc x)) n → after (suc x) ≡ updated (after x) (suc x) r
+      unfolding pass-two
+      next-turn e =
+          rw idle
+          (ap (updated (after x) (suc x))
+          (sym (e
+          ∙ lowest-is n start start (after x) free outputs queues queues h (h .cost) enough enough (suc x) (omega arith) (none-yet idle)
+          ∙ lowest-ext _ _ n (λ j p. ap (λ b. not (given (after x) n j) && b) (and-self (ltb 0 (word n start (suc x) j)))))))
+
+      two-next : after k ≡ updated (after x) k r
+      two-next = rw next (next-turn (rw next at found))
+
+      -- it takes none
+      pub two-none : r ≡ 0 → (queues′ : List ℕ) → queues′ ≡ charged n queues k r → Held n start (after k) free outputs queues′
+      two-none z queues′ q =
+          let e : after k ≡ after x = two-next ∙ updated-same (after x) k r (ap (after x) next ∙ none-yet idle ∙ sym z) in
+          rw (e, q ∙ charged-none n queues k r (omega arith)) h
+
+      -- it takes output r
+      pub two-some : 1 ≤ r → (free′ : ℕ) → ((j : ℕ) → Port 32 j → in-mask free′ j ≡ (in-mask free j && not (eqb j r))) → (queues′ : List ℕ)
+          → queues′ ≡ charged n queues k r → Held n start (after k) free′ (set outputs x r) queues′
+      two-some p free′ m queues′ q =
+          let port : Port n r = chosen n free queues queues k r found p .port in
+          rw (two-next, q ∙ charged-some n queues k r p, next)
+          (held-more n few start (after x) free outputs queues h x r free′ l (none-yet idle) port m)

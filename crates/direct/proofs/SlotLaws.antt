@@ -1,0 +1,103 @@
+-- A slot of the direct form: its steps together are the definition's, for pass two leaves what pass one gave. Assumes nothing.
+use mathlib.Core.Path.{_≡_, refl, sym, _∙_}
+use mathlib.Core.List.{List}
+use Prim.Native.Nat.{ℕ, _+_, _*_, _≤_, _<_}
+use native.Mathlib.Decide.{decLt}
+use native.Mathlib.Omega.{arith}
+use borrow.Author.Tests.{eq-eqb, ne-eqb, lt-ltb, le-ltb}
+use lib.Dec.{ltb}
+use lib.ListN.{replicate}
+use Rattle.wsgs.specs.declared.Ticked.{Ticked}
+use Rattle.wsgs.specs.Basics.{pick, Port}
+use Rattle.wsgs.specs.Words.{word, copied}
+use Rattle.wsgs.specs.Frames.{first-of-frame}
+use Rattle.wsgs.specs.Steps.{Matching, nobody, pass-two, listed, marked, outputs-of, pass-word-of}
+use Rattle.wsgs.specs.Questions.{Outcome, refused}
+use Rattle.wsgs.specs.Answers.{clock-of, ticked-of}
+use Rattle.wsgs.specs.Direct.{Runs, loaded, paired, spent, tick-refusal, ticked, tick}
+use Rattle.wsgs.proofs.Steps.{two-keeps}
+use Rattle.wsgs.proofs.Laws.Listed.{listed-none}
+use Rattle.wsgs.proofs.Laws.Marked.{marked-none}
+use Rattle.direct.specs.Passes.{Held, ones, SlotRun}
+use Rattle.direct.proofs.Spent.{spent-ext}
+
+-- a matching as it is answered
+outputs-are : (m : Matching) → outputs-of m ≡ listed 32 (m .output)
+unfolding outputs-of
+outputs-are m = refl
+
+mark-is : (m : Matching) → pass-word-of m ≡ marked 32 (m .first)
+unfolding pass-word-of
+mark-is m = refl
+
+-- slot k on the runs w
+module _ (n f k : ℕ) (w : Runs) where
+  abbrev loads : List ℕ
+  loads = loaded n f k w
+
+  abbrev one : ℕ → ℕ
+  one = ones n loads (w .queues)
+
+  abbrev two : ℕ → ℕ
+  two = pass-two n (word n (w .queues)) one n
+
+  -- the outputs that pass one gave are still those of its inputs
+  ones-stay : (i : ℕ) → Port n i → one i ≡ pick (ltb 0 (one i)) (two i) 0
+  ones-stay i p = go (decLt 0 (one i))
+    where
+      go : Dec (0 < one i) → one i ≡ pick (ltb 0 (one i)) (two i) 0
+      go (yes h) = rw (lt-ltb 0 (one i) h) (sym (two-keeps n (word n (w .queues)) one i p h))
+      go (no h) = rw (le-ltb 0 (one i) (omega arith)) (omega arith)
+
+  -- step 1, and the pairs
+  loads-are : pick (first-of-frame f k) (copied (n * n) (w .bookings) (w .credits)) (w .credits) ≡ loads
+  unfolding loaded
+  loads-are = refl
+
+  pairs-are : paired n f k w ≡ record { output = two; first = λ i. ltb 0 (one i) }
+  unfolding paired
+  pairs-are = refl
+
+  -- the passes on the credits of step 1
+  pub slot-run : (start : List ℕ) → start ≡ pick (first-of-frame f k) (copied (n * n) (w .bookings) (w .credits)) (w .credits)
+      → (free first : ℕ) (outputs credits queues : List ℕ)
+      → Held n (w .queues) (pass-two n (word n (w .queues)) (ones n start (w .queues)) n) free outputs queues
+      → first ≡ marked 32 (λ i. ltb 0 (ones n start (w .queues) i))
+      → credits ≡ spent n start (ones n start (w .queues)) n
+      → SlotRun n f k w outputs first credits queues
+  slot-run start e free first outputs credits queues h m c =
+      let d : start ≡ loads = e ∙ loads-are in
+      let held = rw d at h in
+      record {
+        answer = rw pairs-are (held .list ∙ sym (outputs-are _));
+        mark = rw pairs-are ((rw d at m) ∙ sym (mark-is _));
+        credits-left = rw pairs-are ((rw d at c) ∙ spent-ext n loads one _ n ones-stay);
+        queues-left = rw pairs-are (held .cost);
+      }
+
+-- A tick is refused or runs the slot, as its refusal says.
+module _ (n f s : ℕ) (w : Runs) (r : ℕ) (asked : r ≡ tick-refusal (clock-of n f s) w) where
+  abbrev out : Outcome Runs
+  out = tick (clock-of n f s) w
+
+  -- what it leaves
+  out-refused : 1 ≤ r → out ≡ refused r (clock-of n f s) w
+  unfolding tick
+  out-refused h = rw (← asked, ne-eqb r 0 (omega arith))
+
+  out-ran : r ≤ 0 → out ≡ ticked (clock-of n f s) w
+  unfolding tick
+  out-ran h = rw (← asked, eq-eqb r 0 (omega arith))
+
+  -- a refused one answers zeros and the old slot
+  pub tick-refused : 1 ≤ r
+      → (_≡_ {A = Ticked} (record { refusal = r; slot = s; outputs = replicate 32 0; «first_pass» = 0 }) (ticked-of out))
+      × ((w .credits ≡ out .runs .credits) × (w .queues ≡ out .runs .queues))
+  tick-refused h = rw (out-refused h, outputs-are nobody, mark-is nobody, listed-none 32, marked-none 32) (refl, (refl, refl))
+
+  -- another answers the slot
+  pub tick-ran : r ≤ 0 → (first : ℕ) (outputs credits queues : List ℕ) → SlotRun n f (s + 1) w outputs first credits queues
+      → (_≡_ {A = Ticked} (record { refusal = 0; slot = s + 1; outputs = outputs; «first_pass» = first }) (ticked-of out))
+      × ((credits ≡ out .runs .credits) × (queues ≡ out .runs .queues))
+  unfolding ticked
+  tick-ran h first outputs credits queues d = rw (out-ran h, d .answer, d .mark, d .credits-left, d .queues-left) (refl, (refl, refl))

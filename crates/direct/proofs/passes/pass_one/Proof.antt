@@ -1,0 +1,180 @@
+-- `passes::pass_one` meets its contract. The loop's invariant is `One`: the outputs that the inputs hold are the definition's for the inputs so
+-- far, and mask, list, words and mark are as these say; besides, the outputs for which those inputs had packets are known, and the table has the
+-- bits of a word. The measure is the inputs left. Assumes nothing.
+use Prim.Native.Nat.{_+_, _-_, _≤_}
+use mathlib.Core.Path.{_≡_, refl, _∙_}
+use native.Mathlib.Numerals.{add-one}
+use native.Mathlib.Omega.{arith}
+use borrow.Author.Needs.{needs}
+use lib.ListN.{length, set}
+use Rattle.wsgs.specs.Basics.{lowest}
+use Rattle.wsgs.specs.Words.{word}
+use Rattle.wsgs.specs.Steps.{pass-one}
+use Rattle.turns.specs.Masks.{powers, is-open}
+use Rattle.direct.specs.Passes.{Waiting}
+use Rattle.turns.proofs.BitLaws.{one-shl}
+use Rattle.turns.proofs.MaskLaws.{free-first}
+use Rattle.turns.proofs.Choice.{Chosen, chosen}
+use Rattle.turns.proofs.TurnLaws.{first-output, first-waiting}
+use Rattle.direct.proofs.PassLaws.{One, one-start, one-waiting, waiting-next, one-none, one-some}
+use Rattle.direct.proofs.passes.pass_one.Statement.{statement}
+use Rattle.direct.proofs.passes.pass_one.Tie as tie
+
+abbrev Inv-loop : tie.InvT-loop
+Inv-loop ports credits₀ queues₀ free₀ outputs₀ first-pass₀ waiting₀ bits row₀ credits queues free outputs first-pass waiting row =
+    (row ≤ ports)
+    × (length credits ≡ length credits₀)
+    × (length queues ≡ length queues₀)
+    × One ports credits₀ queues₀ (pass-one ports (word ports credits₀) (word ports queues₀) row) free first-pass outputs credits queues
+    × ((length waiting ≡ 32) × Waiting ports row queues₀ waiting)
+    × (bits ≡ powers 0 32)
+
+abbrev μ-loop : tie.MeasureT-loop
+μ-loop ports credits₀ queues₀ free₀ outputs₀ first-pass₀ waiting₀ bits row₀ credits queues free outputs first-pass waiting row =
+    ports - row
+
+-- from the test of a turn's output back to the turn, and from there to the loop's head and the entry
+abbrev turn : tie.After-struct-known Inv-loop μ-loop → tie.After-first-turn Inv-loop μ-loop
+turn c = c .before .before .before .before .before .before
+
+abbrev head : tie.After-first-turn Inv-loop μ-loop → tie.At-loop Inv-loop μ-loop
+head c = c .before .before .before .before .before
+
+abbrev start : tie.At-loop Inv-loop μ-loop → tie.Start Inv-loop μ-loop
+start c = c .before .before .before .before
+
+-- the output that a turn finds
+found : (t : tie.After-first-turn Inv-loop μ-loop) → let l = head t in let n = start l .args .ports in
+    t .first-turn .result .output .0 ≡ lowest (is-open n (l .loop .free) (l .loop .credits) (l .loop .queues) (l .loop .row + 1)) n
+found t =
+    let l = head t in
+    first-output _ (omega arith) _ (omega arith) _ (l .loop .inv .5) _ _ (omega arith) (omega arith) _ _ (t .first-turn .ensures .0)
+
+-- the output that is taken
+taken : (c : tie.Else1 Inv-loop μ-loop) → let t = turn (c .before) in let l = head t in
+    Chosen (start l .args .ports) (l .loop .free) (l .loop .credits) (l .loop .queues) (l .loop .row + 1) (t .first-turn .result .output .0)
+taken c = chosen _ _ _ _ _ _ (found (turn (c .before))) (omega (arith, c .if1 .left))
+
+-- the outputs for which the input had packets
+known : (t : tie.After-first-turn Inv-loop μ-loop) → let l = head t in let waiting = set (l .loop .waiting) (l .loop .row) (t .first-turn .result .waiting) in
+    (length waiting ≡ 32) × Waiting (start l .args .ports) (l .loop .row + 1) (start l .args .queues .now) waiting
+known t =
+    let l = head t in
+    waiting-next _ _ (l .loop .waiting) (l .loop .row) _ (omega arith) (l .loop .inv .4)
+    (one-waiting _ (omega arith) _ _ _ _ _ _ _ (omega arith) (l .loop .row) _ (add-one _) (omega arith) (l .loop .inv .3) _
+    (first-waiting _ (omega arith) (l .loop .row + 1) (omega arith) _ (l .loop .inv .5) (l .loop .credits) _ (omega arith) (omega arith) _
+    (t .first-turn .ensures .1 .1 .1)))
+
+all-free-requires : tie.Need-all-free-requires Inv-loop μ-loop
+all-free-requires c κs = search needs
+
+loop-holds : tie.Need-loop-holds Inv-loop μ-loop
+unfolding powers
+loop-holds c = (search needs, refl, refl, one-start _ (omega arith) _ _ _ (free-first _ _ (omega arith) (c .all-free .ensures)), (refl, λ k l. absurd (omega arith)), refl)
+
+add-t16 : tie.Need-add-t16 Inv-loop μ-loop
+add-t16 c = search needs
+
+first-turn-requires : tie.Need-first-turn-requires Inv-loop μ-loop
+first-turn-requires c κs = search needs
+
+mul-waiting : tie.Need-mul-waiting Inv-loop μ-loop
+mul-waiting c = search needs
+
+array-write-waiting : tie.Need-array-write-waiting Inv-loop μ-loop
+array-write-waiting c = search needs
+
+add-row : tie.Need-add-row Inv-loop μ-loop
+add-row c = search needs
+
+loop-less : tie.Need-loop-less Inv-loop μ-loop
+loop-less c = search needs
+
+loop-again : tie.Need-loop-again Inv-loop μ-loop
+loop-again c =
+    let t = turn (c .before) in
+    let l = head t in (
+      omega arith,
+      t .first-turn .kept .1 .1 .1 .1 .0 ∙ l .loop .inv .1,
+      t .first-turn .kept .1 .1 .1 .1 .1 .0 ∙ l .loop .inv .2,
+      one-none _ (omega arith) _ _ _ _ _ _ _ (omega arith) (omega arith) (l .loop .row) _ (add-one _) (omega arith) (l .loop .inv .3) _
+          (found t) (c .if1 .taken) _ _ (t .first-turn .ensures .1 .0) (t .first-turn .ensures .1 .1 .0),
+      known t,
+      l .loop .inv .5,
+    )
+
+without-requires : tie.Need-without-requires Inv-loop μ-loop
+without-requires c κs = let o = taken c in (omega (arith, o .port), o .free)
+
+cast-outputs : tie.Need-cast-outputs Inv-loop μ-loop
+cast-outputs c = omega (arith, taken (c .before .before) .port)
+
+array-write-outputs : tie.Need-array-write-outputs Inv-loop μ-loop
+array-write-outputs c = search needs
+
+cast-first-pass : tie.Need-cast-first-pass Inv-loop μ-loop
+cast-first-pass c = search needs
+
+shl-first-pass : tie.Need-shl-first-pass Inv-loop μ-loop
+shl-first-pass c = search needs
+
+add-row-2 : tie.Need-add-row-2 Inv-loop μ-loop
+add-row-2 c = search needs
+
+loop-less-2 : tie.Need-loop-less-2 Inv-loop μ-loop
+loop-less-2 c = search needs
+
+loop-again-2 : tie.Need-loop-again-2 Inv-loop μ-loop
+loop-again-2 c =
+    let w = c .before in
+    let t = turn (w .before .before) in
+    let l = head t in (
+      omega arith,
+      t .first-turn .kept .1 .1 .1 .1 .0 ∙ l .loop .inv .1,
+      t .first-turn .kept .1 .1 .1 .1 .1 .0 ∙ l .loop .inv .2,
+      one-some _ (omega arith) _ _ _ _ _ _ _ (omega arith) (omega arith) (l .loop .row) _ (add-one _) (omega arith) (l .loop .inv .3) _
+          (found t) (taken (w .before) .port .low) _ (w .without .ensures) _ (one-shl 32 (l .loop .row) (omega arith)) _ _
+          (t .first-turn .ensures .1 .0) (t .first-turn .ensures .1 .1 .0),
+      known t,
+      l .loop .inv .5,
+    )
+
+same-length : tie.Need-same-length Inv-loop μ-loop
+same-length c = search needs
+
+same-length-2 : tie.Need-same-length-2 Inv-loop μ-loop
+same-length-2 c = search needs
+
+returns : tie.Need-returns Inv-loop μ-loop
+returns c =
+    let l = c .before in
+    let e : l .loop .row ≡ start l .args .ports = omega arith in
+    let o = rw e at (l .loop .inv .3) in
+    (o .held, (o .mark, (o .cost, rw e at (l .loop .inv .4 .1))))
+
+pub pass-one-spec : {M : Type 1} → statement M
+pass-one-spec =
+    tie.close
+    (tie.spec
+    Inv-loop
+    μ-loop
+    all-free-requires
+    loop-holds
+    add-t16
+    first-turn-requires
+    mul-waiting
+    array-write-waiting
+    add-row
+    loop-less
+    loop-again
+    without-requires
+    cast-outputs
+    array-write-outputs
+    cast-first-pass
+    shl-first-pass
+    add-row-2
+    loop-less-2
+    loop-again-2
+    same-length
+    same-length-2
+    returns)

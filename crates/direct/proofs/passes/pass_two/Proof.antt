@@ -1,0 +1,183 @@
+-- `passes::pass_two` meets its contract. The loop's invariant is the contract's claim for the inputs so far. The measure is the inputs left.
+-- Assumes nothing.
+use Prim.Native.Nat.{ℕ, suc, _+_, _-_, _≤_}
+use mathlib.Core.Path.{_≡_, refl, _∙_}
+use mathlib.Core.Bool.{false}
+use mathlib.Core.List.{List}
+use native.Mathlib.Numerals.{add-one}
+use native.Mathlib.Omega.{arith}
+use borrow.Author.Needs.{needs}
+use lib.Dec.{ltb}
+use lib.ListN.{length}
+use Rattle.wsgs.specs.Basics.{lowest}
+use Rattle.wsgs.specs.Words.{word}
+use Rattle.wsgs.specs.Steps.{pass-two, marked}
+use Rattle.wsgs.proofs.Laws.Marked.{marked-yes, marked-no}
+use Rattle.direct.specs.Passes.{Held}
+use Rattle.turns.specs.Masks.{is-open}
+use Rattle.turns.proofs.Choice.{Chosen, chosen}
+use Rattle.turns.proofs.TurnLaws.{waiting-output}
+use Rattle.direct.proofs.PassLaws.{two-served, two-waiting, two-none, two-some}
+use Rattle.direct.proofs.passes.pass_two.Statement.{statement}
+use Rattle.direct.proofs.passes.pass_two.Tie as tie
+
+abbrev Inv-loop : tie.InvT-loop
+Inv-loop ports queues₀ free₀ outputs₀ first-pass waiting row₀ queues free outputs row =
+    (row ≤ ports)
+    × (length queues ≡ length queues₀)
+    × ((start : List ℕ) (one : ℕ → ℕ) → Held ports start one free₀ outputs₀ queues₀ → first-pass ≡ marked 32 (λ i. ltb 0 (one i))
+    → Held ports start (pass-two ports (word ports start) one row) free outputs queues)
+
+abbrev μ-loop : tie.MeasureT-loop
+μ-loop ports queues₀ free₀ outputs₀ first-pass waiting row₀ queues free outputs row = ports - row
+
+-- from the test of a turn's output back to the turn, and from there to the loop's head and the entry
+abbrev turn : tie.After-struct-known Inv-loop μ-loop → tie.After-waiting-turn Inv-loop μ-loop
+turn c = c .before .before .before
+
+abbrev head : tie.After-waiting-turn Inv-loop μ-loop → tie.At-loop Inv-loop μ-loop
+head c = c .before .before .before .before
+
+abbrev start : tie.At-loop Inv-loop μ-loop → tie.Start Inv-loop μ-loop
+start c = c .before .before .before .before
+
+-- the input was not served by pass one
+idle : (e : tie.Else1 Inv-loop μ-loop) (one : ℕ → ℕ) → let l = e .before .before in
+    start l .args .passed .«first_pass» ≡ marked 32 (λ i. ltb 0 (one i)) → ltb 0 (one (suc (l .loop .row))) ≡ false
+idle e one m = marked-no 32 (λ i. ltb 0 (one i)) (e .before .before .loop .row) (omega arith) (rw m at (e .if1 .left))
+
+-- the output that a turn finds: pass two has not come to the input yet, so its packets are those that pass one saw
+found : (t : tie.After-waiting-turn Inv-loop μ-loop) → let l = head t in let n = start l .args .ports in
+    t .waiting-turn .result .0 ≡ lowest (is-open n (l .loop .free) (l .loop .queues) (l .loop .queues) (l .loop .row + 1)) n
+found t =
+    let l = head t in
+    let p = start l .pre .1 .1 in
+    let now = l .loop .inv .2 (p .start) (p .one) (p .held) (p .mark) in
+    waiting-output _ (omega arith) _ (omega arith) _ (omega arith) _
+    (two-waiting _ (omega arith) (p .start) (p .one) _ _ _ (l .loop .row) _ (add-one _) now (omega arith) (omega arith)
+    (idle (t .before .before) (p .one) (p .mark)) _ (p .known (l .loop .row) (omega arith)))
+    _ _ (t .waiting-turn .ensures .0)
+
+-- the output that is taken
+taken : (c : tie.Else2 Inv-loop μ-loop) → let t = turn (c .before) in let l = head t in
+    Chosen (start l .args .ports) (l .loop .free) (l .loop .queues) (l .loop .queues) (l .loop .row + 1) (t .waiting-turn .result .0)
+taken c = chosen _ _ _ _ _ _ (found (turn (c .before))) (omega (arith, c .if2 .left))
+
+loop-holds : tie.Need-loop-holds Inv-loop μ-loop
+unfolding pass-two
+loop-holds c = (search needs, refl, λ start one h m. h)
+
+cast-if1 : tie.Need-cast-if1 Inv-loop μ-loop
+cast-if1 c = search needs
+
+shr-if1 : tie.Need-shr-if1 Inv-loop μ-loop
+shr-if1 c = search needs
+
+add-row : tie.Need-add-row Inv-loop μ-loop
+add-row c = search needs
+
+loop-less : tie.Need-loop-less Inv-loop μ-loop
+loop-less c = search needs
+
+loop-again : tie.Need-loop-again Inv-loop μ-loop
+loop-again c =
+    let l = c .before .before in (
+      omega arith,
+      l .loop .inv .1,
+      λ st one h m.
+          two-served _ (omega arith) st one _ _ _ (l .loop .row) _ (add-one _) (l .loop .inv .2 st one h m)
+          (marked-yes 32 (λ i. ltb 0 (one i)) (l .loop .row) (omega arith) (rw m at (c .if1 .taken))),
+    )
+
+mul-waiting-turn : tie.Need-mul-waiting-turn Inv-loop μ-loop
+mul-waiting-turn c = search needs
+
+array-read-waiting-turn : tie.Need-array-read-waiting-turn Inv-loop μ-loop
+array-read-waiting-turn c = search needs
+
+add-t18 : tie.Need-add-t18 Inv-loop μ-loop
+add-t18 c = search needs
+
+waiting-turn-requires : tie.Need-waiting-turn-requires Inv-loop μ-loop
+waiting-turn-requires c κs = search needs
+
+add-row-2 : tie.Need-add-row-2 Inv-loop μ-loop
+add-row-2 c = search needs
+
+loop-less-2 : tie.Need-loop-less-2 Inv-loop μ-loop
+loop-less-2 c = search needs
+
+loop-again-2 : tie.Need-loop-again-2 Inv-loop μ-loop
+loop-again-2 c =
+    let t = turn (c .before) in
+    let l = head t in (
+      omega arith,
+      t .waiting-turn .kept .1 .1 .1 .1 .0 ∙ l .loop .inv .1,
+      λ st one h m.
+          two-none _ (omega arith) st one _ _ _ (l .loop .row) _ (add-one _) (l .loop .inv .2 st one h m) (omega arith) (omega arith)
+          (idle (t .before .before) one m) _ (found t) (c .if2 .taken) _ (t .waiting-turn .ensures .1),
+    )
+
+without-requires : tie.Need-without-requires Inv-loop μ-loop
+without-requires c κs = let o = taken c in (omega (arith, o .port), o .free)
+
+cast-outputs : tie.Need-cast-outputs Inv-loop μ-loop
+cast-outputs c = omega (arith, taken (c .before .before) .port)
+
+array-write-outputs : tie.Need-array-write-outputs Inv-loop μ-loop
+array-write-outputs c = search needs
+
+add-row-3 : tie.Need-add-row-3 Inv-loop μ-loop
+add-row-3 c = search needs
+
+loop-less-3 : tie.Need-loop-less-3 Inv-loop μ-loop
+loop-less-3 c = search needs
+
+loop-again-3 : tie.Need-loop-again-3 Inv-loop μ-loop
+loop-again-3 c =
+    let w = c .before in
+    let t = turn (w .before .before) in
+    let l = head t in (
+      omega arith,
+      t .waiting-turn .kept .1 .1 .1 .1 .0 ∙ l .loop .inv .1,
+      λ st one h m.
+          two-some _ (omega arith) st one _ _ _ (l .loop .row) _ (add-one _) (l .loop .inv .2 st one h m) (omega arith) (omega arith)
+          (idle (t .before .before) one m) _ (found t) (taken (w .before) .port .low) _ (w .without .ensures) _ (t .waiting-turn .ensures .1),
+    )
+
+same-length : tie.Need-same-length Inv-loop μ-loop
+same-length c = search needs
+
+returns : tie.Need-returns Inv-loop μ-loop
+returns c =
+    let l = c .before in
+    let e : l .loop .row ≡ start l .args .ports = omega arith in
+    (λ st one h m. rw e at (l .loop .inv .2 st one h m), refl)
+
+pub pass-two-spec : {M : Type 1} → statement M
+pass-two-spec =
+    tie.close
+    (tie.spec
+    Inv-loop
+    μ-loop
+    loop-holds
+    cast-if1
+    shr-if1
+    add-row
+    loop-less
+    loop-again
+    mul-waiting-turn
+    array-read-waiting-turn
+    add-t18
+    waiting-turn-requires
+    add-row-2
+    loop-less-2
+    loop-again-2
+    without-requires
+    cast-outputs
+    array-write-outputs
+    add-row-3
+    loop-less-3
+    loop-again-3
+    same-length
+    returns)

@@ -1,0 +1,40 @@
+-- `direct::reload` meets its contract: both runs are long enough for the copy. Assumes nothing.
+use mathlib.Core.Path.{_∙_}
+use native.Mathlib.Omega.{arith}
+use borrow.Author.Tests.{eq-eqb, ne-eqb}
+use Rattle.wsgs.specs.Frames.{into-frame}
+use Rattle.words.proofs.Laws.{copy-fits}
+use borrow.Author.Needs.{needs}
+use Rattle.direct.proofs.reload.Statement.{statement}
+use Rattle.direct.proofs.reload.Tie as tie
+
+sub-if1 : tie.Need-sub-if1
+sub-if1 c = search needs
+
+rem-if1 : tie.Need-rem-if1
+rem-if1 c = search needs
+
+mul-copy-words : tie.Need-mul-copy-words
+mul-copy-words c = search needs
+
+copy-words-requires : tie.Need-copy-words-requires
+copy-words-requires c κs = search needs
+
+same-length : tie.Need-same-length
+same-length c = search needs
+
+returns : tie.Need-returns
+unfolding into-frame
+returns c =
+    let k = c .before .before in
+    let t = k .before .before in
+    k .copy-words .ensures ∙ copy-fits _ _ _ (omega arith) (omega arith) ∙ rw (eq-eqb _ _ (t .if1 .taken))
+
+returns-2 : tie.Need-returns-2
+unfolding into-frame
+returns-2 c = rw (ne-eqb _ _ (c .if1 .left))
+
+pub reload-spec : {M : Type 1} → statement M
+reload-spec =
+    tie.close
+    (tie.spec sub-if1 rem-if1 mul-copy-words copy-words-requires same-length returns returns-2)

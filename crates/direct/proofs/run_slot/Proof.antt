@@ -1,0 +1,44 @@
+-- `direct::run_slot` meets its contract: step 1 and the two passes together are the nine steps. Assumes nothing.
+use mathlib.Core.Path.{_∙_}
+use native.Mathlib.Omega.{arith}
+use borrow.Author.Needs.{needs}
+use Rattle.direct.proofs.SlotLaws.{slot-run}
+use Rattle.direct.proofs.run_slot.Statement.{statement}
+use Rattle.direct.proofs.run_slot.Tie as tie
+
+reload-requires : tie.Need-reload-requires
+reload-requires c κs = search needs
+
+pass-one-requires : tie.Need-pass-one-requires
+pass-one-requires c κs = search needs
+
+pass-two-requires : tie.Need-pass-two-requires
+pass-two-requires c κs =
+    let one = c .before .before .before .before .before .pass-one .ensures in
+    (omega arith, (omega arith, record { start = _; one = _; held = one .0; mark = one .1 .0; known = one .1 .1 .1 }))
+
+same-length : tie.Need-same-length
+same-length c = search needs
+
+same-length-2 : tie.Need-same-length-2
+same-length-2 c = search needs
+
+returns : tie.Need-returns
+returns c =
+    let t = c .before .before in
+    let o = t .before .before .before .before .before .before in
+    let l = o .before .before .before .before .before in
+    let one = o .pass-one .ensures in
+    let two = t .pass-two .ensures in
+    slot-run _ _ _ _ _ (l .reload .ensures) _ _ _ _ _ (two .0 _ _ (one .0) (one .1 .0)) (two .1 ∙ one .1 .0) (one .1 .1 .0)
+
+pub run-slot-spec : {M : Type 1} → statement M
+run-slot-spec =
+    tie.close
+    (tie.spec
+    reload-requires
+    pass-one-requires
+    pass-two-requires
+    same-length
+    same-length-2
+    returns)

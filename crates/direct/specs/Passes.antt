@@ -1,0 +1,48 @@
+-- What the passes of the direct form keep, and what a slot leaves. Assumes nothing.
+use mathlib.Core.Path.{_≡_}
+use mathlib.Core.Bool.{not}
+use mathlib.Core.List.{List}
+use Prim.Native.Nat.{ℕ, _*_, _≤_, _<_}
+use lib.Dec.{ltb}
+use lib.ListN.{getD}
+use Rattle.wsgs.specs.Basics.{Port}
+use Rattle.wsgs.specs.Words.{word}
+use Rattle.wsgs.specs.Steps.{given, listed, marked, pass-one, pass-two, outputs-of, pass-word-of}
+use Rattle.wsgs.specs.Direct.{Runs, loaded, paired, spent, first-outputs}
+use Rattle.turns.specs.Masks.{in-mask, ready-mask}
+
+-- the outputs f that the inputs hold, as the mask of the free outputs, as the listed outputs, and as the packets taken from the queues
+pub record Held (n : ℕ) (start : List ℕ) (f : ℕ → ℕ) (free : ℕ) (outputs queues : List ℕ) : Type 0 where
+  pub bound : (i : ℕ) → f i ≤ n
+  pub mask : (j : ℕ) → Port n j → in-mask free j ≡ not (given f n j)
+  pub list : outputs ≡ listed 32 f
+  pub cost : queues ≡ spent n start f n
+
+-- the outputs that pass one gives on credits and queues
+abbrev pub ones : ℕ → (credits queues : List ℕ) → ℕ → ℕ
+ones n credits queues = pass-one n (word n credits) (word n queues) n
+
+-- of the first x rows, from 0 on, the outputs for which a packet waits in the queues
+abbrev pub Waiting : (n x : ℕ) (queues waiting : List ℕ) → Type 0
+Waiting n x queues waiting = (k : ℕ) → k < x → getD waiting k 0 ≡ ready-mask queues queues (k * n) n
+
+-- pass one ran on some run of queues: the outputs that its inputs hold, and for which outputs they had packets before it
+pub record PassedOne (n first free : ℕ) (outputs waiting queues : List ℕ) : Type 0 where
+  pub start : List ℕ
+  pub one : ℕ → ℕ
+  pub held : Held n start one free outputs queues
+  pub mark : first ≡ marked 32 (λ i. ltb 0 (one i))
+  pub known : Waiting n n start waiting
+
+-- pass two, whatever the run of queues and the outputs of pass one were that its inputs hold: they then hold those of pass two
+abbrev pub PassTwo : (n first free : ℕ) (outputs queues : List ℕ) (free′ : ℕ) (outputs′ queues′ : List ℕ) → Type 0
+PassTwo n first free outputs queues free′ outputs′ queues′ =
+    (start : List ℕ) (one : ℕ → ℕ) → Held n start one free outputs queues → first ≡ marked 32 (λ i. ltb 0 (one i))
+    → Held n start (pass-two n (word n start) one n) free′ outputs′ queues′
+
+-- slot k has been run on the runs w: the answer is the paired inputs', and each pair has taken a packet, and by pass one a credit too
+pub record SlotRun (n f k : ℕ) (w : Runs) (outputs : List ℕ) (first-pass : ℕ) (credits queues : List ℕ) : Type 0 where
+  pub answer : outputs ≡ outputs-of (paired n f k w)
+  pub mark : first-pass ≡ pass-word-of (paired n f k w)
+  pub credits-left : credits ≡ spent n (loaded n f k w) (first-outputs (paired n f k w)) n
+  pub queues-left : queues ≡ spent n (w .queues) (paired n f k w .output) n

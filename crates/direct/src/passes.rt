@@ -1,0 +1,89 @@
+// The two passes of a slot of the direct form.
+ghost use mathlib.Core.Path.{_≡_};
+ghost use Prim.Native.Nat.{_*_, _≤_};
+ghost use lib.Dec.{ltb};
+ghost use lib.ListN.{length};
+ghost use Rattle.wsgs.specs.Steps.{marked};
+ghost use Rattle.wsgs.specs.Direct.{spent};
+ghost use Rattle.direct.specs.Passes.{Held, ones, Waiting, PassedOne, PassTwo};
+use super::masks::without;
+use turns::BITS;
+use turns::all_free;
+use turns::first_turn;
+use turns::waiting_turn;
+use wsgs::Input;
+
+// What the passes hand on: the outputs that are free; the output of each input from 1 on, 0 for none; a word whose bit i - 1 tells that pass
+// one served input i; and of each input the outputs for which it had a packet at its turn of pass one.
+pub struct Passed {
+    pub free: u32,
+    pub outputs: [u8; 32],
+    pub first_pass: u32,
+    pub waiting: [u32; 32],
+}
+
+// Pass one: the inputs in turn, each with the lowest free output for which it has a credit and a packet.
+pub fn pass_one(ports: usize, credits: &mut [u32], queues: &mut [u32]) -> Passed
+    requires { ⌜ ports ≤ 32 ⌝ }
+    requires { ⌜ ports * ports ≤ length (now credits) ⌝ }
+    requires { ⌜ ports * ports ≤ length (now queues) ⌝ }
+    ensures { λ r. ⌜ Held ports (now (queues .entry)) (ones ports (now (credits .entry)) (now (queues .entry))) (r .free) (r .outputs) (now (queues .exit)) ⌝ }
+    ensures { λ r. ⌜ r .«first_pass» ≡ marked 32 (λ i. ltb 0 (ones ports (now (credits .entry)) (now (queues .entry)) i)) ⌝ }
+    ensures { λ r. ⌜ now (credits .exit) ≡ spent ports (now (credits .entry)) (ones ports (now (credits .entry)) (now (queues .entry))) ports ⌝ }
+    ensures { λ r. ⌜ Waiting ports ports (now (queues .entry)) (r .waiting) ⌝ }
+{
+    let mut free = all_free(ports);
+    let mut outputs = [0u8; 32];
+    let mut first_pass = 0u32;
+    let mut waiting = [0u32; 32];
+    let bits = BITS;
+    for row in 0..ports {
+        let input = Input(row as u64 + 1);
+        let turn = first_turn(&bits, free, ports, input, credits, queues);
+        waiting[row] = turn.waiting;
+        let output = turn.output;
+        if output.0 == 0 {
+            continue;
+        }
+        free = without(free, output);
+        outputs[row] = output.0 as u8;
+        first_pass |= 1 << row;
+    }
+    Passed {
+        free,
+        outputs,
+        first_pass,
+        waiting,
+    }
+}
+
+// Pass two: the inputs in turn that pass one did not serve, each with the lowest free output for which it has a packet.
+pub fn pass_two(passed: Passed, ports: usize, queues: &mut [u32]) -> Passed
+    requires { ⌜ ports ≤ 32 ⌝ }
+    requires { ⌜ ports * ports ≤ length (now queues) ⌝ }
+    requires { ⌜ PassedOne ports (passed .«first_pass») (passed .free) (passed .outputs) (passed .waiting) (now queues) ⌝ }
+    ensures { λ r. ⌜ PassTwo ports (passed .«first_pass») (passed .free) (passed .outputs) (now (queues .entry)) (r .free) (r .outputs) (now (queues .exit)) ⌝ }
+    ensures { λ r. ⌜ r .«first_pass» ≡ passed .«first_pass» ⌝ }
+{
+    let mut free = passed.free;
+    let mut outputs = passed.outputs;
+    let first_pass = passed.first_pass;
+    let waiting = passed.waiting;
+    for row in 0..ports {
+        if (first_pass >> row) & 1 == 1 {
+            continue;
+        }
+        let output = waiting_turn(free, waiting[row], ports, Input(row as u64 + 1), queues);
+        if output.0 == 0 {
+            continue;
+        }
+        free = without(free, output);
+        outputs[row] = output.0 as u8;
+    }
+    Passed {
+        free,
+        outputs,
+        first_pass,
+        waiting,
+    }
+}

@@ -1,0 +1,104 @@
+-- `flight::hand_out` meets its contract. The loop's invariant: the outputs and the pass-one word are those of the inputs so far.
+-- Assumes nothing.
+use Prim.Native.Nat.{_+_, _-_, _≤_}
+use mathlib.Core.Path.{sym, _∙_}
+use mathlib.Core.Logic.{⊎-elim}
+use native.Mathlib.Omega.{arith}
+use borrow.Author.Needs.{needs}
+use Rattle.pipelined.proofs.FlightPairs.{Handed, handed-none, handed-first, handed-other, handed-all}
+use Rattle.pipelined.proofs.flight.hand_out.Statement.{statement}
+use Rattle.pipelined.proofs.flight.hand_out.Tie as tie
+
+abbrev Inv-loop : tie.InvT-loop
+Inv-loop ports time flight highest row outputs₀ first-pass₀ column₀ outputs first-pass column = (column ≤ ports) × Handed ports (time + 1) flight column outputs first-pass
+
+abbrev μ-loop : tie.MeasureT-loop
+μ-loop ports time flight highest row outputs₀ first-pass₀ column₀ outputs first-pass column = ports - column
+
+cast-highest : tie.Need-cast-highest Inv-loop μ-loop
+cast-highest c = search needs
+
+add-row-of : tie.Need-add-row-of Inv-loop μ-loop
+add-row-of c = search needs
+
+row-of-requires : tie.Need-row-of-requires Inv-loop μ-loop
+row-of-requires c κs = search needs
+
+loop-holds : tie.Need-loop-holds Inv-loop μ-loop
+loop-holds c = (search needs, handed-none _ _ _)
+
+add-word : tie.Need-add-word Inv-loop μ-loop
+add-word c = search needs
+
+mul-word : tie.Need-mul-word Inv-loop μ-loop
+mul-word c = search needs
+
+shared-slice-read-word : tie.Need-shared-slice-read-word Inv-loop μ-loop
+shared-slice-read-word c = search needs
+
+output-of-requires : tie.Need-output-of-requires Inv-loop μ-loop
+output-of-requires c κs = search needs
+
+cast-outputs : tie.Need-cast-outputs Inv-loop μ-loop
+cast-outputs c = search needs
+
+array-write-outputs : tie.Need-array-write-outputs Inv-loop μ-loop
+array-write-outputs c = search needs
+
+is-by-first-requires : tie.Need-is-by-first-requires Inv-loop μ-loop
+is-by-first-requires c κs = search needs
+
+cast-first-pass : tie.Need-cast-first-pass Inv-loop μ-loop
+cast-first-pass c = search needs
+
+shl-first-pass : tie.Need-shl-first-pass Inv-loop μ-loop
+shl-first-pass c = search needs
+
+add-column : tie.Need-add-column Inv-loop μ-loop
+add-column c = search needs
+
+loop-less : tie.Need-loop-less Inv-loop μ-loop
+loop-less c = search needs
+
+loop-again : tie.Need-loop-again Inv-loop μ-loop
+loop-again c =
+    let f = c .before in
+    let o = f .before .before in
+    let l = o .before .before .before in (
+      omega arith,
+      ⊎-elim
+          (λ w. rw (w .1)
+          (handed-first _ _ _ _ _ _ _ _ (omega arith) (l .before .row-of .ensures .0) (l .loop .inv .1) (o .output-of .ensures .0)
+          (sym (f .is-by-first .ensures) ∙ w .0 .taken)))
+          (λ w. rw (w .1)
+          (handed-other _ _ _ _ _ _ _ _ (omega arith) (l .before .row-of .ensures .0) (l .loop .inv .1) (o .output-of .ensures .0)
+          (sym (f .is-by-first .ensures) ∙ w .0 .left)))
+          (c .if1 .came),
+    )
+
+returns : tie.Need-returns Inv-loop μ-loop
+returns c = handed-all _ _ _ _ _ _ _ (omega arith) (c .before .loop .inv .1)
+
+pub hand-out-spec : {M : Type 1} → statement M
+hand-out-spec =
+    tie.close
+    (tie.spec
+    Inv-loop
+    μ-loop
+    cast-highest
+    add-row-of
+    row-of-requires
+    loop-holds
+    add-word
+    mul-word
+    shared-slice-read-word
+    output-of-requires
+    cast-outputs
+    array-write-outputs
+    is-by-first-requires
+    cast-first-pass
+    shl-first-pass
+    add-column
+    loop-less
+    loop-again
+    returns)

@@ -1,0 +1,138 @@
+-- `pipeline_turns::turn_one` meets its contract: the three ways that its tests leave are those of the definition. Assumes nothing.
+use mathlib.Core.Path.{_≡_}
+use Prim.Native.Nat.{_≤_}
+use native.Mathlib.Omega.{arith}
+use borrow.Author.Needs.{needs}
+use Rattle.wsgs.specs.Basics.{lowest}
+use Rattle.turns.specs.Masks.{is-open}
+use Rattle.turns.proofs.Choice.{chosen}
+use Rattle.turns.proofs.TurnLaws.{first-output}
+use Rattle.pipelined.proofs.PipelinedTurns.{turn-one-held, turn-one-some, turn-one-none}
+use Rattle.pipelined.proofs.pipeline_turns.turn_one.Statement.{statement}
+use Rattle.pipelined.proofs.pipeline_turns.turn_one.Tie as tie
+
+-- the calls, from the last on
+abbrev turned : tie.After-struct-known3 → tie.After-first-turn
+turned c = c .before .before .before .before .before .before
+
+abbrev freed : tie.After-first-turn → tie.After-free-for
+freed c = c .before .before .before
+
+abbrev read : tie.After-free-for → tie.After-output-of
+read c = c .before .before .before .before
+
+abbrev start : tie.After-output-of → tie.Start
+start c = c .before .before .before .before .before .before
+
+sub-at : tie.Need-sub-at
+sub-at c = search needs
+
+add-at : tie.Need-add-at
+add-at c = search needs
+
+mul-output-of : tie.Need-mul-output-of
+mul-output-of c = search needs
+
+slice-read-output-of : tie.Need-slice-read-output-of
+slice-read-output-of c = search needs
+
+output-of-requires : tie.Need-output-of-requires
+output-of-requires c κs = search needs
+
+returns : tie.Need-returns
+returns c = λ s e.
+    let o = c .before .before in
+    turn-one-held _ s _ _ _ _ _ _ e (o .output-of .ensures .0) (c .if1 .taken)
+
+free-for-requires : tie.Need-free-for-requires
+free-for-requires c κs = search needs
+
+first-turn-requires : tie.Need-first-turn-requires
+first-turn-requires c κs = search needs
+
+-- the output that the turn finds
+found : (t : tie.After-first-turn) → let a = start (read (freed t)) .args in
+    t .first-turn .result .output .0
+    ≡ lowest (is-open (a .ports) (freed t .free-for .result) (a .credits .now) (a .queues .now) (a .input .0)) (a .ports)
+found t =
+    let p = start (read (freed t)) .pre in
+    first-output _ (p .0) _ (p .1 .0) _ (p .1 .1 .1 .1 .1) _ _ (p .1 .1 .0) (p .1 .1 .1 .0) _ _ (t .first-turn .ensures .0)
+
+-- the output that is taken is a port
+small : (c : tie.Then2) → turned (c .before) .first-turn .result .output .0 ≤ 32
+small c =
+    let t = turned (c .before) in
+    let p = chosen _ _ _ _ _ _ (found t) (c .if2 .taken) .port in
+    omega (arith, start (read (freed t)) .pre .0)
+
+cast-flight : tie.Need-cast-flight
+cast-flight c = omega (arith, small (c .before))
+
+add-flight : tie.Need-add-flight
+add-flight c = omega (arith, small (c .before))
+
+-- as where the place was read
+mul-flight : tie.Need-mul-flight
+mul-flight c = mul-output-of (read (freed (turned (c .before .before))) .before .before)
+
+slice-write-flight : tie.Need-slice-write-flight
+slice-write-flight c = let p = start (read (freed (turned (c .before .before)))) .pre in omega (arith, p .1 .0, p .1 .1 .1 .1 .0)
+
+same-length : tie.Need-same-length
+same-length c = search needs
+
+same-length-2 : tie.Need-same-length-2
+same-length-2 c = search needs
+
+same-length-3 : tie.Need-same-length-3
+same-length-3 c = search needs
+
+returns-2 : tie.Need-returns-2
+returns-2 c = λ s e.
+    let t = turned (c .before .before) in
+    let f = freed t in
+    let o = read f in
+    turn-one-some _ s _ _ _ _ _ _ e (o .output-of .ensures .0) (f .before .before .if1 .left) _ _ (f .free-for .ensures s e)
+    (found t) _ _ (t .first-turn .ensures .1 .0) (t .first-turn .ensures .1 .1 .0) (c .before .if2 .taken)
+
+same-length-4 : tie.Need-same-length-4
+same-length-4 c = search needs
+
+same-length-5 : tie.Need-same-length-5
+same-length-5 c = search needs
+
+same-length-6 : tie.Need-same-length-6
+same-length-6 c = search needs
+
+returns-3 : tie.Need-returns-3
+returns-3 c = λ s e.
+    let t = turned (c .before) in
+    let f = freed t in
+    let o = read f in
+    turn-one-none _ s _ _ _ _ _ _ e (o .output-of .ensures .0) (f .before .before .if1 .left) _ _ (f .free-for .ensures s e)
+    (found t) _ _ (t .first-turn .ensures .1 .0) (t .first-turn .ensures .1 .1 .0) (c .if2 .left)
+
+pub turn-one-spec : {M : Type 1} → statement M
+turn-one-spec =
+    tie.close
+    (tie.spec
+    sub-at
+    add-at
+    mul-output-of
+    slice-read-output-of
+    output-of-requires
+    returns
+    free-for-requires
+    first-turn-requires
+    cast-flight
+    add-flight
+    mul-flight
+    slice-write-flight
+    same-length
+    same-length-2
+    same-length-3
+    returns-2
+    same-length-4
+    same-length-5
+    same-length-6
+    returns-3)

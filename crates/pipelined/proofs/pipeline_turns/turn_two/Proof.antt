@@ -1,0 +1,125 @@
+-- `pipeline_turns::turn_two` meets its contract: the three ways that its tests leave are those of the definition. Assumes nothing.
+use mathlib.Core.Path.{_≡_}
+use Prim.Native.Nat.{_≤_}
+use native.Mathlib.Omega.{arith}
+use borrow.Author.Needs.{needs}
+use Rattle.wsgs.specs.Basics.{lowest}
+use Rattle.turns.specs.Masks.{is-open}
+use Rattle.turns.proofs.Choice.{chosen}
+use Rattle.turns.proofs.TurnLaws.{second-output}
+use Rattle.pipelined.proofs.PipelinedTurns.{turn-two-held, turn-two-some, turn-two-none}
+use Rattle.pipelined.proofs.pipeline_turns.turn_two.Statement.{statement}
+use Rattle.pipelined.proofs.pipeline_turns.turn_two.Tie as tie
+
+-- the calls, from the last on
+abbrev turned : tie.After-struct-known3 → tie.After-second-turn
+turned c = c .before .before .before
+
+abbrev freed : tie.After-second-turn → tie.After-free-for
+freed c = c .before .before
+
+abbrev read : tie.After-free-for → tie.After-output-of
+read c = c .before .before .before .before
+
+abbrev start : tie.After-output-of → tie.Start
+start c = c .before .before .before .before .before
+
+-- the output that the turn finds
+found : (t : tie.After-second-turn) → let a = start (read (freed t)) .args in
+    t .second-turn .result .0
+    ≡ lowest (is-open (a .ports) (freed t .free-for .result) (a .queues .now) (a .queues .now) (a .input .0)) (a .ports)
+found t =
+    let p = start (read (freed t)) .pre in
+    second-output _ (p .0) _ (p .1 .0) _ (p .1 .1 .1 .1) _ (p .1 .1 .0) _ _ (t .second-turn .ensures .0)
+
+sub-at : tie.Need-sub-at
+sub-at c = search needs
+
+add-at : tie.Need-add-at
+add-at c = search needs
+
+mul-output-of : tie.Need-mul-output-of
+mul-output-of c = search needs
+
+slice-read-output-of : tie.Need-slice-read-output-of
+slice-read-output-of c = search needs
+
+output-of-requires : tie.Need-output-of-requires
+output-of-requires c κs = search needs
+
+returns : tie.Need-returns
+returns c = λ s e cr.
+    let o = c .before .before in
+    turn-two-held _ s _ cr _ _ _ _ e (o .output-of .ensures .0) (c .if1 .taken)
+
+free-for-requires : tie.Need-free-for-requires
+free-for-requires c κs = search needs
+
+second-turn-requires : tie.Need-second-turn-requires
+second-turn-requires c κs = search needs
+
+-- the output that is taken is a port
+small : (c : tie.Then2) → turned (c .before) .second-turn .result .0 ≤ 32
+small c =
+    let t = turned (c .before) in
+    let p = chosen _ _ _ _ _ _ (found t) (c .if2 .taken) .port in
+    omega (arith, start (read (freed t)) .pre .0)
+
+cast-flight : tie.Need-cast-flight
+cast-flight c = omega (arith, small (c .before))
+
+mul-flight : tie.Need-mul-flight
+mul-flight c = search needs
+
+slice-write-flight : tie.Need-slice-write-flight
+slice-write-flight c = search needs
+
+same-length : tie.Need-same-length
+same-length c = search needs
+
+same-length-2 : tie.Need-same-length-2
+same-length-2 c = search needs
+
+returns-2 : tie.Need-returns-2
+returns-2 c = λ s e cr.
+    let t = turned (c .before .before) in
+    let f = freed t in
+    let o = read f in
+    turn-two-some _ s _ cr _ _ _ _ e (o .output-of .ensures .0) (f .before .before .if1 .left) _ _ (f .free-for .ensures s e)
+    (found t) _ (t .second-turn .ensures .1) (c .before .if2 .taken)
+
+same-length-3 : tie.Need-same-length-3
+same-length-3 c = search needs
+
+same-length-4 : tie.Need-same-length-4
+same-length-4 c = search needs
+
+returns-3 : tie.Need-returns-3
+returns-3 c = λ s e cr.
+    let t = turned (c .before) in
+    let f = freed t in
+    let o = read f in
+    turn-two-none _ s _ cr _ _ _ _ e (o .output-of .ensures .0) (f .before .before .if1 .left) _ _ (f .free-for .ensures s e)
+    (found t) _ (t .second-turn .ensures .1) (c .if2 .left)
+
+pub turn-two-spec : {M : Type 1} → statement M
+turn-two-spec =
+    tie.close
+    (tie.spec
+    sub-at
+    add-at
+    mul-output-of
+    slice-read-output-of
+    output-of-requires
+    returns
+    free-for-requires
+    second-turn-requires
+    cast-flight
+    mul-flight
+    slice-write-flight
+    same-length
+    same-length-2
+    returns-2
+    same-length-3
+    same-length-4
+    returns-3)

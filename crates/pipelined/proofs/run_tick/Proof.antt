@@ -1,0 +1,90 @@
+-- `pipelined::run_tick` meets its contract: what its calls ensure are the definition's steps. Assumes nothing.
+use native.Mathlib.Omega.{arith}
+use borrow.Author.Needs.{needs}
+use Rattle.pipelined.proofs.PipelinedTick.{ticked-left}
+use Rattle.pipelined.proofs.run_tick.Statement.{statement}
+use Rattle.pipelined.proofs.run_tick.Tie as tie
+
+-- the calls, from the last on, and the start
+abbrev turned : tie.After-hand-out → tie.After-all-turns
+turned c = c .before .before .before .before .before .before .before .before
+
+abbrev copied : tie.After-all-turns → tie.After-copy-bookings
+copied c = c .before .before .before .before .before .before .before
+
+abbrev looked : tie.After-copy-bookings → tie.After-look-ahead
+looked c = c .before .before
+
+abbrev start : tie.After-hand-out → tie.Start
+start c = looked (copied (turned c)) .before .before .before .before .before .before
+
+add-time : tie.Need-add-time
+add-time c = search needs
+
+cast-look-ahead : tie.Need-cast-look-ahead
+cast-look-ahead c = search needs
+
+look-ahead-requires : tie.Need-look-ahead-requires
+look-ahead-requires c κs = search needs
+
+copy-bookings-requires : tie.Need-copy-bookings-requires
+copy-bookings-requires c κs = search needs
+
+cast-all-turns : tie.Need-cast-all-turns
+cast-all-turns c = search needs
+
+all-turns-requires : tie.Need-all-turns-requires
+all-turns-requires c κs = search needs
+
+hand-out-requires : tie.Need-hand-out-requires
+hand-out-requires c κs = search needs
+
+cast-clear-row : tie.Need-cast-clear-row
+cast-clear-row c = omega (arith, start c .pre .1 .1 .1 .1)
+
+add-clear-row : tie.Need-add-clear-row
+add-clear-row c = omega (arith, start c .pre .1 .1 .1 .1)
+
+clear-row-requires : tie.Need-clear-row-requires
+clear-row-requires c κs = let p = start (c .before) .pre in omega (arith, p .0, p .1 .0 .ports, p .1 .0 .flight)
+
+same-length : tie.Need-same-length
+same-length c = search needs
+
+same-length-2 : tie.Need-same-length-2
+same-length-2 c = search needs
+
+same-length-3 : tie.Need-same-length-3
+same-length-3 c = search needs
+
+same-length-4 : tie.Need-same-length-4
+same-length-4 c = search needs
+
+returns : tie.Need-returns
+returns c =
+    let e = c .before .before in
+    let h = e .before .before in
+    let t = turned h in
+    let b = copied t in
+    let a = looked b .look-ahead .ensures in
+    ticked-left _ _ _ _ _ _ _ _ _ _ (b .copy-bookings .ensures _ _ (a .place) _ _ _) (t .all-turns .ensures _ a) (h .hand-out .ensures) (e .clear-row .ensures)
+
+pub run-tick-spec : {M : Type 1} → statement M
+run-tick-spec =
+    tie.close
+    (tie.spec
+    add-time
+    cast-look-ahead
+    look-ahead-requires
+    copy-bookings-requires
+    cast-all-turns
+    all-turns-requires
+    hand-out-requires
+    cast-clear-row
+    add-clear-row
+    clear-row-requires
+    same-length
+    same-length-2
+    same-length-3
+    same-length-4
+    returns)

@@ -1,0 +1,184 @@
+// The turns of a pipelined tick: each input works on one slot by pass one and on another by pass two.
+ghost use mathlib.Core.Path.{_≡_};
+ghost use mathlib.Core.List.{List};
+ghost use Prim.Native.Nat.{ℕ, _+_, _-_, _*_, _%_, _≤_, _<_};
+ghost use lib.ListN.{length};
+ghost use Rattle.wsgs.specs.Basics.{Port};
+ghost use Rattle.wsgs.specs.Frames.{into-frame};
+ghost use Rattle.wsgs.specs.Pipelined.{slot-one, turn-one, turn-two, reloaded, turns-of, turns};
+ghost use Rattle.turns.specs.Masks.{powers};
+ghost use Rattle.pipelined.specs.Turnings.{turning-of, Lent, Foreseen};
+use super::flight::free_for;
+use super::flight::output_of;
+use super::flight::row_before;
+use turns::BITS;
+use turns::first_turn;
+use turns::second_turn;
+use words::copy_words;
+use wsgs::Input;
+
+// An input's pass-one turn for the slot whose row begins at a place, if it has no output for it yet.
+fn turn_one(
+    bits: &[u32; 32],
+    ports: usize,
+    row: usize,
+    input: Input,
+    credits: &mut [u32],
+    queues: &mut [u32],
+    flight: &mut [u32],
+)
+    requires { ⌜ ports ≤ 32 ⌝ }
+    requires { ⌜ Port ports (input .0) ⌝ }
+    requires { ⌜ ports * ports ≤ length (now credits) ⌝ }
+    requires { ⌜ ports * ports ≤ length (now queues) ⌝ }
+    requires { ⌜ row + ports ≤ length (now flight) ⌝ }
+    requires { ⌜ now bits ≡ powers 0 32 ⌝ }
+    ensures { λ _. ⌜ ((s : ℕ) → row ≡ s % (2 * ports) * ports → turning-of (now (credits .exit)) (now (queues .exit)) (now (flight .exit)) ≡ turn-one ports s (input .0) (turning-of (now (credits .entry)) (now (queues .entry)) (now (flight .entry)))) ⌝ }
+{
+    let at = row + (input.0 - 1) as usize;
+    if output_of(ports, flight[at]).0 > 0 {
+        return;
+    }
+    let free = free_for(ports, row, flight);
+    let output = first_turn(bits, free, ports, input, credits, queues).output;
+    if output.0 > 0 {
+        flight[at] = 100 + output.0 as u32;
+    }
+}
+
+// An input's pass-two turn for the slot whose row begins at a place, if it has no output for it yet.
+fn turn_two(
+    bits: &[u32; 32],
+    ports: usize,
+    row: usize,
+    input: Input,
+    queues: &mut [u32],
+    flight: &mut [u32],
+)
+    requires { ⌜ ports ≤ 32 ⌝ }
+    requires { ⌜ Port ports (input .0) ⌝ }
+    requires { ⌜ ports * ports ≤ length (now queues) ⌝ }
+    requires { ⌜ row + ports ≤ length (now flight) ⌝ }
+    requires { ⌜ now bits ≡ powers 0 32 ⌝ }
+    ensures { λ _. ⌜ ((s : ℕ) → row ≡ s % (2 * ports) * ports → (c : List ℕ) → turning-of c (now (queues .exit)) (now (flight .exit)) ≡ turn-two ports s (input .0) (turning-of c (now (queues .entry)) (now (flight .entry)))) ⌝ }
+{
+    let at = row + (input.0 - 1) as usize;
+    if output_of(ports, flight[at]).0 > 0 {
+        return;
+    }
+    let free = free_for(ports, row, flight);
+    let output = second_turn(bits, free, ports, input, queues);
+    if output.0 > 0 {
+        flight[at] = output.0 as u32;
+    }
+}
+
+// Where the row of an input begins in a matrix.
+fn row_of_input(ports: usize, input: Input) -> usize
+    requires { ⌜ ports ≤ 32 ⌝ }
+    requires { ⌜ Port ports (input .0) ⌝ }
+    ensures is { λ r. ⌜ r ≡ (input .0 - 1) * ports ⌝ }
+    ensures within { λ r. ⌜ r + ports ≤ ports * ports ⌝ }
+{
+    (input.0 - 1) as usize * ports
+}
+
+// An input sets its row of credits from the frame copy where its slot of pass one is the first of a frame. `into` tells how many slots of its
+// frame come before slot time + 2N, which is that of input 1; that of input i comes i - 1 slots before.
+fn reload_row(ports: usize, into: u64, input: Input, copy: &[u32], credits: &mut [u32])
+    requires { ⌜ ports ≤ 32 ⌝ }
+    requires { ⌜ Port ports (input .0) ⌝ }
+    requires { ⌜ ports * ports ≤ length (now copy) ⌝ }
+    requires { ⌜ ports * ports ≤ length (now credits) ⌝ }
+    ensures { λ _. ⌜ ((frame time : ℕ) → ports ≤ frame → into ≡ into-frame frame (time + 2 * ports) → (q f : List ℕ) → turning-of (now (credits .exit)) q f ≡ reloaded ports frame (now (copy .entry)) (slot-one ports time (input .0)) (input .0) (turning-of (now (credits .entry)) q f)) ⌝ }
+{
+    if into == input.0 - 1 {
+        let row = row_of_input(ports, input);
+        copy_words(&copy[row..], &mut credits[row..], ports);
+    }
+}
+
+// What a tick knows of the slots ahead of its time: the number of the row of slot time + 2N + 1 and of slot time + N + 1, and how many slots of
+// its frame come before slot time + 2N.
+pub struct Ahead {
+    pub one: usize,
+    pub two: usize,
+    pub into: u64,
+}
+
+// What a tick knows of the slots ahead, so that no turn divides.
+pub fn look_ahead(ports: usize, frame: u64, time: u64) -> Ahead
+    requires { ⌜ 1 ≤ ports ⌝ }
+    requires { ⌜ ports ≤ 32 ⌝ }
+    requires { ⌜ ports ≤ frame ⌝ }
+    requires { ⌜ time ≤ 4000000000 ⌝ }
+    ensures { λ r. ⌜ Foreseen ports frame time (r .one) (r .two) (r .into) ⌝ }
+{
+    let rows = 2 * ports as u64;
+    Ahead {
+        one: ((time + 1) % rows) as usize,
+        two: ((time + ports as u64 + 1) % rows) as usize,
+        into: (time + rows - 1) % frame,
+    }
+}
+
+// An input's part in a tick: it reloads its credits, and has its turn of each pass. It has none before the time that is its number, when its
+// slots would be below 2N + 1 and N + 1.
+fn turns_of(
+    bits: &[u32; 32],
+    ports: usize,
+    time: u64,
+    ahead: Ahead,
+    input: Input,
+    copy: &[u32],
+    credits: &mut [u32],
+    queues: &mut [u32],
+    flight: &mut [u32],
+)
+    requires { ⌜ Lent ports (now copy) (now credits) (now queues) (now flight) ⌝ }
+    requires { ⌜ ahead .one < 2 * ports ⌝ }
+    requires { ⌜ ahead .two < 2 * ports ⌝ }
+    requires { ⌜ Port ports (input .0) ⌝ }
+    requires { ⌜ now bits ≡ powers 0 32 ⌝ }
+    ensures { λ _. ⌜ ((frame : ℕ) → Foreseen ports frame time (ahead .one) (ahead .two) (ahead .into) → turning-of (now (credits .exit)) (now (queues .exit)) (now (flight .exit)) ≡ turns-of ports frame (now (copy .entry)) time (input .0) (turning-of (now (credits .entry)) (now (queues .entry)) (now (flight .entry)))) ⌝ }
+{
+    if input.0 <= time {
+        reload_row(ports, ahead.into, input, copy, credits);
+        let one = row_before(ports, ahead.one, input);
+        turn_one(bits, ports, one, input, credits, queues, flight);
+        let two = row_before(ports, ahead.two, input);
+        turn_two(bits, ports, two, input, queues, flight);
+    }
+}
+
+// The turns of all inputs.
+pub fn all_turns(
+    ports: usize,
+    time: u64,
+    ahead: Ahead,
+    copy: &[u32],
+    credits: &mut [u32],
+    queues: &mut [u32],
+    flight: &mut [u32],
+)
+    requires { ⌜ Lent ports (now copy) (now credits) (now queues) (now flight) ⌝ }
+    requires { ⌜ ahead .one < 2 * ports ⌝ }
+    requires { ⌜ ahead .two < 2 * ports ⌝ }
+    ensures { λ _. ⌜ ((frame : ℕ) → Foreseen ports frame time (ahead .one) (ahead .two) (ahead .into) → turning-of (now (credits .exit)) (now (queues .exit)) (now (flight .exit)) ≡ turns ports frame (now (copy .entry)) time (turning-of (now (credits .entry)) (now (queues .entry)) (now (flight .entry))) ports) ⌝ }
+{
+    let bits = BITS;
+    for done in 0..ports {
+        let input = Input(done as u64 + 1);
+        turns_of(
+            &bits,
+            ports,
+            time,
+            ahead,
+            input,
+            copy,
+            credits,
+            queues,
+            flight,
+        );
+    }
+}

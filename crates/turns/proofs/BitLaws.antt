@@ -1,0 +1,67 @@
+-- The bits of a word, from 0 on: after one is cleared or set, and where the lowest n are set; and the ports of a mask, which are the bits from
+-- 1 on. They hold bit by bit. Assumes nothing.
+use mathlib.Core.Path.{_≡_, refl, sym, ap, _∙_}
+use mathlib.Core.Bool.{Bool, true, not, _&&_, and-true}
+use mathlib.Core.Logic.{_≢_}
+use Prim.Native.Nat.{ℕ, suc, _+_, _-_, _*_, _/_, _%_, _^_, _<_}
+use native.Mathlib.Nat.{div-self, div-eq-of-lt, one-mul, pow-suc, mul-mod-left}
+use native.Mathlib.Decide.{ℕ-discrete, decLt}
+use native.Mathlib.Omega.{arith}
+use borrow.Author.Tests.{eq-eqb, ne-eqb, eqb-true}
+use lib.Bits.{bitXor, xor-shr, xor-mod, xor-zero-r}
+use lib.Dec.{eqb}
+use lib.Pow.{pow-pos, pow-lt, pow-add, shl-exact, shl-shr, ones-lt, ones-split, high}
+use Rattle.turns.specs.Masks.{in-mask}
+
+-- bit k of w is set
+unfoldable pub bits : ℕ → ℕ → Bool
+bits w k = eqb (w / 2 ^ k % 2) 1
+
+-- output k + 1 of a mask is bit k
+pub mask-bit : (w k : ℕ) → in-mask w (suc k) ≡ bits w k
+unfolding in-mask bits
+mask-bit w k = ap (λ (x : ℕ). eqb (w / 2 ^ x % 2) 1) (omega arith)
+
+-- 1 << j, in a word of m bits
+pub one-shl : (m j : ℕ) → j < m → (1 * 2 ^ j) % 2 ^ m ≡ 2 ^ j
+one-shl m j h = shl-exact 1 j m (omega arith) (omega arith) ∙ one-mul (2 ^ j)
+
+-- 2 ^ j has bit j
+pub pow-here : (j : ℕ) → 2 ^ j / 2 ^ j % 2 ≡ 1
+pow-here j = rw (div-self (pow-pos j))
+
+-- and no other
+pub pow-other : (j k : ℕ) → k ≢ j → 2 ^ j / 2 ^ k % 2 ≡ 0
+pow-other j k ne = elim (decLt k j) [ yes l ↦ above l | no g ↦ below (omega arith) ]
+  where
+    below : j < k → 2 ^ j / 2 ^ k % 2 ≡ 0
+    below l = rw (div-eq-of-lt (pow-lt l))
+
+    above : k < j → 2 ^ j / 2 ^ k % 2 ≡ 0
+    above l =
+        let e : j ≡ suc (j - suc k) + k = omega arith in
+        ap (λ (x : ℕ). 2 ^ x / 2 ^ k % 2) e ∙ rw (pow-add 2 (suc (j - suc k)) k, shl-shr (2 ^ suc (j - suc k)) k, pow-suc) (mul-mod-left _ 2)
+
+-- bit k of a combination, by the bits
+xor-bit : (a b k : ℕ) → bitXor a b / 2 ^ k % 2 ≡ bitXor (a / 2 ^ k % 2) (b / 2 ^ k % 2)
+xor-bit a b k = ap (λ (x : ℕ). x % 2) (xor-shr a b k) ∙ xor-mod (a / 2 ^ k) (b / 2 ^ k) 1
+
+-- a set bit taken out
+pub bit-cleared : (w j : ℕ) → bits w j ≡ true → (k : ℕ) → bits (bitXor w (2 ^ j)) k ≡ (bits w k && not (eqb k j))
+unfolding bits
+bit-cleared w j e k = elim (ℕ-discrete k j) [ yes q ↦ here q | no ne ↦ other ne ]
+  where
+    here : k ≡ j → eqb (bitXor w (2 ^ j) / 2 ^ k % 2) 1 ≡ (eqb (w / 2 ^ k % 2) 1 && not (eqb k j))
+    here q = rw (q, xor-bit w (2 ^ j) j, pow-here j, eqb-true (w / 2 ^ j % 2) 1 e, eq-eqb j j refl)
+
+    other : k ≢ j → eqb (bitXor w (2 ^ j) / 2 ^ k % 2) 1 ≡ (eqb (w / 2 ^ k % 2) 1 && not (eqb k j))
+    other ne = rw (xor-bit w (2 ^ j) k, pow-other j k ne, xor-zero-r, ne-eqb k j ne) (sym (and-true (eqb (w / 2 ^ k % 2) 1)))
+
+-- the n lowest bits
+pub low-set : (n k : ℕ) → k < n → bits (2 ^ n - 1) k ≡ true
+unfolding bits
+low-set n k l =
+    let e : n ≡ suc (n - suc k) + k = omega arith in
+    let odd : (2 ^ suc (n - suc k) - 1) % 2 ≡ 1 = rw (pow-suc 2 (n - suc k)) (omega (arith, pow-pos (n - suc k))) in
+    ap (λ (x : ℕ). eqb ((2 ^ x - 1) / 2 ^ k % 2) 1) e
+    ∙ rw (ones-split (suc (n - suc k)) k, high (2 ^ suc (n - suc k) - 1) k (ones-lt k), odd)

@@ -1,0 +1,8 @@
+-- Laws that the functions' proofs cite, here and in the crates of the two forms.
+pub mod Places
+pub mod BitLaws
+pub mod TrailingLaws
+pub mod Ready
+pub mod MaskLaws
+pub mod Choice
+pub mod TurnLaws

@@ -1,0 +1,30 @@
+-- A set of outputs as one word, bit j - 1 for output j; the powers of 2; and the outputs that are open to an input. Assumes nothing.
+use mathlib.Core.Bool.{Bool, _&&_}
+use mathlib.Core.List.{List, [], _∷_}
+use Prim.Native.Nat.{ℕ, zero, suc, _+_, _-_, _/_, _%_, _^_, min}
+use lib.Dec.{eqb, ltb}
+use lib.ListN.{getD}
+use Rattle.wsgs.specs.Words.{word}
+use Rattle.wsgs.specs.Steps.{marked}
+
+-- output j stands in the set: bit j - 1 of the word is set
+unfoldable pub in-mask : ℕ → ℕ → Bool
+in-mask w j = eqb (w / 2 ^ (j - 1) % 2) 1
+
+-- the set of all outputs 1..n, of which a word has 32
+unfoldable pub all-free : ℕ → ℕ
+all-free n = 2 ^ min n 32 - 1
+
+-- the m powers of 2 from the k-th on
+unfoldable pub powers : ℕ → ℕ → List ℕ
+powers k zero = []
+powers k (suc m) = 2 ^ k ∷ powers (suc k) m
+
+-- output j is free, and the words of the pair (i, j) in two runs are above 0
+unfoldable pub is-open : ℕ → ℕ → List ℕ → List ℕ → ℕ → ℕ → Bool
+is-open n free one two i j = in-mask free j && (ltb 0 (word n one i j) && ltb 0 (word n two i j))
+
+-- the columns k below n, from 0 on, of the row that begins at a place, in which the words of two runs are above 0: bit k for column k
+unfoldable pub ready-mask : List ℕ → List ℕ → ℕ → ℕ → ℕ
+unfolding marked
+ready-mask one two row n = marked n (λ j. ltb 0 (getD one (row + (j - 1)) 0) && ltb 0 (getD two (row + (j - 1)) 0))
