@@ -17,14 +17,14 @@ pub fn put_refused(out: &mut [u8], at: usize, refused: Refused) -> usize
     if number == 0 {
         return at;
     }
-    at
-        + lines::refusal_line(
-            &mut out[at..],
-            refused.slot,
-            refused.input,
-            refused.output,
-            number as u64,
-        )
+    let count = lines::refusal_line(
+        &mut out[at..],
+        refused.slot,
+        refused.input,
+        refused.output,
+        number as u64,
+    );
+    at + count
 }
 
 // The lines of a slot's pairs, as a tick answers them.
@@ -39,7 +39,8 @@ fn put_pairs(
     requires { ⌜ at + 2912 ≤ length (now out) ⌝ }
     ensures { λ r. ⌜ Wrote (now (out .entry)) at (match-lines slot (matching-of outputs passes) ports) r (now (out .exit)) ⌝ }
 {
-    at + lines::slot_lines(&mut out[at..], slot, ports, outputs, passes)
+    let count = lines::slot_lines(&mut out[at..], slot, ports, outputs, passes);
+    at + count
 }
 
 // A slot's lines: of its pairs, or of its refusal.

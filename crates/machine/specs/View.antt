@@ -37,14 +37,14 @@ machine-of m a c q p f =
 abbrev pub with-switch : Program.Machine → Switch → Program.Machine
 with-switch m s = record { running = m .running; form = m .form; switch = s }
 
--- A REFUSAL: its line, which number 0 does not have
+-- A REFUSAL: number 0 is none, and has no line
 abbrev pub refused-text : Refused → List ℕ
 refused-text r = pick (eqb (r .number) 0) [] (refused-line (r .slot) (r .input) (r .output) (r .number))
 
 abbrev pub no-refusal : Refused
 no-refusal = record { slot = 0; input = 0; output = 0; number = 0 }
 
--- that of a call of a machine: before any accepted start or pipe it has its number alone
+-- that of a call, by its number: before any accepted start or pipe the line's three middle fields are 0
 abbrev pub refused-of : Program.Machine → ℕ → ℕ → ℕ → Refused
 refused-of m x y number =
     pick (m .running && ltb 0 number) (record { slot = m .switch .clock .slot; input = x; output = y; number = number })
