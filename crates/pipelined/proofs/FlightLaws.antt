@@ -14,10 +14,6 @@ use Rattle.wsgs.proofs.Laws.Tests.{in-range, range-in}
 pub row-within : (n r : ℕ) → r < 2 * n → r * n + n ≤ 2 * n * n
 row-within n r h = rw (← suc-mul r n) (mul-le-mul-right n h)
 
--- o is the output that a word in flight v is read as, 0 for none
-abbrev pub ReadAs : ℕ → ℕ → ℕ → Type 0
-ReadAs n v o = (o ≡ output-in n v) × (o ≤ n)
-
 module _ (n v : ℕ) where
   -- a word by pass one: less 101 in 32 bits, where what is below wraps, it is below the ports
   pub first-wrapped : (less : ℕ) → n ≤ 32 → less < 2 ^ 32 → (less + 101) % 2 ^ 32 ≡ v → ltb less n ≡ by-first n v
@@ -31,16 +27,21 @@ module _ (n v : ℕ) where
   pub first-low : by-first n v ≡ true → 101 ≤ v
   first-low e = in-range 101 (100 + n) v (rw e tt) .0
 
-  pub first-read : by-first n v ≡ true → ReadAs n v (v - 100)
-  first-read e = (rw e, omega (arith, in-range 101 (100 + n) v (rw e tt) .1))
+  first-high : by-first n v ≡ true → v ≤ 100 + n
+  first-high e = in-range 101 (100 + n) v (rw e tt) .1
 
-  -- a word by pass two
-  pub second-read : by-first n v ≡ false → 1 ≤ v → v ≤ n → ReadAs n v v
-  second-read e a b = (rw (e, le-leb 1 v a, le-leb v n b), b)
+  -- its column
+  pub first-column : by-first n v ≡ true → (v - 101 < n → output-in n v ≡ v - 101 + 1) × (n ≤ v - 101 → output-in n v ≡ 0)
+  first-column e = (λ h. rw e (omega (arith, first-low e)), λ h. absurd (omega (arith, first-low e, first-high e)))
 
-  -- any other
-  pub none-low : by-first n v ≡ false → v < 1 → ReadAs n v 0
-  none-low e a = (rw (e, lt-leb 1 v a), omega arith)
-
-  pub none-high : by-first n v ≡ false → n < v → ReadAs n v 0
-  none-high e b = (rw (e, lt-leb v n b, and-false (leb 1 v)), omega arith)
+  -- the column of any other word: it is one by pass two where it is below the ports
+  pub second-column : (less : ℕ) → by-first n v ≡ false → n ≤ 32 → less < 2 ^ 32 → (less + 1) % 2 ^ 32 ≡ v
+      → (less < n → output-in n v ≡ less + 1) × (n ≤ less → output-in n v ≡ 0)
+  second-column less e few fits w = (
+    λ h. rw (e, range-in 1 n v (omega arith) (omega arith)) (omega arith),
+    λ h. go (decLe 1 v) h,
+  )
+    where
+      go : Dec (1 ≤ v) → n ≤ less → output-in n v ≡ 0
+      go (yes l) h = rw (e, le-leb 1 v l, lt-leb v n (omega arith))
+      go (no l) h = rw (e, lt-leb 1 v (omega arith))

@@ -45,17 +45,15 @@ none-in : (j : ℕ) → in-mask 0 j ≡ false
 unfolding in-mask
 none-in j = rw (zero-div (2 ^ (j - 1)))
 
--- output o stands alone in its set, and none in the set of 0
-pub one-set : (o : ℕ) → 1 ≤ o → o ≤ 32 → (j : ℕ) → 1 ≤ j → in-mask ((1 * 2 ^ (o - 1)) % 2 ^ 32) j ≡ eqb o j
+-- the output of column k stands alone in its set, and none in the set of 0
+pub one-set : (k o : ℕ) → k < 32 → o ≡ k + 1 → (j : ℕ) → 1 ≤ j → in-mask ((1 * 2 ^ k) % 2 ^ 32) j ≡ eqb o j
 unfolding in-mask
-one-set zero h few j l = absurd (omega arith)
-one-set (suc o) h few zero l = absurd (omega arith)
-one-set (suc o) h few (suc j) l =
-    let d : suc o - 1 ≡ o = omega arith in
+one-set k o few is zero l = absurd (omega arith)
+one-set k o few is (suc j) l =
     let e : suc j - 1 ≡ j = omega arith in
-    rw (d, e, one-shl 32 o (omega arith), eqb·suc-suc o j) (power-bit o j)
+    rw (e, one-shl 32 k few, is, add-one k, eqb·suc-suc k j) (power-bit k j)
 
-pub none-set : (o : ℕ) → o ≤ 0 → (j : ℕ) → 1 ≤ j → in-mask 0 j ≡ eqb o j
+pub none-set : (o : ℕ) → o ≡ 0 → (j : ℕ) → 1 ≤ j → in-mask 0 j ≡ eqb o j
 none-set o h j l = none-in j ∙ sym (ne-eqb o j (λ e. omega arith))
 
 -- two sets together, and a set without another
@@ -88,15 +86,15 @@ module _ (n : ℕ) (flight : List ℕ) (row : ℕ) where
   unfolding some-of
   gathered-none = record { stand = λ j h. none-in j }
 
-  -- those of one input more, whose word in flight is read as o, with the set b of o alone
-  pub gathered-more : (column w o b : ℕ) → o ≡ output-in n (getD flight (row + column) 0) → ((j : ℕ) → 1 ≤ j → in-mask b j ≡ eqb o j)
+  -- those of one input more, with the set b of the output that its word in flight stands for
+  pub gathered-more : (column w b : ℕ) → ((j : ℕ) → 1 ≤ j → in-mask b j ≡ eqb (output-in n (getD flight (row + column) 0)) j)
       → Gathered n flight row column w → Gathered n flight row (column + 1) (bitOr w b)
   unfolding some-of
-  gathered-more column w o b read alone g =
+  gathered-more column w b alone g =
       record {
         stand = λ j h.
             set-or w b j
-            ∙ rw (add-one column, alone j h, g .stand j h, read)
+            ∙ rw (add-one column, alone j h, g .stand j h)
             (ap (λ x. eqb (output-in n (getD flight (row + x) 0)) j || given (read-in n flight row) column j) (omega arith));
       }
 

@@ -49,19 +49,16 @@ pub fn is_by_first(ports: u32, word: u32) -> bool
     wrapping_sub_u32(word, 101) < ports
 }
 
-// The number of the output that a word in flight stands for, 0 for none, in u32 as the words are.
-fn output_in(ports: u32, word: u32) -> u32
+// The column, from 0 on, of the output that a word in flight stands for; where it stands for none, a number that is not below the ports.
+fn column_in(ports: u32, word: u32) -> u32
     requires { ⌜ ports ≤ 32 ⌝ }
-    ensures read { λ r. ⌜ r ≡ output-in ports word ⌝ }
-    ensures within { λ r. ⌜ r ≤ ports ⌝ }
+    ensures some { λ r. ⌜ (r < ports → output-in ports word ≡ r + 1) ⌝ }
+    ensures none { λ r. ⌜ (ports ≤ r → output-in ports word ≡ 0) ⌝ }
 {
     if is_by_first(ports, word) {
-        return word - 100;
+        return word - 101;
     }
-    if 1 <= word && word <= ports {
-        return word;
-    }
-    0
+    wrapping_sub_u32(word, 1)
 }
 
 // The output that a word in flight stands for, 0 for none.
@@ -70,16 +67,22 @@ pub fn output_of(ports: usize, word: u32) -> Output
     ensures read { λ r. ⌜ r .0 ≡ output-in ports word ⌝ }
     ensures within { λ r. ⌜ r .0 ≤ ports ⌝ }
 {
-    Output(output_in(ports as u32, word) as u64)
+    let highest = ports as u32;
+    let column = column_in(highest, word);
+    if column < highest {
+        return Output(column as u64 + 1);
+    }
+    Output(0)
 }
 
-// The set of one output, 0 for none.
-fn set_of(output: u32) -> u32
-    requires { ⌜ output ≤ 32 ⌝ }
-    ensures { λ r. ⌜ ((j : ℕ) → 1 ≤ j → in-mask r j ≡ eqb output j) ⌝ }
+// The set of the output that a word in flight stands for, empty for none.
+fn set_in(ports: u32, word: u32) -> u32
+    requires { ⌜ ports ≤ 32 ⌝ }
+    ensures { λ r. ⌜ ((j : ℕ) → 1 ≤ j → in-mask r j ≡ eqb (output-in ports word) j) ⌝ }
 {
-    if output > 0 {
-        return 1 << (output - 1);
+    let column = column_in(ports, word);
+    if column < ports {
+        return 1 << column;
     }
     0
 }
@@ -94,7 +97,7 @@ pub fn free_for(ports: usize, row: usize, flight: &[u32]) -> u32
     let highest = ports as u32;
     let mut taken = 0;
     for column in 0..ports {
-        taken |= set_of(output_in(highest, flight[row + column]));
+        taken |= set_in(highest, flight[row + column]);
     }
     all_free(ports) ^ taken
 }

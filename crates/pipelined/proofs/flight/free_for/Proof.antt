@@ -20,20 +20,17 @@ cast-highest c = search needs
 loop-holds : tie.Need-loop-holds Inv-loop μ-loop
 loop-holds c = (search needs, gathered-none _ _ _)
 
-add-output-in : tie.Need-add-output-in Inv-loop μ-loop
-add-output-in c = search needs
+add-set-in : tie.Need-add-set-in Inv-loop μ-loop
+add-set-in c = search needs
 
-mul-output-in : tie.Need-mul-output-in Inv-loop μ-loop
-mul-output-in c = search needs
+mul-set-in : tie.Need-mul-set-in Inv-loop μ-loop
+mul-set-in c = search needs
 
-shared-slice-read-output-in : tie.Need-shared-slice-read-output-in Inv-loop μ-loop
-shared-slice-read-output-in c = search needs
+shared-slice-read-set-in : tie.Need-shared-slice-read-set-in Inv-loop μ-loop
+shared-slice-read-set-in c = search needs
 
-output-in-requires : tie.Need-output-in-requires Inv-loop μ-loop
-output-in-requires c κs = search needs
-
-set-of-requires : tie.Need-set-of-requires Inv-loop μ-loop
-set-of-requires c κs = search needs
+set-in-requires : tie.Need-set-in-requires Inv-loop μ-loop
+set-in-requires c κs = search needs
 
 add-column : tie.Need-add-column Inv-loop μ-loop
 add-column c = search needs
@@ -43,8 +40,7 @@ loop-less c = search needs
 
 loop-again : tie.Need-loop-again Inv-loop μ-loop
 loop-again c =
-    let o = c .before in
-    (omega arith, gathered-more _ _ _ _ _ _ _ (o .output-in .ensures .0) (c .set-of .ensures) (o .before .before .before .loop .inv .1))
+    (omega arith, gathered-more _ _ _ _ _ _ (c .set-in .ensures) (c .before .before .before .loop .inv .1))
 
 all-free-requires : tie.Need-all-free-requires Inv-loop μ-loop
 all-free-requires c κs = search needs
@@ -61,11 +57,10 @@ free-for-spec =
     μ-loop
     cast-highest
     loop-holds
-    add-output-in
-    mul-output-in
-    shared-slice-read-output-in
-    output-in-requires
-    set-of-requires
+    add-set-in
+    mul-set-in
+    shared-slice-read-set-in
+    set-in-requires
     add-column
     loop-less
     loop-again
