@@ -26,7 +26,7 @@ use Rattle.machine.specs.declared.Machine.{Machine}
 use Rattle.machine.specs.declared.Refused.{Refused}
 use Rattle.machine.specs.declared.Obeyed.{Obeyed}
 use Rattle.machine.specs.Effects.{slots-of, begun}
-use Rattle.machine.specs.View.{form-of, machine-of, refused-text, no-refusal, refused-of, unread-record, started-machine, Obeys}
+use Rattle.machine.specs.View.{form-of, machine-of, refused-text, refused-of, unread-refused, unread-record, call-refused, refused-by, started-machine, Obeys}
 
 -- a record that leaves slots to be run, and one that is obeyed
 module _ (m : Program.Machine) (r : Reading) where
@@ -38,7 +38,7 @@ module _ (m : Program.Machine) (r : Reading) where
   unfolding begun
   begun-once e = rw (le-ltb 0 (slots-of m r) (omega arith), begun)
 
--- A REFUSAL of a call: its line is the definition's, and number 0 leaves nothing of it
+-- A REFUSAL of a call: its line is the definition's, and number 0 has none
 module _ (M : Program.Machine) (x y : ℕ) where
   -- with its three middle numbers, and without
   abbrev full : ℕ → Refused
@@ -47,10 +47,10 @@ module _ (M : Program.Machine) (x y : ℕ) where
   abbrev bare : ℕ → Refused
   bare n = record { slot = 0; input = 0; output = 0; number = n }
 
-  refused-zero : (n : ℕ) → n ≡ 0 → refused-of M x y n ≡ no-refusal
-  refused-zero n e = rw e (go (M .running))
+  refused-zero : refused-text (refused-of M x y 0) ≡ []
+  refused-zero = go (M .running)
     where
-      go : (b : Bool) → pick (b && false) (full 0) (bare 0) ≡ no-refusal
+      go : (b : Bool) → refused-text (pick (b && false) (full 0) (bare 0)) ≡ []
       go true = refl
       go false = refl
 
@@ -60,9 +60,6 @@ module _ (M : Program.Machine) (x y : ℕ) where
       go : (b : Bool) → pick {X = Refused} b (full n) (bare n) .number ≡ n
       go true = refl
       go false = refl
-
-  refused-none : (n : ℕ) → refused-of M x y n .number ≡ 0 → refused-of M x y n ≡ no-refusal
-  refused-none n e = refused-zero n (sym (refused-number n) ∙ e)
 
   pub refused-some : (n : ℕ) → (n ≡ 0 → ⊥) → refused-text (refused-of M x y n) ≡ refusal-of M x y n
   refused-some n d = rw (lt-ltb 0 n (omega arith)) (go (M .running))
@@ -86,6 +83,14 @@ module _ (M : Program.Machine) (form : Form) (call : Call) (x y : ℕ) where
   unfolding run-call
   called-no d = rw (ne-eqb (outcome .refusal) 0 d)
 
+  -- what it prints
+  called-text : refused-text (call-refused M call x y) ≡ run-call M form call x y .printed
+  called-text = go (ℕ-discrete (outcome .refusal) 0)
+    where
+      go : Dec (outcome .refusal ≡ 0) → refused-text (call-refused M call x y) ≡ run-call M form call x y .printed
+      go (yes e) = rw (e, refused-zero M x y, called-yes e)
+      go (no d) = rw (refused-some M x y (outcome .refusal) d, called-no d)
+
 -- a tick record that asks for slots out of range
 range-obeyed : (M : Program.Machine) (x y z : ℕ) → M .running ≡ true → between 1 10000 z ≡ false
     → obey M (Asks Tick x y z) ≡ record { machine = M; printed = refusal-of M x y 6 }
@@ -100,14 +105,6 @@ module _ (m : Machine) (a c q p f : List ℕ) where
   module _ (call : Call) (x y : ℕ) where
     abbrev result : Outcome
     result = apply call (M .switch)
-
-    -- what it prints
-    called-text : (form : Form) → refused-text (refused-of M x y (result .refusal)) ≡ run-call M form call x y .printed
-    called-text form = go (ℕ-discrete (result .refusal) 0)
-      where
-        go : Dec (result .refusal ≡ 0) → refused-text (refused-of M x y (result .refusal)) ≡ run-call M form call x y .printed
-        go (yes e) = rw (refused-zero M x y (result .refusal) e, called-yes M form call x y e)
-        go (no d) = rw (refused-some M x y (result .refusal) d, called-no M form call x y d)
 
     -- the machine after a call other than a start
     abbrev moved : Program.Machine
@@ -141,95 +138,88 @@ module _ (m : Machine) (a c q p f : List ℕ) where
             ∙ sym (ap (λ (s : Step). s .machine) (called-no M (form-of b) call x y d)))
 
   -- A RECORD that is obeyed at once
-  module _ (reading : Reading) (nothing : slots-of M reading ≡ 0) (s : Step) (is : obey M reading ≡ s) where
-    obeys : {M′ : Program.Machine} {m′ : Machine} (r : Refused) → M′ ≡ s .machine → refused-text r ≡ s .printed → (r .number ≡ 0 → r ≡ no-refusal)
-        → Obeys M reading (record { machine = m′; slots = 0; refused = r }) M′
-    obeys r e t none =
-        let b : begun M reading ≡ s = begun-once M reading nothing ∙ is in
-        record {
-          machine = e ∙ sym (ap (λ (s : Step). s .machine) b);
-          slots = sym nothing;
-          printed = t ∙ sym (ap (λ (s : Step). s .printed) b);
-          none = none;
-        }
+  obeys : (reading : Reading) → slots-of M reading ≡ 0 → {M′ : Program.Machine} {m′ : Machine} (r : Refused) → M′ ≡ obey M reading .machine
+      → r ≡ refused-by M reading → Obeys M reading (record { machine = m′; slots = 0; refused = r }) M′
+  obeys reading nothing r e t =
+      record {
+        machine = e ∙ sym (ap (λ (s : Step). s .machine) (begun-once M reading nothing));
+        slots = sym nothing;
+        refused = t;
+      }
 
   -- an unreadable one, and one that a machine which does not run cannot obey
   module _ {r : Obeyed} (u : r ≡ unread-record m) where
     abbrev Nothing : Reading → Type 0
     Nothing reading = Obeys M reading r (machine-of (r .machine) a c q p f)
 
-    obeys-nothing : (reading : Reading) → slots-of M reading ≡ 0 → obey M reading ≡ unread M → Nothing reading
-    obeys-nothing reading nothing is =
-        rw u (obeys reading nothing (unread M) is (unread-record m .refused) refl refl (λ e. absurd (omega arith)))
+    obeys-nothing : (reading : Reading) → slots-of M reading ≡ 0 → obey M reading ≡ unread M → refused-by M reading ≡ unread-refused → Nothing reading
+    obeys-nothing reading nothing is told = rw u (obeys reading nothing unread-refused (sym (ap (λ (s : Step). s .machine) is)) (sym told))
 
     pub obeys-unread : Nothing Unreadable
     unfolding obey
-    obeys-unread = obeys-nothing Unreadable refl refl
+    obeys-unread = obeys-nothing Unreadable refl refl refl
 
     module _ (x y z : ℕ) (e : m .running ≡ false) where
       pub idle-book : Nothing (Asks Book x y z)
       unfolding obey
-      idle-book = obeys-nothing (Asks Book x y z) refl (rw e)
+      idle-book = obeys-nothing (Asks Book x y z) refl (rw e) (rw e)
 
       pub idle-release : Nothing (Asks Release x y z)
       unfolding obey
-      idle-release = obeys-nothing (Asks Release x y z) refl (rw e)
+      idle-release = obeys-nothing (Asks Release x y z) refl (rw e) (rw e)
 
       pub idle-arrive : Nothing (Asks Arrive x y z)
       unfolding obey
-      idle-arrive = obeys-nothing (Asks Arrive x y z) refl (rw e)
+      idle-arrive = obeys-nothing (Asks Arrive x y z) refl (rw e) (rw e)
 
       pub idle-tick : Nothing (Asks Tick x y z)
       unfolding obey
-      idle-tick = obeys-nothing (Asks Tick x y z) (rw e) (rw e)
+      idle-tick = obeys-nothing (Asks Tick x y z) (rw e) (rw e) (rw e)
 
   -- a call
   obeys-call : (reading : Reading) (form : Form) (call : Call) (x y : ℕ) → slots-of M reading ≡ 0 → obey M reading ≡ run-call M form call x y
-      → {M′ : Program.Machine} {m′ : Machine} → M′ ≡ run-call M form call x y .machine
-      → Obeys M reading (record { machine = m′; slots = 0; refused = refused-of M x y (result call x y .refusal) }) M′
-  obeys-call reading form call x y nothing is e =
-      obeys reading nothing (run-call M form call x y) is (refused-of M x y (result call x y .refusal)) e (called-text call x y form)
-      (refused-none M x y (result call x y .refusal))
+      → call-refused M call x y ≡ refused-by M reading → {M′ : Program.Machine} {m′ : Machine} → M′ ≡ run-call M form call x y .machine
+      → Obeys M reading (record { machine = m′; slots = 0; refused = call-refused M call x y }) M′
+  obeys-call reading form call x y nothing is told e =
+      obeys reading nothing (call-refused M call x y) (e ∙ sym (ap (λ (s : Step). s .machine) is)) told
 
   module _ (x y z : ℕ) where
     -- a start and a pipe
     obeys-start : Obeys M (Asks Start x y z)
-        (record { machine = started-machine m false (record { refusal = result (start direct x y) x y .refusal; clock = result (start direct x y) x y .after .clock }); slots = 0; refused = refused-of M x y (result (start direct x y) x y .refusal) })
+        (record { machine = started-machine m false (record { refusal = result (start direct x y) x y .refusal; clock = result (start direct x y) x y .after .clock }); slots = 0; refused = call-refused M (start direct x y) x y })
         (restarted (start direct x y) x y false)
     unfolding obey
-    obeys-start = obeys-call (Asks Start x y z) direct (start direct x y) x y refl refl (started-called (start direct x y) x y false)
+    obeys-start = obeys-call (Asks Start x y z) direct (start direct x y) x y refl refl refl (started-called (start direct x y) x y false)
 
     obeys-pipe : Obeys M (Asks Pipe x y z)
-        (record { machine = started-machine m true (record { refusal = result (start pipelined x y) x y .refusal; clock = result (start pipelined x y) x y .after .clock }); slots = 0; refused = refused-of M x y (result (start pipelined x y) x y .refusal) })
+        (record { machine = started-machine m true (record { refusal = result (start pipelined x y) x y .refusal; clock = result (start pipelined x y) x y .after .clock }); slots = 0; refused = call-refused M (start pipelined x y) x y })
         (restarted (start pipelined x y) x y true)
     unfolding obey
-    obeys-pipe = obeys-call (Asks Pipe x y z) pipelined (start pipelined x y) x y refl refl (started-called (start pipelined x y) x y true)
+    obeys-pipe = obeys-call (Asks Pipe x y z) pipelined (start pipelined x y) x y refl refl refl (started-called (start pipelined x y) x y true)
 
     -- the calls of a machine that runs
     module _ (r : m .running ≡ true) where
       abbrev Calls : Reading → Call → Type 0
       Calls reading call =
-          Obeys M reading (record { machine = m; slots = 0; refused = refused-of M x y (result call x y .refusal) }) (moved call x y)
+          Obeys M reading (record { machine = m; slots = 0; refused = call-refused M call x y }) (moved call x y)
 
       obeys-book : Calls (Asks Book x y z) (book x y z)
       unfolding obey
-      obeys-book = obeys-call (Asks Book x y z) (M .form) (book x y z) x y refl (rw r) (called-machine (book x y z) x y r)
+      obeys-book = obeys-call (Asks Book x y z) (M .form) (book x y z) x y refl (rw r) (rw r) (called-machine (book x y z) x y r)
 
       obeys-release : Calls (Asks Release x y z) (release x y z)
       unfolding obey
-      obeys-release = obeys-call (Asks Release x y z) (M .form) (release x y z) x y refl (rw r) (called-machine (release x y z) x y r)
+      obeys-release = obeys-call (Asks Release x y z) (M .form) (release x y z) x y refl (rw r) (rw r) (called-machine (release x y z) x y r)
 
       obeys-arrive : Calls (Asks Arrive x y z) (arrive x y z)
       unfolding obey
-      obeys-arrive = obeys-call (Asks Arrive x y z) (M .form) (arrive x y z) x y refl (rw r) (called-machine (arrive x y z) x y r)
+      obeys-arrive = obeys-call (Asks Arrive x y z) (M .form) (arrive x y z) x y refl (rw r) (rw r) (called-machine (arrive x y z) x y r)
 
       -- a tick record that asks for slots out of range, and one whose slots are left to run
       pub obeys-range : between 1 10000 z ≡ false → {t : Refused} → t ≡ refused-of M x y 6
           → Obeys M (Asks Tick x y z) (record { machine = m; slots = 0; refused = t }) M
       obeys-range e h =
-          rw h
-          (obeys (Asks Tick x y z) (rw (r, e)) (record { machine = M; printed = refusal-of M x y 6 }) (range-obeyed M x y z r e)
-          (refused-of M x y 6) refl (refused-some M x y 6 (λ e. absurd (omega arith))) (refused-none M x y 6))
+          obeys (Asks Tick x y z) (rw (r, e)) _ (sym (ap (λ (s : Step). s .machine) (range-obeyed M x y z r e))) (h ∙ rw (r, e))
 
       pub obeys-tick : between 1 10000 z ≡ true → {t : Refused} → t ≡ refused-of M x y 0
           → Obeys M (Asks Tick x y z) (record { machine = m; slots = z; refused = t }) M
@@ -237,13 +227,7 @@ module _ (m : Machine) (a c q p f : List ℕ) where
           let some : z ≡ slots-of M (Asks Tick x y z) = rw (r, e) in
           let b : begun M (Asks Tick x y z) ≡ record { machine = M; printed = [] } =
           begun-slots M (Asks Tick x y z) (omega (arith, in-range 1 10000 z (rw e tt) .0)) in
-          let none : t ≡ no-refusal = h ∙ refused-zero M x y 0 refl in
-          record {
-            machine = sym (ap (λ (s : Step). s .machine) b);
-            slots = some;
-            printed = ap refused-text none ∙ sym (ap (λ (s : Step). s .printed) b);
-            none = λ e. none;
-          }
+          record { machine = sym (ap (λ (s : Step). s .machine) b); slots = some; refused = h ∙ rw (r, e) }
 
 -- The same of the code: what the calls answer, and the runs that they leave.
 module _ (m : Machine) (a c q p f : List ℕ) (x y z : ℕ) (t : Refused) where
@@ -286,7 +270,50 @@ asks-is {x = x} {y = y} {z = z} e h = e ∙ ap (λ (o : Operation). Asks o x y z
 
 -- all that is said of a record
 pub obeys-all : {M M′ : Program.Machine} {reading : Reading} {r : Obeyed} → Obeys M reading r M′
-    → (M′ ≡ begun M reading .machine)
-    × ((r .slots ≡ slots-of M reading)
-    × ((refused-text (r .refused) ≡ begun M reading .printed) × (r .refused .number ≡ 0 → r .refused ≡ no-refusal)))
-obeys-all h = (h .machine, (h .slots, (h .printed, h .none)))
+    → (M′ ≡ begun M reading .machine) × ((r .slots ≡ slots-of M reading) × (r .refused ≡ refused-by M reading))
+obeys-all h = (h .machine, (h .slots, h .refused))
+
+-- THE LINE of a record's refusal is what the definition prints at once
+module _ (M : Program.Machine) where
+  -- a record that only a machine which runs can obey
+  abbrev Printed : Reading → Type 0
+  Printed reading = refused-text (refused-by M reading) ≡ begun M reading .printed
+
+  once : (reading : Reading) → slots-of M reading ≡ 0 → refused-text (refused-by M reading) ≡ obey M reading .printed → Printed reading
+  once reading nothing e = e ∙ sym (ap (λ (s : Step). s .printed) (begun-once M reading nothing))
+
+  running-text : (b : Bool) (call : Call) (x y : ℕ)
+      → refused-text (pick b (call-refused M call x y) unread-refused) ≡ pick b (run-call M (M .form) call x y) (unread M) .printed
+  running-text true call x y = called-text M (M .form) call x y
+  running-text false call x y = refl
+
+  tick-refused : (x y z : ℕ) {b : Bool} → M .running ≡ true → between 1 10000 z ≡ b
+      → refused-by M (Asks Tick x y z) ≡ refused-of M x y (pick b 0 6)
+  tick-refused x y z r e = ap₂ (λ (c d : Bool). pick c (refused-of M x y (pick d 0 6)) unread-refused) r e
+
+  tick-text : (x y z : ℕ) → Printed (Asks Tick x y z)
+  unfolding obey
+  tick-text x y z = go (M .running) (between 1 10000 z) refl refl
+    where
+      go : (b d : Bool) → M .running ≡ b → between 1 10000 z ≡ d → Printed (Asks Tick x y z)
+      go false d r e = once (Asks Tick x y z) (rw r) (rw r)
+      go true false r e =
+          once (Asks Tick x y z) (rw (r, e))
+          (ap refused-text (tick-refused x y z r e)
+          ∙ refused-some M x y 6 (λ h. absurd (omega arith))
+          ∙ sym (ap (λ (s : Step). s .printed) (range-obeyed M x y z r e)))
+      go true true r e =
+          let some : z ≡ slots-of M (Asks Tick x y z) = rw (r, e) in
+          let b : begun M (Asks Tick x y z) ≡ record { machine = M; printed = [] } =
+          begun-slots M (Asks Tick x y z) (omega (arith, in-range 1 10000 z (rw e tt) .0)) in
+          ap refused-text (tick-refused x y z r e) ∙ refused-zero M x y ∙ sym (ap (λ (s : Step). s .printed) b)
+
+  pub refused-printed : (reading : Reading) → Printed reading
+  unfolding obey
+  refused-printed Unreadable = once Unreadable refl refl
+  refused-printed (Asks Start x y z) = once (Asks Start x y z) refl (called-text M direct (start direct x y) x y)
+  refused-printed (Asks Pipe x y z) = once (Asks Pipe x y z) refl (called-text M pipelined (start pipelined x y) x y)
+  refused-printed (Asks Book x y z) = once (Asks Book x y z) refl (running-text (M .running) (book x y z) x y)
+  refused-printed (Asks Release x y z) = once (Asks Release x y z) refl (running-text (M .running) (release x y z) x y)
+  refused-printed (Asks Arrive x y z) = once (Asks Arrive x y z) refl (running-text (M .running) (arrive x y z) x y)
+  refused-printed (Asks Tick x y z) = tick-text x y z

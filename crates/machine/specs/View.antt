@@ -5,12 +5,14 @@ use mathlib.Core.List.{List, []}
 use Prim.Native.Nat.{ℕ}
 use lib.Dec.{eqb, ltb}
 use Rattle.wsgs.specs.declared.Clock.{Clock}
+use Rattle.wsgs.specs.declared.Operation.the-variants.{Start, Pipe, Book, Release, Arrive, Tick}
 use Rattle.wsgs.specs.declared.Reading.{Reading}
+use Rattle.wsgs.specs.declared.Reading.the-variants.{Asks, Unreadable}
 use Rattle.wsgs.specs.declared.Started.{Started}
-use Rattle.wsgs.specs.Basics.{pick}
+use Rattle.wsgs.specs.Basics.{pick, between}
 use Rattle.wsgs.specs.Ledger.{slot-of-tick}
 use Rattle.wsgs.specs.Steps.{outputs-of, pass-word-of}
-use Rattle.wsgs.specs.Switch.{Switch, Form, direct, pipelined}
+use Rattle.wsgs.specs.Switch.{Switch, Form, direct, pipelined, Call, start, book, release, arrive, apply}
 use Rattle.wsgs.specs.Program.{refused-line}
 use Rattle.wsgs.specs.Program
 use Rattle.clock.specs.declared.Stepped.{Stepped}
@@ -41,18 +43,32 @@ with-switch m s = record { running = m .running; form = m .form; switch = s }
 abbrev pub refused-text : Refused → List ℕ
 refused-text r = pick (eqb (r .number) 0) [] (refused-line (r .slot) (r .input) (r .output) (r .number))
 
-abbrev pub no-refusal : Refused
-no-refusal = record { slot = 0; input = 0; output = 0; number = 0 }
-
 -- that of a call, by its number: before any accepted start or pipe the line's three middle fields are 0
 abbrev pub refused-of : Program.Machine → ℕ → ℕ → ℕ → Refused
 refused-of m x y number =
     pick (m .running && ltb 0 number) (record { slot = m .switch .clock .slot; input = x; output = y; number = number })
     (record { slot = 0; input = 0; output = 0; number = number })
 
--- what an unreadable record leaves
+-- that of an unreadable record, and what such a record leaves
+abbrev pub unread-refused : Refused
+unread-refused = record { slot = 0; input = 0; output = 0; number = 12 }
+
 abbrev pub unread-record : Machine → Obeyed
-unread-record m = record { machine = m; slots = 0; refused = record { slot = 0; input = 0; output = 0; number = 12 } }
+unread-record m = record { machine = m; slots = 0; refused = unread-refused }
+
+-- that of any record: other than start and pipe, one that stands before any accepted one of these is unreadable, and a tick record is refused
+-- at once where it asks for slots out of range
+abbrev pub call-refused : Program.Machine → Call → ℕ → ℕ → Refused
+call-refused m c x y = refused-of m x y (apply c (m .switch) .refusal)
+
+abbrev pub refused-by : Program.Machine → Reading → Refused
+refused-by m Unreadable = unread-refused
+refused-by m (Asks Start x y z) = call-refused m (start direct x y) x y
+refused-by m (Asks Pipe x y z) = call-refused m (start pipelined x y) x y
+refused-by m (Asks Book x y z) = pick (m .running) (call-refused m (book x y z) x y) unread-refused
+refused-by m (Asks Release x y z) = pick (m .running) (call-refused m (release x y z) x y) unread-refused
+refused-by m (Asks Arrive x y z) = pick (m .running) (call-refused m (arrive x y z) x y) unread-refused
+refused-by m (Asks Tick x y z) = pick (m .running) (refused-of m x y (pick (between 1 10000 z) 0 6)) unread-refused
 
 -- the machine after a start or pipe
 abbrev pub started-machine : Machine → Bool → Started → Machine
@@ -62,8 +78,7 @@ started-machine m form s = pick (eqb (s .refusal) 0) (record { running = true; p
 pub record Obeys (m : Program.Machine) (reading : Reading) (r : Obeyed) (m′ : Program.Machine) : Type 0 where
   pub machine : m′ ≡ begun m reading .machine
   pub slots : r .slots ≡ slots-of m reading
-  pub printed : refused-text (r .refused) ≡ begun m reading .printed
-  pub none : r .refused .number ≡ 0 → r .refused ≡ no-refusal
+  pub refused : r .refused ≡ refused-by m reading
 
 -- the machine with another clock
 abbrev pub with-clock : Machine → Clock → Machine

@@ -19,7 +19,7 @@ ghost use mathlib.Core.Path.{_≡_};
 ghost use Rattle.wsgs.specs.Ledger.{slot-of-tick};
 ghost use Rattle.wsgs.specs.Steps.{outputs-of, pass-word-of};
 ghost use Rattle.machine.specs.Effects.{ticked, slots-of, begun};
-ghost use Rattle.machine.specs.View.{machine-of, with-switch, no-refusal, refused-of, refused-text};
+ghost use Rattle.machine.specs.View.{machine-of, with-switch, refused-of, refused-by};
 
 // The machine beside its lent runs: whether a start or pipe has been accepted, the form of the last one, and the clock.
 pub struct Machine {
@@ -64,8 +64,7 @@ pub fn obey(
 ) -> Obeyed
     ensures { λ r. ⌜ machine-of (r .machine) (now (bookings .exit)) (now (credits .exit)) (now (queues .exit)) (now (copy .exit)) (now (flight .exit)) ≡ begun (machine-of machine (now (bookings .entry)) (now (credits .entry)) (now (queues .entry)) (now (copy .entry)) (now (flight .entry))) reading .machine ⌝ }
     ensures { λ r. ⌜ r .slots ≡ slots-of (machine-of machine (now (bookings .entry)) (now (credits .entry)) (now (queues .entry)) (now (copy .entry)) (now (flight .entry))) reading ⌝ }
-    ensures { λ r. ⌜ refused-text (r .refused) ≡ begun (machine-of machine (now (bookings .entry)) (now (credits .entry)) (now (queues .entry)) (now (copy .entry)) (now (flight .entry))) reading .printed ⌝ }
-    ensures { λ r. ⌜ (r .refused .number ≡ 0 → r .refused ≡ no-refusal) ⌝ }
+    ensures { λ r. ⌜ r .refused ≡ refused-by (machine-of machine (now (bookings .entry)) (now (credits .entry)) (now (queues .entry)) (now (copy .entry)) (now (flight .entry))) reading ⌝ }
 {
     let Reading::Asks(operation, second, third, fourth) = reading else {
         return unread(machine);

@@ -1,12 +1,12 @@
 -- Laws of the rows in flight: where a row stands, and how a word is read. Assumes nothing.
 use mathlib.Core.Path.{_≡_}
-use mathlib.Core.Bool.{true, false, and-false}
+use mathlib.Core.Bool.{true, false}
 use Prim.Native.Nat.{ℕ, _+_, _-_, _*_, _%_, _^_, _≤_, _<_}
 use native.Mathlib.Decide.{decLt, decLe}
 use native.Mathlib.Nat.{mul-le-mul-right, suc-mul}
 use native.Mathlib.Omega.{arith}
 use borrow.Author.Tests.{le-leb, lt-leb, lt-ltb, le-ltb}
-use lib.Dec.{leb, ltb}
+use lib.Dec.{ltb}
 use Rattle.wsgs.specs.Pipelined.{by-first, output-in}
 use Rattle.wsgs.proofs.Laws.Tests.{in-range, range-in}
 

@@ -1,8 +1,10 @@
 -- The end of the heading, or of another record.
-use mathlib.Core.Path.{sym}
+use mathlib.Core.Path.{sym, ap, _∙_}
 use native.Mathlib.Omega.{arith}
 use borrow.Author.Tests.{not-true, not-false}
 use lib.Seq.{length-take-le}
+use Rattle.machine.specs.View.{refused-text}
+use Rattle.machine.proofs.Effects.{refused-printed}
 use Rattle.events.proofs.Leaving.{heading-left, record-left}
 use borrow.Author.Needs.{needs}
 use Rattle.events.proofs.bytes.end_record.Statement.{statement}
@@ -66,7 +68,7 @@ returns-2 c =
     let e = call .obey .ensures in
     record-left (s .progress) (s .buffer .now) (s .bookings .now) (s .credits .now) (s .queues .now) (s .copy .now) (s .flight .now) _ _ (call .obey .result) _ _ _ _ _ _ _ _
     (not-false (s .progress .«past_heading») (length .before .if1 .left)) (length .kept-length .ensures) (read .read-record .ensures) (e .0) (e .1 .0)
-    (e .1 .1 .0) (put .put-refused .ensures) (c .ended2 .ensures .0) (c .ended2 .ensures .1)
+    (ap refused-text (e .1 .1) ∙ refused-printed _ _) (put .put-refused .ensures) (c .ended2 .ensures .0) (c .ended2 .ensures .1)
 
 pub end-record-spec : {M : Type 1} → statement M
 end-record-spec =
