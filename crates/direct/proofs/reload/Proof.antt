@@ -1,5 +1,7 @@
 -- `direct::reload` meets its contract: both runs are long enough for the copy. Assumes nothing.
-use mathlib.Core.Path.{_∙_}
+use mathlib.Core.Path.{_≡_, _∙_}
+use mathlib.Core.Logic.{_≢_}
+use Prim.Native.Nat.{_-_, _%_}
 use native.Mathlib.Omega.{arith}
 use borrow.Author.Tests.{eq-eqb, ne-eqb}
 use Rattle.wsgs.specs.Frames.{into-frame}
@@ -28,11 +30,15 @@ unfolding into-frame
 returns c =
     let k = c .before .before in
     let t = k .before .before in
-    k .copy-words .ensures ∙ copy-fits _ _ _ (omega arith) (omega arith) ∙ rw (eq-eqb _ _ (t .if1 .taken))
+    let a = t .before .before .before .args in
+    let first : (a .slot - 1) % a .frame ≡ 0 = t .if1 .taken in
+    k .copy-words .ensures ∙ copy-fits _ _ _ (omega arith) (omega arith) ∙ rw (eq-eqb _ _ first)
 
 returns-2 : tie.Need-returns-2
 unfolding into-frame
-returns-2 c = rw (ne-eqb _ _ (c .if1 .left))
+returns-2 c =
+    let a = c .before .before .before .args in
+    let later : (a .slot - 1) % a .frame ≢ 0 = c .if1 .left in rw (ne-eqb _ _ later)
 
 pub reload-spec : {M : Type 1} → statement M
 reload-spec =

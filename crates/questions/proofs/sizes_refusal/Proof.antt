@@ -1,5 +1,8 @@
 -- `questions::sizes_refusal` meets its contract. Assumes nothing.
+use mathlib.Core.Path.{_≡_}
+use mathlib.Core.Bool.{false}
 use borrow.Author.Needs.{needs}
+use Rattle.wsgs.specs.Basics.{between}
 use Rattle.questions.specs.Asked.{sizes-refusal}
 use Rattle.questions.proofs.Laws.Answers.{said-no, said-yes}
 use Rattle.questions.proofs.sizes_refusal.Statement.{statement}
@@ -10,7 +13,9 @@ is-between-requires c κs = search needs
 
 returns : tie.Need-returns
 unfolding sizes-refusal
-returns c = rw (said-no (c .before .is-between .ensures) (c .if1 .taken))
+returns c =
+    let a = c .before .before .args in
+    let e : between 1 32 (a .ports) ≡ false = said-no (c .before .is-between .ensures) (c .if1 .taken) in rw e
 
 is-between-requires-2 : tie.Need-is-between-requires-2
 is-between-requires-2 c κs = search needs
