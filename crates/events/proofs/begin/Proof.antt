@@ -1,0 +1,10 @@
+-- `begin` meets its contract, field by field. Assumes nothing.
+use mathlib.Core.Path.{refl}
+use Rattle.events.proofs.begin.Statement.{statement}
+use Rattle.events.proofs.begin.Tie as tie
+
+returns : tie.Need-returns
+returns c = refl
+
+pub begin-spec : {M : Type 1} → statement M
+begin-spec = tie.close (tie.spec returns)
