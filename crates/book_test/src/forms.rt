@@ -7,10 +7,10 @@ use crate::show::text;
 use crate::show::word;
 use starts::start_direct;
 use starts::start_pipelined;
-use wsgs::Started;
+use wsgs::StartResult;
 
 // Prints what a start answers.
-fn show_start(started: Started) {
+fn show_start(started: StartResult) {
     number(b": refusal ", started.refusal as u64);
     clock_of(started.clock);
 }

@@ -26,12 +26,12 @@ use denote.Steps.{opens, closes, owned, peeks}
 use denote.Struct.Steps.{spelt}
 use denote.Struct.Laws as LL
 use Rattle.wsgs.specs.declared.Clock.{Clock}
-use Rattle.wsgs.specs.declared.Ticked.{Ticked}
+use Rattle.wsgs.specs.declared.TickResult.{TickResult}
 use Rattle.wsgs.specs.declared.Answer.{Answer}
 use Rattle.wsgs.proofs.Clock as clock
 use Rattle.wsgs.proofs.Clock.Laws as clock-laws
-use Rattle.wsgs.proofs.Ticked as ticked
-use Rattle.wsgs.proofs.Ticked.Laws as ticked-laws
+use Rattle.wsgs.proofs.TickResult as ticked
+use Rattle.wsgs.proofs.TickResult.Laws as ticked-laws
 use Rattle.wsgs.proofs.Answer as answered
 use Rattle.wsgs.proofs.Answer.Laws as answered-laws
 use Rattle.clock.specs.declared.Stepped.{Stepped}
@@ -48,19 +48,19 @@ pub numbers-fit : (k : Clock) (vs : List Val) → Is clock.the-row k vs → (k .
 numbers-fit k vs is = let f = LL.owed clock.the-type clock-laws.the-laws k vs is in (f .0 .1, (f .1 .0 .1, f .1 .1 .0 .1))
 
 -- the slot of what the core gives back fits its width, and makes a clock
-pub slot-fits : (t : Ticked) (us : List Val) → Is ticked.the-row t us → t .slot < 2 ^ 32
+pub slot-fits : (t : TickResult) (us : List Val) → Is ticked.the-row t us → t .slot < 2 ^ 32
 slot-fits t us is = LL.owed ticked.the-type ticked-laws.the-laws t us is .1 .0 .1
 
-pub clock-typed : (k : Clock) (t : Ticked) (vs us : List Val) → Is clock.the-row k vs → Is ticked.the-row t us → Is clock.the-row (at-slot k (t .slot)) (value (at-slot k (t .slot)) ∷ [])
+pub clock-typed : (k : Clock) (t : TickResult) (vs us : List Val) → Is clock.the-row k vs → Is ticked.the-row t us → Is clock.the-row (at-slot k (t .slot)) (value (at-slot k (t .slot)) ∷ [])
 clock-typed k t vs us was is =
     let f = LL.owed clock.the-type clock-laws.the-laws k vs was in
     LL.owes clock.the-type clock-laws.the-laws (at-slot k (t .slot)) (f .0, (f .1 .0, (LL.owed ticked.the-type ticked-laws.the-laws t us is .1 .0, tt)))
 
 -- its other fields are the answer
-abbrev pub answer : Ticked → Answer
+abbrev pub answer : TickResult → Answer
 answer t = record { refusal = t .refusal; outputs = t .outputs; «first_pass» = t .«first_pass» }
 
-pub answer-typed : (t : Ticked) (us : List Val) → Is ticked.the-row t us → Is answered.the-row (answer t) (LL.val answered.the-type answered-laws.the-laws (answer t) ∷ [])
+pub answer-typed : (t : TickResult) (us : List Val) → Is ticked.the-row t us → Is answered.the-row (answer t) (LL.val answered.the-type answered-laws.the-laws (answer t) ∷ [])
 answer-typed t us is =
     let f = LL.owed ticked.the-type ticked-laws.the-laws t us is in
     LL.owes answered.the-type answered-laws.the-laws (answer t) (f .0, (f .1 .1 .0, (f .1 .1 .1 .0, tt)))

@@ -22,11 +22,11 @@ use denote.Memory.{cellAt}
 use denote.Slice.{sliceTy, sliceVal, Room}
 use denote.Struct.Laws as LL
 use Rattle.wsgs.specs.declared.Clock.{Clock}
-use Rattle.wsgs.specs.declared.Ticked.{Ticked}
+use Rattle.wsgs.specs.declared.TickResult.{TickResult}
 use Rattle.wsgs.proofs.Clock as clock
 use Rattle.wsgs.proofs.Clock.Laws as clock-laws
-use Rattle.wsgs.proofs.Ticked as ticked
-use Rattle.wsgs.proofs.Ticked.Laws as ticked-laws
+use Rattle.wsgs.proofs.TickResult as ticked
+use Rattle.wsgs.proofs.TickResult.Laws as ticked-laws
 use Rattle.wsgs.proofs.Answer as answered
 use Rattle.wsgs.proofs.Answer.Laws as answered-laws
 use Rattle.clock.proofs.Advance.{at-slot}
@@ -116,7 +116,7 @@ module _ {M : Type 1} {𝓤 : URA M} {H : Heap 𝓤} {A : Atoms 𝓤} {K : Type 
       assigns t (of-opd t (load t (found t (ap (local-at 𝓤 H 0) places) (hop t (look t p (ap (n 7) entries)) (fld t refl (stop t)))) (within t 0 (ap (n 6) entries) (sub t 2 refl (whole t))))) (found t (ap (local-at 𝓤 H 3) places) (stop t)) (init t h (ap (n 8) entries) (tt, record { fits = f .1 .1 })) $ s)
 
   -- the slot that the form's tick gave back is written into a clock behind a reference, and its other fields make the answer: entry c is the clock's cell, entry p the reference's, entry s what was given back, entry r room for the answer
-  pub answers : K → (c p s r : ℕ) (k : Clock) (d : Ticked) {us : List Val} → Is ticked.the-row d us → {E : Env 𝓤 H} {C : Calls 𝓤 H} {Λ : Loops 𝓤 H} {q : Post 𝓤 H} {rest : Body} {x y z : ℕ} {τ : Ty} {l l₁ l₂ b o : ℕ}
+  pub answers : K → (c p s r : ℕ) (k : Clock) (d : TickResult) {us : List Val} → Is ticked.the-row d us → {E : Env 𝓤 H} {C : Calls 𝓤 H} {Λ : Loops 𝓤 H} {q : Post 𝓤 H} {rest : Body} {x y z : ℕ} {τ : Ty} {l l₁ l₂ b o : ℕ}
       → local-at 𝓤 H x E ∷ local-at 𝓤 H y E ∷ local-at 𝓤 H z E ∷ [] ≡ (τ, l) ∷ (ticked-laws.mir, l₁) ∷ (answered-laws.mir, l₂) ∷ []
       → let Δ = put 𝓤 H A c (clock-at (at-slot k (d .slot)) b o) Γ in let given : Item 𝓤 = ‵ (fat fullShare ticked-laws.mir l₁ zero (LL.val ticked.the-type ticked-laws.the-laws d)) in
       nth 𝓤 H A c Γ ∷ nth 𝓤 H A p Γ ∷ nth 𝓤 H A s Γ ∷ nth 𝓤 H A s Δ ∷ nth 𝓤 H A r Δ ∷ [] ≡ clock-at k b o ∷ ‵ (fat fullShare τ l zero (vptr b o)) ∷ given ∷ given ∷ ‵ (froom answered-laws.mir l₂ zero) ∷ []

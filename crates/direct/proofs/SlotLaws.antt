@@ -7,13 +7,13 @@ use native.Mathlib.Omega.{arith}
 use borrow.Author.Tests.{eq-eqb, ne-eqb, lt-ltb, le-ltb}
 use lib.Dec.{ltb}
 use lib.ListN.{replicate}
-use Rattle.wsgs.specs.declared.Ticked.{Ticked}
+use Rattle.wsgs.specs.declared.TickResult.{TickResult}
 use Rattle.wsgs.specs.Basics.{pick, Port}
 use Rattle.wsgs.specs.Words.{word, copied}
 use Rattle.wsgs.specs.Frames.{first-of-frame}
-use Rattle.wsgs.specs.Steps.{Matching, nobody, pass-two, listed, marked, outputs-of, pass-word-of}
+use Rattle.wsgs.specs.Steps.{Matching, empty-matching, pass-two, listed, marked, outputs-of, pass-word-of}
 use Rattle.wsgs.specs.Questions.{Outcome, refused}
-use Rattle.wsgs.specs.Answers.{clock-of, ticked-of}
+use Rattle.wsgs.specs.Answers.{clock-of, tick-result-of}
 use Rattle.wsgs.specs.Direct.{Runs, loaded, paired, spent, tick-refusal, ticked, tick}
 use Rattle.wsgs.proofs.Steps.{two-keeps}
 use Rattle.wsgs.proofs.Laws.Listed.{listed-none}
@@ -91,13 +91,13 @@ module _ (n f s : ℕ) (w : Runs) (r : ℕ) (asked : r ≡ tick-refusal (clock-o
 
   -- a refused one answers zeros and the old slot
   pub tick-refused : 1 ≤ r
-      → (_≡_ {A = Ticked} (record { refusal = r; slot = s; outputs = replicate 32 0; «first_pass» = 0 }) (ticked-of out))
+      → (_≡_ {A = TickResult} (record { refusal = r; slot = s; outputs = replicate 32 0; «first_pass» = 0 }) (tick-result-of out))
       × ((w .credits ≡ out .runs .credits) × (w .queues ≡ out .runs .queues))
-  tick-refused h = rw (out-refused h, outputs-are nobody, mark-is nobody, listed-none 32, marked-none 32) (refl, (refl, refl))
+  tick-refused h = rw (out-refused h, outputs-are empty-matching, mark-is empty-matching, listed-none 32, marked-none 32) (refl, (refl, refl))
 
   -- another answers the slot
   pub tick-ran : r ≤ 0 → (first : ℕ) (outputs credits queues : List ℕ) → SlotRun n f (s + 1) w outputs first credits queues
-      → (_≡_ {A = Ticked} (record { refusal = 0; slot = s + 1; outputs = outputs; «first_pass» = first }) (ticked-of out))
+      → (_≡_ {A = TickResult} (record { refusal = 0; slot = s + 1; outputs = outputs; «first_pass» = first }) (tick-result-of out))
       × ((credits ≡ out .runs .credits) × (queues ≡ out .runs .queues))
   unfolding ticked
   tick-ran h first outputs credits queues d = rw (out-ran h, d .answer, d .mark, d .credits-left, d .queues-left) (refl, (refl, refl))

@@ -8,14 +8,14 @@ ghost use lib.ListN.{length};
 ghost use Rattle.wsgs.specs.Basics.{pick};
 ghost use Rattle.wsgs.specs.Words.{copied};
 ghost use Rattle.wsgs.specs.Frames.{first-of-frame};
-ghost use Rattle.wsgs.specs.Answers.{clock-of, direct-runs-of, ticked-of};
+ghost use Rattle.wsgs.specs.Answers.{clock-of, direct-runs-of, tick-result-of};
 ghost use Rattle.wsgs.specs.Direct;
 ghost use Rattle.direct.specs.Passes.{SlotRun};
 use passes::Passed;
 use passes::pass_one;
 use passes::pass_two;
 use questions::direct_refusal;
-use wsgs::Ticked;
+use wsgs::TickResult;
 
 // The number of the first question of a tick that is answered no, or 0.
 fn tick_refusal(
@@ -82,14 +82,14 @@ pub fn tick(
     bookings: &[u32],
     credits: &mut [u32],
     queues: &mut [u32],
-) -> Ticked
-    ensures answer { λ r. ⌜ r ≡ ticked-of (Direct.tick (clock-of ports frame slot) (direct-runs-of (now (bookings .entry)) (now (credits .entry)) (now (queues .entry)))) ⌝ }
+) -> TickResult
+    ensures answer { λ r. ⌜ r ≡ tick-result-of (Direct.tick (clock-of ports frame slot) (direct-runs-of (now (bookings .entry)) (now (credits .entry)) (now (queues .entry)))) ⌝ }
     ensures credits_exit { λ _. ⌜ now (credits .exit) ≡ Direct.tick (clock-of ports frame slot) (direct-runs-of (now (bookings .entry)) (now (credits .entry)) (now (queues .entry))) .runs .credits ⌝ }
     ensures queues_exit { λ _. ⌜ now (queues .exit) ≡ Direct.tick (clock-of ports frame slot) (direct-runs-of (now (bookings .entry)) (now (credits .entry)) (now (queues .entry))) .runs .queues ⌝ }
 {
     let refusal = tick_refusal(ports, frame, slot, bookings, credits, queues);
     if refusal > 0 {
-        return Ticked {
+        return TickResult {
             refusal,
             slot,
             outputs: [0; 32],
@@ -99,7 +99,7 @@ pub fn tick(
     let next = slot + 1;
     let passed = run_slot(ports as usize, frame, next, bookings, credits, queues);
     let outputs = passed.outputs;
-    Ticked {
+    TickResult {
         refusal: 0,
         slot: next,
         outputs,

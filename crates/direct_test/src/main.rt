@@ -2,7 +2,7 @@
 // of pass one, and the credits and queues afterwards (of more than eight words their sum). `stdout` was worked out by hand.
 ghost use Prim.Native.Nat.{_<_};
 use direct::tick;
-use wsgs::Ticked;
+use wsgs::TickResult;
 
 const STDOUT: i32 = 1;
 
@@ -30,7 +30,7 @@ fn say_pair(place: u64, output: u8, first_pass: u32)
     }
 }
 
-fn say_answer(answer: Ticked) {
+fn say_answer(answer: TickResult) {
     say_number(b": refusal ", answer.refusal as u64);
     say_number(b", slot ", answer.slot as u64);
     say(b", pairs");

@@ -10,7 +10,7 @@ use lib.Dec.{eqb, ltb, leb}
 use lib.ListN.{length, getD}
 use Rattle.wsgs.specs.declared.Operation.the-variants.{Start, Pipe, Book, Release, Arrive, Tick}
 use Rattle.wsgs.specs.declared.Reading.{Reading}
-use Rattle.wsgs.specs.declared.Reading.the-variants.{Asks, Unreadable}
+use Rattle.wsgs.specs.declared.Reading.the-variants.{Request, Unreadable}
 use Rattle.wsgs.specs.Basics.{pick, between}
 use Rattle.wsgs.specs.Text.{LF, read-record}
 use Rattle.wsgs.specs.Program.{Machine}
@@ -26,12 +26,12 @@ use Rattle.events.proofs.Whole.{end-read, end-heading, byte-ends, byte-
 -- a record leaves at most 10,000 slots to run
 few-slots : (m : Machine) (r : Reading) → slots-of m r ≤ 10000
 few-slots m Unreadable = omega arith
-few-slots m (Asks Start x y z) = omega arith
-few-slots m (Asks Pipe x y z) = omega arith
-few-slots m (Asks Book x y z) = omega arith
-few-slots m (Asks Release x y z) = omega arith
-few-slots m (Asks Arrive x y z) = omega arith
-few-slots m (Asks Tick x y z) = go (m .running) (between 1 10000 z) refl
+few-slots m (Request Start x y z) = omega arith
+few-slots m (Request Pipe x y z) = omega arith
+few-slots m (Request Book x y z) = omega arith
+few-slots m (Request Release x y z) = omega arith
+few-slots m (Request Arrive x y z) = omega arith
+few-slots m (Request Tick x y z) = go (m .running) (between 1 10000 z) refl
   where
     go : (a b : Bool) → between 1 10000 z ≡ b → pick (a && b) z 0 ≤ 10000
     go true true e = in-range 1 10000 z (rw e tt) .1

@@ -10,7 +10,7 @@ use lib.Dec.{eqb}
 use lib.ListN.{length, replicate}
 use Rattle.wsgs.specs.declared.Operation.the-variants.{Start, Pipe, Book, Release, Arrive, Tick}
 use Rattle.wsgs.specs.declared.Reading.{Reading}
-use Rattle.wsgs.specs.declared.Reading.the-variants.{Asks, Unreadable}
+use Rattle.wsgs.specs.declared.Reading.the-variants.{Request, Unreadable}
 use Rattle.wsgs.specs.Basics.{pick, between}
 use Rattle.wsgs.specs.Text.{CR, LF, drop-last, reversed, records-from, records, read-record, heading}
 use Rattle.wsgs.specs.Program.{Machine, Step, run-ticks, obey, obey-all, skip-heading, program}
@@ -22,22 +22,22 @@ use Rattle.events.proofs.Feeding.{after-after, drained-first, drained-n
 use Rattle.events.proofs.Kept.{Holds, holds-none, holds-more, reads-same}
 
 -- a tick record that is obeyed by its slots
-ticks-obeyed : (m : Machine) (x y z : ℕ) → m .running ≡ true → between 1 10000 z ≡ true → run-ticks z m ≡ obey m (Asks Tick x y z)
+ticks-obeyed : (m : Machine) (x y z : ℕ) → m .running ≡ true → between 1 10000 z ≡ true → run-ticks z m ≡ obey m (Request Tick x y z)
 unfolding obey
 ticks-obeyed m x y z p q = rw (p, q, obey) (ap (λ b. run-ticks z (record { running = b; form = m .form; switch = m .switch })) (sym p))
 
 -- a record that asks for slots is obeyed by running them
 runs-slots : (m : Machine) (r : Reading) → 0 < slots-of m r → run-ticks (slots-of m r) m ≡ obey m r
 runs-slots m Unreadable h = absurd (omega arith)
-runs-slots m (Asks Start x y z) h = absurd (omega arith)
-runs-slots m (Asks Pipe x y z) h = absurd (omega arith)
-runs-slots m (Asks Book x y z) h = absurd (omega arith)
-runs-slots m (Asks Release x y z) h = absurd (omega arith)
-runs-slots m (Asks Arrive x y z) h = absurd (omega arith)
-runs-slots m (Asks Tick x y z) h = by-tests (m .running) (between 1 10000 z) refl refl h
+runs-slots m (Request Start x y z) h = absurd (omega arith)
+runs-slots m (Request Pipe x y z) h = absurd (omega arith)
+runs-slots m (Request Book x y z) h = absurd (omega arith)
+runs-slots m (Request Release x y z) h = absurd (omega arith)
+runs-slots m (Request Arrive x y z) h = absurd (omega arith)
+runs-slots m (Request Tick x y z) h = by-tests (m .running) (between 1 10000 z) refl refl h
   where
     by-tests : (b c : Bool) → m .running ≡ b → between 1 10000 z ≡ c → 0 < pick (b && c) z 0
-        → run-ticks (pick (b && c) z 0) m ≡ obey m (Asks Tick x y z)
+        → run-ticks (pick (b && c) z 0) m ≡ obey m (Request Tick x y z)
     by-tests true true p q l = ticks-obeyed m x y z p q
     by-tests true false p q l = absurd (omega arith)
     by-tests false c p q l = absurd (omega arith)

@@ -8,7 +8,7 @@ use native.Mathlib.Omega.{arith}
 use lib.ListN.{length}
 use Rattle.wsgs.specs.declared.Clock.{Clock}
 use Rattle.wsgs.specs.declared.Answer.{Answer}
-use Rattle.wsgs.specs.declared.Started.{Started}
+use Rattle.wsgs.specs.declared.StartResult.{StartResult}
 use Rattle.wsgs.specs.Switch.{Switch, Call, apply}
 use Rattle.wsgs.proofs.Promises.{refused-changes-nothing}
 use Rattle.kivdrag_c.specs.Clocks.{held, words-of}
@@ -32,7 +32,7 @@ pub words-stay : (c : Call) (s : Switch) (w : List ℕ)
 words-stay c s w three e not-0 = ap (λ x. words-of (x .clock)) (refused-changes-nothing c s not-0 .0) ∙ ap words-of e ∙ words-held w three
 
 -- What a start leaves of its answer in the words of the clock.
-pub start-left : {refusal : ℕ} {clock : Clock} {s : Started} {w : List ℕ}
+pub start-left : {refusal : ℕ} {clock : Clock} {s : StartResult} {w : List ℕ}
     → s ≡ record { refusal = refusal; clock = clock }
     → w ≡ words-of (s .clock)
     → (s .refusal ≡ refusal) × (w ≡ words-of clock)

@@ -10,9 +10,9 @@ use lib.Dec.{ltb}
 use Rattle.wsgs.specs.declared.Operation.{Operation}
 use Rattle.wsgs.specs.declared.Operation.the-variants.{Start, Pipe, Book, Release, Arrive, Tick}
 use Rattle.wsgs.specs.declared.Reading.{Reading}
-use Rattle.wsgs.specs.declared.Started.{Started}
-use Rattle.wsgs.specs.declared.Reading.the-variants.{Asks, Unreadable}
-use Rattle.wsgs.specs.Answers.{started-of, direct-runs-of, pipelined-runs-of}
+use Rattle.wsgs.specs.declared.StartResult.{StartResult}
+use Rattle.wsgs.specs.declared.Reading.the-variants.{Request, Unreadable}
+use Rattle.wsgs.specs.Answers.{start-result-of, direct-runs-of, pipelined-runs-of}
 use Rattle.wsgs.specs.Basics.{pick, between}
 use Rattle.wsgs.specs.Book.{book-refusal, book-words, release-refusal, release-words, arrive-refusal, arrive-words}
 use Rattle.wsgs.specs.Direct
@@ -93,7 +93,7 @@ module _ (M : Program.Machine) (form : Form) (call : Call) (x y : ℕ) where
 
 -- a tick record that asks for slots out of range
 range-obeyed : (M : Program.Machine) (x y z : ℕ) → M .running ≡ true → between 1 10000 z ≡ false
-    → obey M (Asks Tick x y z) ≡ record { machine = M; printed = refusal-of M x y 6 }
+    → obey M (Request Tick x y z) ≡ record { machine = M; printed = refusal-of M x y 6 }
 unfolding obey
 range-obeyed M x y z r e =
     ap₂ (λ (b c : Bool). elim b [ true ↦ elim c [ true ↦ run-ticks z M | false ↦ record { machine = M; printed = refusal-of M x y 6 } ] | false ↦ unread M ]) r e
@@ -160,21 +160,21 @@ module _ (m : Machine) (a c q p f : List ℕ) where
     obeys-unread = obeys-nothing Unreadable refl refl refl
 
     module _ (x y z : ℕ) (e : m .running ≡ false) where
-      pub idle-book : Nothing (Asks Book x y z)
+      pub idle-book : Nothing (Request Book x y z)
       unfolding obey
-      idle-book = obeys-nothing (Asks Book x y z) refl (rw e) (rw e)
+      idle-book = obeys-nothing (Request Book x y z) refl (rw e) (rw e)
 
-      pub idle-release : Nothing (Asks Release x y z)
+      pub idle-release : Nothing (Request Release x y z)
       unfolding obey
-      idle-release = obeys-nothing (Asks Release x y z) refl (rw e) (rw e)
+      idle-release = obeys-nothing (Request Release x y z) refl (rw e) (rw e)
 
-      pub idle-arrive : Nothing (Asks Arrive x y z)
+      pub idle-arrive : Nothing (Request Arrive x y z)
       unfolding obey
-      idle-arrive = obeys-nothing (Asks Arrive x y z) refl (rw e) (rw e)
+      idle-arrive = obeys-nothing (Request Arrive x y z) refl (rw e) (rw e)
 
-      pub idle-tick : Nothing (Asks Tick x y z)
+      pub idle-tick : Nothing (Request Tick x y z)
       unfolding obey
-      idle-tick = obeys-nothing (Asks Tick x y z) (rw e) (rw e) (rw e)
+      idle-tick = obeys-nothing (Request Tick x y z) (rw e) (rw e) (rw e)
 
   -- a call
   obeys-call : (reading : Reading) (form : Form) (call : Call) (x y : ℕ) → slots-of M reading ≡ 0 → obey M reading ≡ run-call M form call x y
@@ -185,17 +185,17 @@ module _ (m : Machine) (a c q p f : List ℕ) where
 
   module _ (x y z : ℕ) where
     -- a start and a pipe
-    obeys-start : Obeys M (Asks Start x y z)
+    obeys-start : Obeys M (Request Start x y z)
         (record { machine = started-machine m false (record { refusal = result (start direct x y) x y .refusal; clock = result (start direct x y) x y .after .clock }); slots = 0; refused = call-refused M (start direct x y) x y })
         (restarted (start direct x y) x y false)
     unfolding obey
-    obeys-start = obeys-call (Asks Start x y z) direct (start direct x y) x y refl refl refl (started-called (start direct x y) x y false)
+    obeys-start = obeys-call (Request Start x y z) direct (start direct x y) x y refl refl refl (started-called (start direct x y) x y false)
 
-    obeys-pipe : Obeys M (Asks Pipe x y z)
+    obeys-pipe : Obeys M (Request Pipe x y z)
         (record { machine = started-machine m true (record { refusal = result (start pipelined x y) x y .refusal; clock = result (start pipelined x y) x y .after .clock }); slots = 0; refused = call-refused M (start pipelined x y) x y })
         (restarted (start pipelined x y) x y true)
     unfolding obey
-    obeys-pipe = obeys-call (Asks Pipe x y z) pipelined (start pipelined x y) x y refl refl refl (started-called (start pipelined x y) x y true)
+    obeys-pipe = obeys-call (Request Pipe x y z) pipelined (start pipelined x y) x y refl refl refl (started-called (start pipelined x y) x y true)
 
     -- the calls of a machine that runs
     module _ (r : m .running ≡ true) where
@@ -203,30 +203,30 @@ module _ (m : Machine) (a c q p f : List ℕ) where
       Calls reading call =
           Obeys M reading (record { machine = m; slots = 0; refused = call-refused M call x y }) (moved call x y)
 
-      obeys-book : Calls (Asks Book x y z) (book x y z)
+      obeys-book : Calls (Request Book x y z) (book x y z)
       unfolding obey
-      obeys-book = obeys-call (Asks Book x y z) (M .form) (book x y z) x y refl (rw r) (rw r) (called-machine (book x y z) x y r)
+      obeys-book = obeys-call (Request Book x y z) (M .form) (book x y z) x y refl (rw r) (rw r) (called-machine (book x y z) x y r)
 
-      obeys-release : Calls (Asks Release x y z) (release x y z)
+      obeys-release : Calls (Request Release x y z) (release x y z)
       unfolding obey
-      obeys-release = obeys-call (Asks Release x y z) (M .form) (release x y z) x y refl (rw r) (rw r) (called-machine (release x y z) x y r)
+      obeys-release = obeys-call (Request Release x y z) (M .form) (release x y z) x y refl (rw r) (rw r) (called-machine (release x y z) x y r)
 
-      obeys-arrive : Calls (Asks Arrive x y z) (arrive x y z)
+      obeys-arrive : Calls (Request Arrive x y z) (arrive x y z)
       unfolding obey
-      obeys-arrive = obeys-call (Asks Arrive x y z) (M .form) (arrive x y z) x y refl (rw r) (rw r) (called-machine (arrive x y z) x y r)
+      obeys-arrive = obeys-call (Request Arrive x y z) (M .form) (arrive x y z) x y refl (rw r) (rw r) (called-machine (arrive x y z) x y r)
 
       -- a tick record that asks for slots out of range, and one whose slots are left to run
       pub obeys-range : between 1 10000 z ≡ false → {t : Refused} → t ≡ refused-of M x y 6
-          → Obeys M (Asks Tick x y z) (record { machine = m; slots = 0; refused = t }) M
+          → Obeys M (Request Tick x y z) (record { machine = m; slots = 0; refused = t }) M
       obeys-range e h =
-          obeys (Asks Tick x y z) (rw (r, e)) _ (sym (ap (λ (s : Step). s .machine) (range-obeyed M x y z r e))) (h ∙ rw (r, e))
+          obeys (Request Tick x y z) (rw (r, e)) _ (sym (ap (λ (s : Step). s .machine) (range-obeyed M x y z r e))) (h ∙ rw (r, e))
 
       pub obeys-tick : between 1 10000 z ≡ true → {t : Refused} → t ≡ refused-of M x y 0
-          → Obeys M (Asks Tick x y z) (record { machine = m; slots = z; refused = t }) M
+          → Obeys M (Request Tick x y z) (record { machine = m; slots = z; refused = t }) M
       obeys-tick e {t} h =
-          let some : z ≡ slots-of M (Asks Tick x y z) = rw (r, e) in
-          let b : begun M (Asks Tick x y z) ≡ record { machine = M; printed = [] } =
-          begun-slots M (Asks Tick x y z) (omega (arith, in-range 1 10000 z (rw e tt) .0)) in
+          let some : z ≡ slots-of M (Request Tick x y z) = rw (r, e) in
+          let b : begun M (Request Tick x y z) ≡ record { machine = M; printed = [] } =
+          begun-slots M (Request Tick x y z) (omega (arith, in-range 1 10000 z (rw e tt) .0)) in
           record { machine = sym (ap (λ (s : Step). s .machine) b); slots = some; refused = h ∙ rw (r, e) }
 
 -- The same of the code: what the calls answer, and the runs that they leave.
@@ -235,29 +235,29 @@ module _ (m : Machine) (a c q p f : List ℕ) (x y z : ℕ) (t : Refused) where
   Does reading m′ a′ c′ q′ p′ f′ =
       Obeys (machine-of m a c q p f) reading (record { machine = m′; slots = 0; refused = t }) (machine-of m′ a′ c′ q′ p′ f′)
 
-  module _ (started : Started) (m′ : Machine) (et : t ≡ refused-of (machine-of m a c q p f) x y (started .refusal)) where
+  module _ (started : StartResult) (m′ : Machine) (et : t ≡ refused-of (machine-of m a c q p f) x y (started .refusal)) where
     pub start-obeys : (a′ c′ q′ : List ℕ) → let d = Direct.start x y (m .clock) (direct-runs-of a c q) in
-        started ≡ started-of d → a′ ≡ d .runs .bookings → c′ ≡ d .runs .credits → q′ ≡ d .runs .queues → m′ ≡ started-machine m false started
-        → Does (Asks Start x y z) m′ a′ c′ q′ p f
+        started ≡ start-result-of d → a′ ≡ d .runs .bookings → c′ ≡ d .runs .credits → q′ ≡ d .runs .queues → m′ ≡ started-machine m false started
+        → Does (Request Start x y z) m′ a′ c′ q′ p f
     unfolding apply
     start-obeys a′ c′ q′ e ea ec eq em = rw (em, et, e, ea, ec, eq) (obeys-start m a c q p f x y z)
 
     pub pipe-obeys : (a′ c′ q′ p′ f′ : List ℕ) → let d = Pipelined.start x y (m .clock) (pipelined-runs-of a c q p f) in
-        started ≡ started-of d → a′ ≡ d .runs .bookings → c′ ≡ d .runs .credits → q′ ≡ d .runs .queues → p′ ≡ d .runs .copy → f′ ≡ d .runs .flight
-        → m′ ≡ started-machine m true started → Does (Asks Pipe x y z) m′ a′ c′ q′ p′ f′
+        started ≡ start-result-of d → a′ ≡ d .runs .bookings → c′ ≡ d .runs .credits → q′ ≡ d .runs .queues → p′ ≡ d .runs .copy → f′ ≡ d .runs .flight
+        → m′ ≡ started-machine m true started → Does (Request Pipe x y z) m′ a′ c′ q′ p′ f′
     unfolding apply
     pipe-obeys a′ c′ q′ p′ f′ e ea ec eq ep ef em = rw (em, et, e, ea, ec, eq, ep, ef) (obeys-pipe m a c q p f x y z)
 
   module _ (r : m .running ≡ true) (refusal : ℕ) (et : t ≡ refused-of (machine-of m a c q p f) x y refusal) (a′ : List ℕ) where
-    pub book-obeys : refusal ≡ book-refusal (m .clock) a x y z → a′ ≡ book-words (m .clock) a x y z → Does (Asks Book x y z) m a′ c q p f
+    pub book-obeys : refusal ≡ book-refusal (m .clock) a x y z → a′ ≡ book-words (m .clock) a x y z → Does (Request Book x y z) m a′ c q p f
     unfolding apply
     book-obeys e ea = rw (ea, et, e) (obeys-book m a c q p f x y z r)
 
-    pub release-obeys : refusal ≡ release-refusal (m .clock) a x y z → a′ ≡ release-words (m .clock) a x y z → Does (Asks Release x y z) m a′ c q p f
+    pub release-obeys : refusal ≡ release-refusal (m .clock) a x y z → a′ ≡ release-words (m .clock) a x y z → Does (Request Release x y z) m a′ c q p f
     unfolding apply
     release-obeys e ea = rw (ea, et, e) (obeys-release m a c q p f x y z r)
 
-    pub arrive-obeys : refusal ≡ arrive-refusal (m .clock) q x y z → a′ ≡ arrive-words (m .clock) q x y z → Does (Asks Arrive x y z) m a c a′ p f
+    pub arrive-obeys : refusal ≡ arrive-refusal (m .clock) q x y z → a′ ≡ arrive-words (m .clock) q x y z → Does (Request Arrive x y z) m a c a′ p f
     unfolding apply
     arrive-obeys e ea = rw (ea, et, e) (obeys-arrive m a c q p f x y z r)
 
@@ -265,8 +265,8 @@ module _ (m : Machine) (a c q p f : List ℕ) (x y z : ℕ) (t : Refused) where
 pub obeys-read : {M M′ : Program.Machine} {reading reading′ : Reading} {r : Obeyed} → reading ≡ reading′ → Obeys M reading′ r M′ → Obeys M reading r M′
 obeys-read {M} {M′} {r = r} e h = subst⁻¹ (λ (t : Reading). Obeys M t r M′) e h
 
-pub asks-is : {reading : Reading} {o o′ : Operation} {x y z : ℕ} → reading ≡ Asks o x y z → o ≡ o′ → reading ≡ Asks o′ x y z
-asks-is {x = x} {y = y} {z = z} e h = e ∙ ap (λ (o : Operation). Asks o x y z) h
+pub asks-is : {reading : Reading} {o o′ : Operation} {x y z : ℕ} → reading ≡ Request o x y z → o ≡ o′ → reading ≡ Request o′ x y z
+asks-is {x = x} {y = y} {z = z} e h = e ∙ ap (λ (o : Operation). Request o x y z) h
 
 -- all that is said of a record
 pub obeys-all : {M M′ : Program.Machine} {reading : Reading} {r : Obeyed} → Obeys M reading r M′
@@ -288,32 +288,32 @@ module _ (M : Program.Machine) where
   running-text false call x y = refl
 
   tick-refused : (x y z : ℕ) {b : Bool} → M .running ≡ true → between 1 10000 z ≡ b
-      → refused-by M (Asks Tick x y z) ≡ refused-of M x y (pick b 0 6)
+      → refused-by M (Request Tick x y z) ≡ refused-of M x y (pick b 0 6)
   tick-refused x y z r e = ap₂ (λ (c d : Bool). pick c (refused-of M x y (pick d 0 6)) unread-refused) r e
 
-  tick-text : (x y z : ℕ) → Printed (Asks Tick x y z)
+  tick-text : (x y z : ℕ) → Printed (Request Tick x y z)
   unfolding obey
   tick-text x y z = go (M .running) (between 1 10000 z) refl refl
     where
-      go : (b d : Bool) → M .running ≡ b → between 1 10000 z ≡ d → Printed (Asks Tick x y z)
-      go false d r e = once (Asks Tick x y z) (rw r) (rw r)
+      go : (b d : Bool) → M .running ≡ b → between 1 10000 z ≡ d → Printed (Request Tick x y z)
+      go false d r e = once (Request Tick x y z) (rw r) (rw r)
       go true false r e =
-          once (Asks Tick x y z) (rw (r, e))
+          once (Request Tick x y z) (rw (r, e))
           (ap refused-text (tick-refused x y z r e)
           ∙ refused-some M x y 6 (λ h. absurd (omega arith))
           ∙ sym (ap (λ (s : Step). s .printed) (range-obeyed M x y z r e)))
       go true true r e =
-          let some : z ≡ slots-of M (Asks Tick x y z) = rw (r, e) in
-          let b : begun M (Asks Tick x y z) ≡ record { machine = M; printed = [] } =
-          begun-slots M (Asks Tick x y z) (omega (arith, in-range 1 10000 z (rw e tt) .0)) in
+          let some : z ≡ slots-of M (Request Tick x y z) = rw (r, e) in
+          let b : begun M (Request Tick x y z) ≡ record { machine = M; printed = [] } =
+          begun-slots M (Request Tick x y z) (omega (arith, in-range 1 10000 z (rw e tt) .0)) in
           ap refused-text (tick-refused x y z r e) ∙ refused-zero M x y ∙ sym (ap (λ (s : Step). s .printed) b)
 
   pub refused-printed : (reading : Reading) → Printed reading
   unfolding obey
   refused-printed Unreadable = once Unreadable refl refl
-  refused-printed (Asks Start x y z) = once (Asks Start x y z) refl (called-text M direct (start direct x y) x y)
-  refused-printed (Asks Pipe x y z) = once (Asks Pipe x y z) refl (called-text M pipelined (start pipelined x y) x y)
-  refused-printed (Asks Book x y z) = once (Asks Book x y z) refl (running-text (M .running) (book x y z) x y)
-  refused-printed (Asks Release x y z) = once (Asks Release x y z) refl (running-text (M .running) (release x y z) x y)
-  refused-printed (Asks Arrive x y z) = once (Asks Arrive x y z) refl (running-text (M .running) (arrive x y z) x y)
-  refused-printed (Asks Tick x y z) = tick-text x y z
+  refused-printed (Request Start x y z) = once (Request Start x y z) refl (called-text M direct (start direct x y) x y)
+  refused-printed (Request Pipe x y z) = once (Request Pipe x y z) refl (called-text M pipelined (start pipelined x y) x y)
+  refused-printed (Request Book x y z) = once (Request Book x y z) refl (running-text (M .running) (book x y z) x y)
+  refused-printed (Request Release x y z) = once (Request Release x y z) refl (running-text (M .running) (release x y z) x y)
+  refused-printed (Request Arrive x y z) = once (Request Arrive x y z) refl (running-text (M .running) (arrive x y z) x y)
+  refused-printed (Request Tick x y z) = tick-text x y z

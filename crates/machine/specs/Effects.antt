@@ -5,7 +5,7 @@ use Prim.Native.Nat.{ℕ}
 use lib.Dec.{ltb}
 use Rattle.wsgs.specs.declared.Operation.the-variants.{Start, Pipe, Book, Release, Arrive, Tick}
 use Rattle.wsgs.specs.declared.Reading.{Reading}
-use Rattle.wsgs.specs.declared.Reading.the-variants.{Asks, Unreadable}
+use Rattle.wsgs.specs.declared.Reading.the-variants.{Request, Unreadable}
 use Rattle.wsgs.specs.Basics.{pick, between}
 use Rattle.wsgs.specs.Switch.{tick, Outcome, apply}
 use Rattle.wsgs.specs.Program.{Machine, Step, obey}
@@ -17,12 +17,12 @@ ticked m = apply (tick (m .form)) (m .switch)
 -- the slots that a record asks a machine to run: those of a tick record that asks for 1 to 10,000
 abbrev pub slots-of : Machine → Reading → ℕ
 slots-of m Unreadable = 0
-slots-of m (Asks Start x y z) = 0
-slots-of m (Asks Pipe x y z) = 0
-slots-of m (Asks Book x y z) = 0
-slots-of m (Asks Release x y z) = 0
-slots-of m (Asks Arrive x y z) = 0
-slots-of m (Asks Tick x y z) = pick (m .running && between 1 10000 z) z 0
+slots-of m (Request Start x y z) = 0
+slots-of m (Request Pipe x y z) = 0
+slots-of m (Request Book x y z) = 0
+slots-of m (Request Release x y z) = 0
+slots-of m (Request Arrive x y z) = 0
+slots-of m (Request Tick x y z) = pick (m .running && between 1 10000 z) z 0
 
 -- WHAT A RECORD DOES at once: one that asks for slots leaves them to be run, and any other is obeyed
 unfoldable pub begun : Machine → Reading → Step

@@ -7,8 +7,8 @@ use lib.Dec.{eqb, ltb}
 use Rattle.wsgs.specs.declared.Clock.{Clock}
 use Rattle.wsgs.specs.declared.Operation.the-variants.{Start, Pipe, Book, Release, Arrive, Tick}
 use Rattle.wsgs.specs.declared.Reading.{Reading}
-use Rattle.wsgs.specs.declared.Reading.the-variants.{Asks, Unreadable}
-use Rattle.wsgs.specs.declared.Started.{Started}
+use Rattle.wsgs.specs.declared.Reading.the-variants.{Request, Unreadable}
+use Rattle.wsgs.specs.declared.StartResult.{StartResult}
 use Rattle.wsgs.specs.Basics.{pick, between}
 use Rattle.wsgs.specs.Ledger.{slot-of-tick}
 use Rattle.wsgs.specs.Steps.{outputs-of, pass-word-of}
@@ -63,15 +63,15 @@ call-refused m c x y = refused-of m x y (apply c (m .switch) .refusal)
 
 abbrev pub refused-by : Program.Machine → Reading → Refused
 refused-by m Unreadable = unread-refused
-refused-by m (Asks Start x y z) = call-refused m (start direct x y) x y
-refused-by m (Asks Pipe x y z) = call-refused m (start pipelined x y) x y
-refused-by m (Asks Book x y z) = pick (m .running) (call-refused m (book x y z) x y) unread-refused
-refused-by m (Asks Release x y z) = pick (m .running) (call-refused m (release x y z) x y) unread-refused
-refused-by m (Asks Arrive x y z) = pick (m .running) (call-refused m (arrive x y z) x y) unread-refused
-refused-by m (Asks Tick x y z) = pick (m .running) (refused-of m x y (pick (between 1 10000 z) 0 6)) unread-refused
+refused-by m (Request Start x y z) = call-refused m (start direct x y) x y
+refused-by m (Request Pipe x y z) = call-refused m (start pipelined x y) x y
+refused-by m (Request Book x y z) = pick (m .running) (call-refused m (book x y z) x y) unread-refused
+refused-by m (Request Release x y z) = pick (m .running) (call-refused m (release x y z) x y) unread-refused
+refused-by m (Request Arrive x y z) = pick (m .running) (call-refused m (arrive x y z) x y) unread-refused
+refused-by m (Request Tick x y z) = pick (m .running) (refused-of m x y (pick (between 1 10000 z) 0 6)) unread-refused
 
 -- the machine after a start or pipe
-abbrev pub started-machine : Machine → Bool → Started → Machine
+abbrev pub started-machine : Machine → Bool → StartResult → Machine
 started-machine m form s = pick (eqb (s .refusal) 0) (record { running = true; pipelined = form; clock = s .clock }) m
 
 -- a record has done at once what it does: to the machine, the slots left to run, and its refusal

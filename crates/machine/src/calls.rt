@@ -6,17 +6,17 @@ use crate::refusals::unread;
 use wsgs::BookedSlots;
 use wsgs::Input;
 use wsgs::Output;
-use wsgs::Started;
+use wsgs::StartResult;
 ghost use mathlib.Core.Path.{_≡_};
 ghost use mathlib.Core.List.{List};
 ghost use Prim.Native.Nat.{ℕ};
 ghost use Rattle.wsgs.specs.declared.Operation.the-variants.{Start, Pipe, Book, Release, Arrive, Tick};
-ghost use Rattle.wsgs.specs.declared.Reading.the-variants.{Asks};
+ghost use Rattle.wsgs.specs.declared.Reading.the-variants.{Request};
 ghost use Rattle.machine.specs.View.{machine-of, started-machine, Obeys};
 ghost use Rattle.wsgs.specs.Basics.{between};
 
 // The machine after a start or pipe.
-fn after_start(machine: Machine, pipelined: bool, started: Started) -> Machine
+fn after_start(machine: Machine, pipelined: bool, started: StartResult) -> Machine
     ensures { λ r. ⌜ r ≡ started-machine machine pipelined started ⌝ }
 {
     if started.refusal == 0 {
@@ -39,7 +39,7 @@ pub fn start_record(
     credits: &mut [u32],
     queues: &mut [u32],
 ) -> Obeyed
-    ensures { λ r. ⌜ ((z : ℕ) (p f : List ℕ) → Obeys (machine-of machine (now (bookings .entry)) (now (credits .entry)) (now (queues .entry)) p f) (Asks Start ports frame z) r (machine-of (r .machine) (now (bookings .exit)) (now (credits .exit)) (now (queues .exit)) p f)) ⌝ }
+    ensures { λ r. ⌜ ((z : ℕ) (p f : List ℕ) → Obeys (machine-of machine (now (bookings .entry)) (now (credits .entry)) (now (queues .entry)) p f) (Request Start ports frame z) r (machine-of (r .machine) (now (bookings .exit)) (now (credits .exit)) (now (queues .exit)) p f)) ⌝ }
 {
     let clock = machine.clock;
     let started = starts::start_direct(ports, frame, clock, bookings, credits, queues);
@@ -61,7 +61,7 @@ pub fn pipe_record(
     copy: &mut [u32],
     flight: &mut [u32],
 ) -> Obeyed
-    ensures { λ r. ⌜ ((z : ℕ) → Obeys (machine-of machine (now (bookings .entry)) (now (credits .entry)) (now (queues .entry)) (now (copy .entry)) (now (flight .entry))) (Asks Pipe ports frame z) r (machine-of (r .machine) (now (bookings .exit)) (now (credits .exit)) (now (queues .exit)) (now (copy .exit)) (now (flight .exit)))) ⌝ }
+    ensures { λ r. ⌜ ((z : ℕ) → Obeys (machine-of machine (now (bookings .entry)) (now (credits .entry)) (now (queues .entry)) (now (copy .entry)) (now (flight .entry))) (Request Pipe ports frame z) r (machine-of (r .machine) (now (bookings .exit)) (now (credits .exit)) (now (queues .exit)) (now (copy .exit)) (now (flight .exit)))) ⌝ }
 {
     let clock = machine.clock;
     let started = starts::start_pipelined(
@@ -89,7 +89,7 @@ pub fn book_record(
     slots: u64,
     bookings: &mut [u32],
 ) -> Obeyed
-    ensures { λ r. ⌜ ((c q p f : List ℕ) → Obeys (machine-of machine (now (bookings .entry)) c q p f) (Asks Book input output slots) r (machine-of (r .machine) (now (bookings .exit)) c q p f)) ⌝ }
+    ensures { λ r. ⌜ ((c q p f : List ℕ) → Obeys (machine-of machine (now (bookings .entry)) c q p f) (Request Book input output slots) r (machine-of (r .machine) (now (bookings .exit)) c q p f)) ⌝ }
 {
     if !machine.running {
         return unread(machine);
@@ -112,7 +112,7 @@ pub fn release_record(
     slots: u64,
     bookings: &mut [u32],
 ) -> Obeyed
-    ensures { λ r. ⌜ ((c q p f : List ℕ) → Obeys (machine-of machine (now (bookings .entry)) c q p f) (Asks Release input output slots) r (machine-of (r .machine) (now (bookings .exit)) c q p f)) ⌝ }
+    ensures { λ r. ⌜ ((c q p f : List ℕ) → Obeys (machine-of machine (now (bookings .entry)) c q p f) (Request Release input output slots) r (machine-of (r .machine) (now (bookings .exit)) c q p f)) ⌝ }
 {
     if !machine.running {
         return unread(machine);
@@ -135,7 +135,7 @@ pub fn arrive_record(
     packets: u64,
     queues: &mut [u32],
 ) -> Obeyed
-    ensures { λ r. ⌜ ((a c p f : List ℕ) → Obeys (machine-of machine a c (now (queues .entry)) p f) (Asks Arrive input output packets) r (machine-of (r .machine) a c (now (queues .exit)) p f)) ⌝ }
+    ensures { λ r. ⌜ ((a c p f : List ℕ) → Obeys (machine-of machine a c (now (queues .entry)) p f) (Request Arrive input output packets) r (machine-of (r .machine) a c (now (queues .exit)) p f)) ⌝ }
 {
     if !machine.running {
         return unread(machine);
@@ -158,7 +158,7 @@ fn in_range(slots: u64) -> bool
 
 // A tick record: its slots are left to run.
 pub fn tick_record(machine: Machine, second: u64, third: u64, slots: u64) -> Obeyed
-    ensures { λ r. ⌜ ((a c q p f : List ℕ) → Obeys (machine-of machine a c q p f) (Asks Tick second third slots) r (machine-of (r .machine) a c q p f)) ⌝ }
+    ensures { λ r. ⌜ ((a c q p f : List ℕ) → Obeys (machine-of machine a c q p f) (Request Tick second third slots) r (machine-of (r .machine) a c q p f)) ⌝ }
 {
     if !machine.running {
         return unread(machine);

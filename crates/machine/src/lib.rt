@@ -66,7 +66,7 @@ pub fn obey(
     ensures { λ r. ⌜ r .slots ≡ slots-of (machine-of machine (now (bookings .entry)) (now (credits .entry)) (now (queues .entry)) (now (copy .entry)) (now (flight .entry))) reading ⌝ }
     ensures { λ r. ⌜ r .refused ≡ refused-by (machine-of machine (now (bookings .entry)) (now (credits .entry)) (now (queues .entry)) (now (copy .entry)) (now (flight .entry))) reading ⌝ }
 {
-    let Reading::Asks(operation, second, third, fourth) = reading else {
+    let Reading::Request(operation, second, third, fourth) = reading else {
         return unread(machine);
     };
     match operation {

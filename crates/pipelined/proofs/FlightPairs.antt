@@ -11,7 +11,7 @@ use borrow.Author.Tests.{le-leb, lt-leb}
 use lib.Bits.{bitOr}
 use lib.Dec.{leb}
 use lib.ListN.{getD, set, replicate}
-use Rattle.wsgs.specs.declared.Ticked.{Ticked}
+use Rattle.wsgs.specs.declared.TickResult.{TickResult}
 use Rattle.wsgs.specs.Basics.{pick, between, updated}
 use Rattle.wsgs.specs.Steps.{listed, marked, outputs-of, pass-word-of}
 use Rattle.wsgs.specs.Pipelined.{by-first, output-in, flight-place, in-flight, reserved, handed-out}
@@ -101,6 +101,6 @@ module _ (n s : ℕ) (flight : List ℕ) where
 
   -- those of all inputs are the answer
   pub handed-all : (k x word : ℕ) (outputs : List ℕ) → x ≡ n → Handed x outputs word
-      → _≡_ {A = Ticked} (record { refusal = 0; slot = k; outputs = outputs; «first_pass» = word }) (answering k (handed-out n flight s))
+      → _≡_ {A = TickResult} (record { refusal = 0; slot = k; outputs = outputs; «first_pass» = word }) (answering k (handed-out n flight s))
   unfolding handed-out outputs-of pass-word-of
   handed-all k x word outputs e h = rw (h .output, h .first, e)

@@ -7,17 +7,17 @@ use native.Mathlib.Omega.{arith}
 use borrow.Author.Tests.{eq-eqb, ne-eqb}
 use lib.Dec.{ltb→lt}
 use lib.ListN.{length, replicate}
-use Rattle.wsgs.specs.declared.Ticked.{Ticked}
+use Rattle.wsgs.specs.declared.TickResult.{TickResult}
 use Rattle.wsgs.specs.Words.{copied}
 use Rattle.wsgs.specs.Frames.{into-frame}
 use Rattle.wsgs.specs.Questions.{clock-can-advance}
 use Rattle.wsgs.specs.Steps.{outputs-of, pass-word-of}
 use Rattle.wsgs.specs.Answers.{clock-of}
-use Rattle.wsgs.specs.Pipelined.{Runs, turning, questions, tick-refusal, copied-at, turns, handed-out, row-cleared, ticked, tick}
+use Rattle.wsgs.specs.Pipelined.{Runs, turn-runs, questions, tick-refusal, copied-at, turns, handed-out, row-cleared, ticked, tick}
 use Rattle.wsgs.proofs.Laws.Questions.{all-yes, pipelined-yes}
 use Rattle.wsgs.proofs.Laws.Listed.{listed-none}
 use Rattle.wsgs.proofs.Laws.Marked.{marked-none}
-use Rattle.pipelined.specs.Turnings.{turning-of, Lent, answering, Left}
+use Rattle.pipelined.specs.Turnings.{turn-runs-of, Lent, answering, Left}
 
 -- THE FRAME COPY at time k
 module _ (n f k : ℕ) (w : Runs) (u : ℕ) (e : u ≡ into-frame f (k + 2 * n)) where
@@ -52,13 +52,13 @@ accepted-found n f k w e =
     }
 
 -- WHAT AN ACCEPTED TICK LEAVES: the copy, the turns, the pairs and the cleared row
-pub ticked-left : (n f k : ℕ) (w : Runs) (r : Ticked) (c q p l l′ : List ℕ) → p ≡ copied-at n f (k + 1) w
-    → turning-of c q l ≡ turns n f p (k + 1) (turning w) n → r ≡ answering (k + 1) (handed-out n l (k + 1 + 1)) → l′ ≡ row-cleared n l (k + 1 + 1)
+pub ticked-left : (n f k : ℕ) (w : Runs) (r : TickResult) (c q p l l′ : List ℕ) → p ≡ copied-at n f (k + 1) w
+    → turn-runs-of c q l ≡ turns n f p (k + 1) (turn-runs w) n → r ≡ answering (k + 1) (handed-out n l (k + 1 + 1)) → l′ ≡ row-cleared n l (k + 1 + 1)
     → Left (ticked (clock-of n f k) w) r c q p l′
 unfolding ticked
 ticked-left n f k w r c q p l l′ ep et er el =
-    let t = et ∙ ap (λ z. turns n f z (k + 1) (turning w) n) ep in
-    let rows : l ≡ turns n f (copied-at n f (k + 1) w) (k + 1) (turning w) n .flight = ap (λ z. z .flight) t in
+    let t = et ∙ ap (λ z. turns n f z (k + 1) (turn-runs w) n) ep in
+    let rows : l ≡ turns n f (copied-at n f (k + 1) w) (k + 1) (turn-runs w) n .flight = ap (λ z. z .flight) t in
     record {
       answer = er ∙ ap (λ z. answering (k + 1) (handed-out n z (k + 1 + 1))) rows;
       credits = ap (λ z. z .credits) t;
@@ -70,7 +70,7 @@ ticked-left n f k w r c q p l l′ ep et er el =
 -- A TICK is one of the two
 module _ (n f k : ℕ) (w : Runs) (refusal : ℕ) (e : refusal ≡ tick-refusal (clock-of n f k) w) where
   -- whose refusal is 0
-  pub tick-ran : (r : Ticked) (c q p l : List ℕ) → refusal ≤ 0 → Left (ticked (clock-of n f k) w) r c q p l → Left (tick (clock-of n f k) w) r c q p l
+  pub tick-ran : (r : TickResult) (c q p l : List ℕ) → refusal ≤ 0 → Left (ticked (clock-of n f k) w) r c q p l → Left (tick (clock-of n f k) w) r c q p l
   unfolding tick
   tick-ran r c q p l h d = rw (← e, eq-eqb refusal 0 (omega arith)) d
 

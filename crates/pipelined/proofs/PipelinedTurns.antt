@@ -12,33 +12,33 @@ use borrow.Author.Tests.{eq-eqb, ne-eqb, lt-ltb, le-ltb, le-leb, lt-leb}
 use Rattle.wsgs.specs.Basics.{pick, Port, lowest}
 use Rattle.wsgs.specs.Words.{word, less-one}
 use Rattle.wsgs.specs.Frames.{first-of-frame}
-use Rattle.wsgs.specs.Pipelined.{Turning, loaded, reloaded, output-in, flight-place, in-flight, reserved, standing, turn-one, turn-two, slot-one, slot-two, pass-one-turn, turns-of, turns}
+use Rattle.wsgs.specs.Pipelined.{TurnRuns, loaded, reloaded, output-in, flight-place, in-flight, reserved, standing, turn-one, turn-two, slot-one, slot-two, pass-one-turn, turns-of, turns}
 use Rattle.wsgs.proofs.Laws.Lowest.{lowest-ext}
 use Rattle.turns.specs.Masks.{in-mask, is-open}
 use Rattle.turns.specs.Charges.{charged}
-use Rattle.pipelined.specs.Turnings.{turning-of}
+use Rattle.pipelined.specs.Turnings.{turn-runs-of}
 use Rattle.turns.proofs.Choice.{charged-some, charged-none}
 
 -- a choice between two turnings
-by-test : (b : Bool) (x y : Turning) → _≡_ {A = Turning} (elim b [ true ↦ x | false ↦ y ]) (pick b x y)
+by-test : (b : Bool) (x y : TurnRuns) → _≡_ {A = TurnRuns} (elim b [ true ↦ x | false ↦ y ]) (pick b x y)
 by-test true x y = refl
 by-test false x y = refl
 
 -- A TURN of input i for slot s
 module _ (n s i : ℕ) (c q f : List ℕ) where
-  abbrev w : Turning
-  w = turning-of c q f
+  abbrev w : TurnRuns
+  w = turn-runs-of c q f
 
   -- the lowest output that is free and whose words in two runs are above 0
   abbrev best : List ℕ → List ℕ → ℕ
   best one two = lowest (λ j. not (standing n f s j) && (ltb 0 (word n one i j) && ltb 0 (word n two i j))) n
 
   -- what a turn leaves that takes output j
-  abbrev served-one : ℕ → Turning
-  served-one j = turning-of (less-one n c i j) (less-one n q i j) (set f (flight-place n s i) (100 + j))
+  abbrev served-one : ℕ → TurnRuns
+  served-one j = turn-runs-of (less-one n c i j) (less-one n q i j) (set f (flight-place n s i) (100 + j))
 
-  abbrev served-two : ℕ → Turning
-  served-two j = turning-of c (less-one n q i j) (set f (flight-place n s i) j)
+  abbrev served-two : ℕ → TurnRuns
+  served-two j = turn-runs-of c (less-one n q i j) (set f (flight-place n s i) j)
 
   -- a turn of each pass; that of pass two goes by the queues alone
   turn-one-is : turn-one n s i w ≡ pick (eqb (reserved n f s i) 0 && ltb 0 (best c q)) (served-one (best c q)) w
@@ -82,33 +82,33 @@ module _ (n s i : ℕ) (c q f : List ℕ) where
           sym (e ∙ lowest-ext _ _ n (λ j p. ap (λ b. b && (ltb 0 (word n one i j) && ltb 0 (word n two i j))) (frees j p)))
 
       module _ (e : r ≡ lowest (is-open n free c q i) n) (c′ q′ : List ℕ) (ec : c′ ≡ charged n c i r) (eq : q′ ≡ charged n q i r) where
-        pub turn-one-some : 1 ≤ r → turning-of c′ q′ (set f (row + (i - 1)) (100 + r)) ≡ turn-one n s i w
+        pub turn-one-some : 1 ≤ r → turn-runs-of c′ q′ (set f (row + (i - 1)) (100 + r)) ≡ turn-one n s i w
         turn-one-some h =
             rw (turn-one-is, held, eq-eqb o 0 (omega arith), opens c q e, lt-ltb 0 r h, ec, eq, charged-some n c i r h, charged-some n q i r h, spot)
 
-        pub turn-one-none : r ≤ 0 → turning-of c′ q′ f ≡ turn-one n s i w
+        pub turn-one-none : r ≤ 0 → turn-runs-of c′ q′ f ≡ turn-one n s i w
         turn-one-none h =
             rw (turn-one-is, held, eq-eqb o 0 (omega arith), opens c q e, le-ltb 0 r h, ec, eq, charged-none n c i r h, charged-none n q i r h)
 
       module _ (e : r ≡ lowest (is-open n free q q i) n) (q′ : List ℕ) (eq : q′ ≡ charged n q i r) where
-        pub turn-two-some : 1 ≤ r → turning-of c q′ (set f (row + (i - 1)) r) ≡ turn-two n s i w
+        pub turn-two-some : 1 ≤ r → turn-runs-of c q′ (set f (row + (i - 1)) r) ≡ turn-two n s i w
         turn-two-some h = rw (turn-two-is, held, eq-eqb o 0 (omega arith), opens q q e, lt-ltb 0 r h, eq, charged-some n q i r h, spot)
 
-        pub turn-two-none : r ≤ 0 → turning-of c q′ f ≡ turn-two n s i w
+        pub turn-two-none : r ≤ 0 → turn-runs-of c q′ f ≡ turn-two n s i w
         turn-two-none h = rw (turn-two-is, held, eq-eqb o 0 (omega arith), opens q q e, le-ltb 0 r h, eq, charged-none n q i r h)
 
 -- THE RELOAD of input i's row of credits, where slot s is the first of a frame
 module _ (n k : ℕ) (copy c q f : List ℕ) (s i : ℕ) where
-  pub reloads : (c′ : List ℕ) → first-of-frame k s ≡ true → c′ ≡ loaded n copy i c → turning-of c′ q f ≡ reloaded n k copy s i (turning-of c q f)
+  pub reloads : (c′ : List ℕ) → first-of-frame k s ≡ true → c′ ≡ loaded n copy i c → turn-runs-of c′ q f ≡ reloaded n k copy s i (turn-runs-of c q f)
   unfolding reloaded
   reloads c′ t l = rw (t, l)
 
-  pub keeps : first-of-frame k s ≡ false → turning-of c q f ≡ reloaded n k copy s i (turning-of c q f)
+  pub keeps : first-of-frame k s ≡ false → turn-runs-of c q f ≡ reloaded n k copy s i (turn-runs-of c q f)
   unfolding reloaded
   keeps t = rw t
 
 -- AN INPUT'S TURNS at time k. They are due from time i on, and change nothing before.
-module _ (n f : ℕ) (copy : List ℕ) (k i : ℕ) (w₀ : Turning) where
+module _ (n f : ℕ) (copy : List ℕ) (k i : ℕ) (w₀ : TurnRuns) where
   one-due : i ≤ k → pass-one-turn n f copy k i w₀ ≡ turn-one n (slot-one n k i) i (reloaded n f copy (slot-one n k i) i w₀)
   unfolding pass-one-turn
   one-due h = rw (le-leb (2 * n + 1) (slot-one n k i) (omega arith), pass-one-turn)
@@ -117,7 +117,7 @@ module _ (n f : ℕ) (copy : List ℕ) (k i : ℕ) (w₀ : Turning) where
   unfolding turns-of
   two-due h = rw (le-leb (n + 1) (slot-two n k i) (omega arith), turns-of)
 
-  pub turns-due : (w₁ w₂ w₃ : Turning) → i ≤ k → w₁ ≡ reloaded n f copy (slot-one n k i) i w₀ → w₂ ≡ turn-one n (slot-one n k i) i w₁
+  pub turns-due : (w₁ w₂ w₃ : TurnRuns) → i ≤ k → w₁ ≡ reloaded n f copy (slot-one n k i) i w₀ → w₂ ≡ turn-one n (slot-one n k i) i w₁
       → w₃ ≡ turn-two n (slot-two n k i) i w₂ → w₃ ≡ turns-of n f copy k i w₀
   turns-due w₁ w₂ w₃ h a b c =
       c ∙ ap (turn-two n (slot-two n k i) i) (b ∙ ap (turn-one n (slot-one n k i) i) a ∙ sym (one-due h)) ∙ sym (two-due h)
@@ -134,7 +134,7 @@ module _ (n f : ℕ) (copy : List ℕ) (k i : ℕ) (w₀ : Turning) where
   turns-early h = sym (two-early h ∙ one-early h)
 
 -- those of one input more
-pub turns-more : (n f : ℕ) (copy : List ℕ) (k x : ℕ) (w₀ w₁ w₂ : Turning) → w₁ ≡ turns n f copy k w₀ x → w₂ ≡ turns-of n f copy k (x + 1) w₁
+pub turns-more : (n f : ℕ) (copy : List ℕ) (k x : ℕ) (w₀ w₁ w₂ : TurnRuns) → w₁ ≡ turns n f copy k w₀ x → w₂ ≡ turns-of n f copy k (x + 1) w₁
     → w₂ ≡ turns n f copy k w₀ (x + 1)
 unfolding turns
 turns-more n f copy k x w₀ w₁ w₂ e d = d ∙ rw (add-one x) (ap (turns-of n f copy k (suc x)) e)

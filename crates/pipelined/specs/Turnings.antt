@@ -4,16 +4,16 @@ use mathlib.Core.Path.{_≡_}
 use mathlib.Core.List.{List}
 use Prim.Native.Nat.{ℕ, _+_, _*_, _%_, _≤_, _<_}
 use lib.ListN.{length}
-use Rattle.wsgs.specs.declared.Ticked.{Ticked}
+use Rattle.wsgs.specs.declared.TickResult.{TickResult}
 use Rattle.wsgs.specs.Frames.{into-frame}
 use Rattle.wsgs.specs.Steps.{Matching, outputs-of, pass-word-of}
 use Rattle.wsgs.specs.Questions.{Outcome}
-use Rattle.wsgs.specs.Pipelined.{Runs, Turning}
-use Rattle.wsgs.specs.Answers.{ticked-of}
+use Rattle.wsgs.specs.Pipelined.{Runs, TurnRuns}
+use Rattle.wsgs.specs.Answers.{tick-result-of}
 
 -- the credits, the queues and the rows in flight
-abbrev pub turning-of : (credits queues flight : List ℕ) → Turning
-turning-of c q f = record { credits = c; queues = q; flight = f }
+abbrev pub turn-runs-of : (credits queues flight : List ℕ) → TurnRuns
+turn-runs-of c q f = record { credits = c; queues = q; flight = f }
 
 -- the ports are few, and the frame copy, the credits, the queues and the rows in flight hold their words
 pub record Lent (n : ℕ) (a c q f : List ℕ) : Type 0 where
@@ -34,12 +34,12 @@ pub record Foreseen (n f k one two into : ℕ) : Type 0 where
   pub two-within : two < 2 * n
 
 -- what an accepted tick at time k answers that hands out a matching
-abbrev pub answering : ℕ → Matching → Ticked
+abbrev pub answering : ℕ → Matching → TickResult
 answering k m = record { refusal = 0; slot = k; outputs = outputs-of m; «first_pass» = pass-word-of m }
 
 -- what a tick leaves: the answer r, the credits, the queues, the frame copy and the rows in flight
-pub record Left (o : Outcome Runs) (r : Ticked) (c q a f : List ℕ) : Type 0 where
-  pub answer : r ≡ ticked-of o
+pub record Left (o : Outcome Runs) (r : TickResult) (c q a f : List ℕ) : Type 0 where
+  pub answer : r ≡ tick-result-of o
   pub credits : c ≡ o .runs .credits
   pub queues : q ≡ o .runs .queues
   pub copy : a ≡ o .runs .copy

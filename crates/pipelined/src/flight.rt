@@ -14,7 +14,7 @@ use turns::all_free;
 use words::clear_words;
 use wsgs::Input;
 use wsgs::Output;
-use wsgs::Ticked;
+use wsgs::TickResult;
 
 // Where the row of a slot begins.
 pub fn row_of(ports: usize, slot: u64) -> usize
@@ -103,7 +103,7 @@ pub fn free_for(ports: usize, row: usize, flight: &[u32]) -> u32
 }
 
 // The answer of the tick at a time: the pairs that the row of the next slot hands out.
-pub fn hand_out(ports: usize, time: u32, flight: &[u32]) -> Ticked
+pub fn hand_out(ports: usize, time: u32, flight: &[u32]) -> TickResult
     requires { ⌜ 1 ≤ ports ⌝ }
     requires { ⌜ ports ≤ 32 ⌝ }
     requires { ⌜ 2 * ports * ports ≤ length (now flight) ⌝ }
@@ -120,7 +120,7 @@ pub fn hand_out(ports: usize, time: u32, flight: &[u32]) -> Ticked
             first_pass |= 1 << column;
         }
     }
-    Ticked {
+    TickResult {
         refusal: 0,
         slot: time,
         outputs,

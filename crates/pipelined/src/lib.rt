@@ -6,7 +6,7 @@ ghost use mathlib.Core.Path.{_≡_};
 ghost use mathlib.Core.List.{List};
 ghost use Prim.Native.Nat.{ℕ, _+_, _*_, _≤_, _<_};
 ghost use lib.ListN.{length};
-ghost use Rattle.wsgs.specs.Answers.{clock-of, pipelined-runs-of, ticked-of};
+ghost use Rattle.wsgs.specs.Answers.{clock-of, pipelined-runs-of, tick-result-of};
 ghost use Rattle.wsgs.specs.Frames.{into-frame};
 ghost use Rattle.wsgs.specs.Pipelined;
 ghost use Rattle.pipelined.specs.Turnings.{Lent, Left};
@@ -16,7 +16,7 @@ use pipeline_turns::all_turns;
 use pipeline_turns::look_ahead;
 use questions::pipelined_refusal;
 use words::copy_words;
-use wsgs::Ticked;
+use wsgs::TickResult;
 
 // The number of the first question of a tick that is answered no, or 0.
 fn tick_refusal(
@@ -71,7 +71,7 @@ fn run_tick(
     queues: &mut [u32],
     copy: &mut [u32],
     flight: &mut [u32],
-) -> Ticked
+) -> TickResult
     requires { ⌜ 1 ≤ ports ⌝ }
     requires { ⌜ Lent ports (now copy) (now credits) (now queues) (now flight) ⌝ }
     requires { ⌜ ports * ports ≤ length (now bookings) ⌝ }
@@ -98,8 +98,8 @@ pub fn tick(
     queues: &mut [u32],
     copy: &mut [u32],
     flight: &mut [u32],
-) -> Ticked
-    ensures answer { λ r. ⌜ r ≡ ticked-of (Pipelined.tick (clock-of ports frame slot) (pipelined-runs-of (now (bookings .entry)) (now (credits .entry)) (now (queues .entry)) (now (copy .entry)) (now (flight .entry)))) ⌝ }
+) -> TickResult
+    ensures answer { λ r. ⌜ r ≡ tick-result-of (Pipelined.tick (clock-of ports frame slot) (pipelined-runs-of (now (bookings .entry)) (now (credits .entry)) (now (queues .entry)) (now (copy .entry)) (now (flight .entry)))) ⌝ }
     ensures credits_exit { λ _. ⌜ now (credits .exit) ≡ Pipelined.tick (clock-of ports frame slot) (pipelined-runs-of (now (bookings .entry)) (now (credits .entry)) (now (queues .entry)) (now (copy .entry)) (now (flight .entry))) .runs .credits ⌝ }
     ensures queues_exit { λ _. ⌜ now (queues .exit) ≡ Pipelined.tick (clock-of ports frame slot) (pipelined-runs-of (now (bookings .entry)) (now (credits .entry)) (now (queues .entry)) (now (copy .entry)) (now (flight .entry))) .runs .queues ⌝ }
     ensures copy_exit { λ _. ⌜ now (copy .exit) ≡ Pipelined.tick (clock-of ports frame slot) (pipelined-runs-of (now (bookings .entry)) (now (credits .entry)) (now (queues .entry)) (now (copy .entry)) (now (flight .entry))) .runs .copy ⌝ }
@@ -107,7 +107,7 @@ pub fn tick(
 {
     let refusal = tick_refusal(ports, frame, slot, bookings, credits, queues, copy, flight);
     if refusal > 0 {
-        return Ticked {
+        return TickResult {
             refusal,
             slot,
             outputs: [0; 32],

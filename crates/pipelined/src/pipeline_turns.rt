@@ -7,7 +7,7 @@ ghost use Rattle.wsgs.specs.Basics.{Port};
 ghost use Rattle.wsgs.specs.Frames.{into-frame};
 ghost use Rattle.wsgs.specs.Pipelined.{slot-one, turn-one, turn-two, reloaded, turns-of, turns};
 ghost use Rattle.turns.specs.Masks.{powers};
-ghost use Rattle.pipelined.specs.Turnings.{turning-of, Lent, Foreseen};
+ghost use Rattle.pipelined.specs.Turnings.{turn-runs-of, Lent, Foreseen};
 use super::flight::free_for;
 use super::flight::output_of;
 use super::flight::row_before;
@@ -33,7 +33,7 @@ fn turn_one(
     requires { ⌜ ports * ports ≤ length (now queues) ⌝ }
     requires { ⌜ row + ports ≤ length (now flight) ⌝ }
     requires { ⌜ now bits ≡ powers 0 32 ⌝ }
-    ensures { λ _. ⌜ ((s : ℕ) → row ≡ s % (2 * ports) * ports → turning-of (now (credits .exit)) (now (queues .exit)) (now (flight .exit)) ≡ turn-one ports s (input .0) (turning-of (now (credits .entry)) (now (queues .entry)) (now (flight .entry)))) ⌝ }
+    ensures { λ _. ⌜ ((s : ℕ) → row ≡ s % (2 * ports) * ports → turn-runs-of (now (credits .exit)) (now (queues .exit)) (now (flight .exit)) ≡ turn-one ports s (input .0) (turn-runs-of (now (credits .entry)) (now (queues .entry)) (now (flight .entry)))) ⌝ }
 {
     let at = row + (input.0 - 1) as usize;
     if output_of(ports, flight[at]).0 > 0 {
@@ -60,7 +60,7 @@ fn turn_two(
     requires { ⌜ ports * ports ≤ length (now queues) ⌝ }
     requires { ⌜ row + ports ≤ length (now flight) ⌝ }
     requires { ⌜ now bits ≡ powers 0 32 ⌝ }
-    ensures { λ _. ⌜ ((s : ℕ) → row ≡ s % (2 * ports) * ports → (c : List ℕ) → turning-of c (now (queues .exit)) (now (flight .exit)) ≡ turn-two ports s (input .0) (turning-of c (now (queues .entry)) (now (flight .entry)))) ⌝ }
+    ensures { λ _. ⌜ ((s : ℕ) → row ≡ s % (2 * ports) * ports → (c : List ℕ) → turn-runs-of c (now (queues .exit)) (now (flight .exit)) ≡ turn-two ports s (input .0) (turn-runs-of c (now (queues .entry)) (now (flight .entry)))) ⌝ }
 {
     let at = row + (input.0 - 1) as usize;
     if output_of(ports, flight[at]).0 > 0 {
@@ -90,7 +90,7 @@ fn reload_row(ports: usize, into: u64, input: Input, copy: &[u32], credits: &mut
     requires { ⌜ Port ports (input .0) ⌝ }
     requires { ⌜ ports * ports ≤ length (now copy) ⌝ }
     requires { ⌜ ports * ports ≤ length (now credits) ⌝ }
-    ensures { λ _. ⌜ ((frame time : ℕ) → ports ≤ frame → into ≡ into-frame frame (time + 2 * ports) → (q f : List ℕ) → turning-of (now (credits .exit)) q f ≡ reloaded ports frame (now (copy .entry)) (slot-one ports time (input .0)) (input .0) (turning-of (now (credits .entry)) q f)) ⌝ }
+    ensures { λ _. ⌜ ((frame time : ℕ) → ports ≤ frame → into ≡ into-frame frame (time + 2 * ports) → (q f : List ℕ) → turn-runs-of (now (credits .exit)) q f ≡ reloaded ports frame (now (copy .entry)) (slot-one ports time (input .0)) (input .0) (turn-runs-of (now (credits .entry)) q f)) ⌝ }
 {
     if into == input.0 - 1 {
         let row = row_of_input(ports, input);
@@ -140,7 +140,7 @@ fn turns_of(
     requires { ⌜ ahead .two < 2 * ports ⌝ }
     requires { ⌜ Port ports (input .0) ⌝ }
     requires { ⌜ now bits ≡ powers 0 32 ⌝ }
-    ensures { λ _. ⌜ ((frame : ℕ) → Foreseen ports frame time (ahead .one) (ahead .two) (ahead .into) → turning-of (now (credits .exit)) (now (queues .exit)) (now (flight .exit)) ≡ turns-of ports frame (now (copy .entry)) time (input .0) (turning-of (now (credits .entry)) (now (queues .entry)) (now (flight .entry)))) ⌝ }
+    ensures { λ _. ⌜ ((frame : ℕ) → Foreseen ports frame time (ahead .one) (ahead .two) (ahead .into) → turn-runs-of (now (credits .exit)) (now (queues .exit)) (now (flight .exit)) ≡ turns-of ports frame (now (copy .entry)) time (input .0) (turn-runs-of (now (credits .entry)) (now (queues .entry)) (now (flight .entry)))) ⌝ }
 {
     if input.0 <= time {
         reload_row(ports, ahead.into, input, copy, credits);
@@ -164,7 +164,7 @@ pub fn all_turns(
     requires { ⌜ Lent ports (now copy) (now credits) (now queues) (now flight) ⌝ }
     requires { ⌜ ahead .one < 2 * ports ⌝ }
     requires { ⌜ ahead .two < 2 * ports ⌝ }
-    ensures { λ _. ⌜ ((frame : ℕ) → Foreseen ports frame time (ahead .one) (ahead .two) (ahead .into) → turning-of (now (credits .exit)) (now (queues .exit)) (now (flight .exit)) ≡ turns ports frame (now (copy .entry)) time (turning-of (now (credits .entry)) (now (queues .entry)) (now (flight .entry))) ports) ⌝ }
+    ensures { λ _. ⌜ ((frame : ℕ) → Foreseen ports frame time (ahead .one) (ahead .two) (ahead .into) → turn-runs-of (now (credits .exit)) (now (queues .exit)) (now (flight .exit)) ≡ turns ports frame (now (copy .entry)) time (turn-runs-of (now (credits .entry)) (now (queues .entry)) (now (flight .entry))) ports) ⌝ }
 {
     let bits = BITS;
     for done in 0..ports {

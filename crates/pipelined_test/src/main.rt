@@ -3,7 +3,7 @@
 // 20 words their sum). `stdout` was worked out by hand.
 ghost use Prim.Native.Nat.{_≤_, _<_};
 use pipelined::tick;
-use wsgs::Ticked;
+use wsgs::TickResult;
 
 const STDOUT: i32 = 1;
 
@@ -37,7 +37,7 @@ fn say_pairs(outputs: [u8; 32], first_pass: u32) {
     }
 }
 
-fn say_answer(answer: Ticked) {
+fn say_answer(answer: TickResult) {
     say_number(b": refusal ", answer.refusal as u64);
     say_number(b", slot ", answer.slot as u64);
     say(b", pairs");

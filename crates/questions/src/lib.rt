@@ -7,12 +7,15 @@ ghost use Rattle.wsgs.specs.Questions.{pair-in-range};
 ghost use Rattle.wsgs.specs.Answers.{direct-runs-of, pipelined-runs-of};
 ghost use Rattle.wsgs.specs.Direct;
 ghost use Rattle.wsgs.specs.Pipelined;
-ghost use Rattle.questions.specs.Asked.{sizes-refusal, pair-refusal};
+ghost use Rattle.questions.specs.Asked.{sizes-refusal, clock-refusal, pair-refusal};
 use runs::direct_runs_suffice;
 use runs::holds_pairs;
 use runs::pipelined_runs_suffice;
 use wsgs::Clock;
 use wsgs::Input;
+use wsgs::MAX_FRAME;
+use wsgs::MAX_PORTS;
+use wsgs::MAX_SLOT;
 use wsgs::Output;
 
 // Whether a number is one of low to high.
@@ -36,11 +39,21 @@ fn are_ports(ports: u64, input: Input, output: Output) -> bool
 fn sizes_refusal(ports: u64, frame: u64) -> u32
     ensures { λ r. ⌜ r ≡ sizes-refusal ports frame ⌝ }
 {
-    if !is_between(1, 32, ports) {
+    if !is_between(1, MAX_PORTS, ports) {
         return 1;
     }
-    if !is_between(1, 10_000, frame) {
+    if !is_between(1, MAX_FRAME, frame) {
         return 2;
+    }
+    0
+}
+
+// The clock of a switch that is to run a slot more: question 7.
+fn clock_refusal(clock: Clock) -> u32
+    ensures { λ r. ⌜ r ≡ clock-refusal clock ⌝ }
+{
+    if clock.slot >= MAX_SLOT {
+        return 7;
     }
     0
 }
@@ -63,7 +76,7 @@ pub fn pair_refusal(clock: Clock, run: &[u32], input: Input, output: Output) -> 
     0
 }
 
-// The sizes and the runs of a direct switch, at its start and at each tick: questions 1, 2 and 4.
+// The start of a direct switch: questions 1, 2 and 4.
 pub fn direct_refusal(
     ports: u64,
     frame: u64,
@@ -83,7 +96,25 @@ pub fn direct_refusal(
     0
 }
 
-// Those of a pipelined switch: questions 1 to 4.
+// A tick of a direct switch: those, and question 7.
+pub fn direct_tick_refusal(clock: Clock, bookings: &[u32], credits: &[u32], queues: &[u32]) -> u32
+    ensures { λ r. ⌜ r ≡ Direct.tick-refusal clock
+        (direct-runs-of (now (bookings .entry)) (now (credits .entry)) (now (queues .entry))) ⌝ }
+{
+    let refusal = direct_refusal(
+        clock.ports as u64,
+        clock.frame as u64,
+        bookings,
+        credits,
+        queues,
+    );
+    if refusal != 0 {
+        return refusal;
+    }
+    clock_refusal(clock)
+}
+
+// The start of a pipelined switch: questions 1 to 4.
 pub fn pipelined_refusal(
     ports: u64,
     frame: u64,
@@ -106,4 +137,31 @@ pub fn pipelined_refusal(
         return 4;
     }
     0
+}
+
+// A tick of a pipelined switch: those, and question 7.
+pub fn pipelined_tick_refusal(
+    clock: Clock,
+    bookings: &[u32],
+    credits: &[u32],
+    queues: &[u32],
+    copy: &[u32],
+    flight: &[u32],
+) -> u32
+    ensures { λ r. ⌜ r ≡ Pipelined.tick-refusal clock
+        (pipelined-runs-of (now (bookings .entry)) (now (credits .entry)) (now (queues .entry)) (now (copy .entry)) (now (flight .entry))) ⌝ }
+{
+    let refusal = pipelined_refusal(
+        clock.ports as u64,
+        clock.frame as u64,
+        bookings,
+        credits,
+        queues,
+        copy,
+        flight,
+    );
+    if refusal != 0 {
+        return refusal;
+    }
+    clock_refusal(clock)
 }

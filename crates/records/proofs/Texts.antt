@@ -10,7 +10,7 @@ use lib.Dec.{eqb}
 use lib.ListN.{length, getD, drop, drop-of-length-le}
 use lib.Seq.{drop-cons}
 use Rattle.wsgs.specs.Basics.{same}
-use Rattle.wsgs.specs.declared.Named.the-variants.{Known}
+use Rattle.wsgs.specs.declared.OperationField.the-variants.{Known}
 use Rattle.wsgs.specs.Text.{comma, bytes, look-up, Name}
 use Rattle.records.specs.Commas.{first-comma}
 

@@ -1,7 +1,7 @@
 // What an event record says: its fields, their numbers, and its operation.
 use wsgs::Field;
-use wsgs::Named;
 use wsgs::Operation;
+use wsgs::OperationField;
 use wsgs::Reading;
 ghost use mathlib.Core.Path.{_≡_};
 ghost use Rattle.wsgs.specs.Basics.{same};
@@ -52,28 +52,28 @@ fn is_same(a: &[u8], b: &[u8]) -> bool
 }
 
 // The operation that a record's first field names.
-pub fn look_up(text: &[u8]) -> Named
+pub fn look_up(text: &[u8]) -> OperationField
     ensures { λ r. ⌜ r ≡ look-up names (now (text .entry)) ⌝ }
 {
     if is_same(text, b"start") {
-        return Named::Known(Operation::Start);
+        return OperationField::Known(Operation::Start);
     }
     if is_same(text, b"pipe") {
-        return Named::Known(Operation::Pipe);
+        return OperationField::Known(Operation::Pipe);
     }
     if is_same(text, b"book") {
-        return Named::Known(Operation::Book);
+        return OperationField::Known(Operation::Book);
     }
     if is_same(text, b"release") {
-        return Named::Known(Operation::Release);
+        return OperationField::Known(Operation::Release);
     }
     if is_same(text, b"arrive") {
-        return Named::Known(Operation::Arrive);
+        return OperationField::Known(Operation::Arrive);
     }
     if is_same(text, b"tick") {
-        return Named::Known(Operation::Tick);
+        return OperationField::Known(Operation::Tick);
     }
-    Named::Unknown
+    OperationField::Unknown
 }
 
 // The place of the first comma, or the length where there is none.
@@ -108,7 +108,7 @@ fn unused_are_zero(operation: Operation, x: u64, y: u64, z: u64) -> bool
 fn read_fields(name: &[u8], second: &[u8], third: &[u8], fourth: &[u8]) -> Reading
     ensures { λ r. ⌜ r ≡ reading-of (look-up names (now (name .entry))) (read-field (now (second .entry))) (read-field (now (third .entry))) (read-field (now (fourth .entry))) ⌝ }
 {
-    let Named::Known(operation) = look_up(name) else {
+    let OperationField::Known(operation) = look_up(name) else {
         return Reading::Unreadable;
     };
     let Field::Number(x) = read_field(second) else {
@@ -121,7 +121,7 @@ fn read_fields(name: &[u8], second: &[u8], third: &[u8], fourth: &[u8]) -> Readi
         return Reading::Unreadable;
     };
     if unused_are_zero(operation, x, y, z) {
-        Reading::Asks(operation, x, y, z)
+        Reading::Request(operation, x, y, z)
     } else {
         Reading::Unreadable
     }

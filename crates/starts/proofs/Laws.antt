@@ -5,7 +5,7 @@ use Prim.Native.Nat.{ℕ, _*_}
 use borrow.Author.Tests.{eq-eqb, ne-eqb}
 use Rattle.wsgs.specs.declared.Clock.{Clock}
 use Rattle.wsgs.specs.Questions.{accepted, Outcome, refused}
-use Rattle.wsgs.specs.Answers.{clock-of, started-of}
+use Rattle.wsgs.specs.Answers.{clock-of, start-result-of}
 use Rattle.wsgs.specs.Direct
 use Rattle.wsgs.specs.Pipelined
 use Rattle.words.specs.Runs.{clear-words}
@@ -27,7 +27,7 @@ module _ (n f : ℕ) (w : Direct.Runs) (c : Clock) where
 
   -- what a refused one leaves
   pub direct-stays : (r : ℕ) → r ≡ Direct.start-refusal n f w → r ≢ 0
-      → (record { refusal = r; clock = c } ≡ started-of direct)
+      → (record { refusal = r; clock = c } ≡ start-result-of direct)
       × ((w .bookings ≡ direct .runs .bookings) × ((w .credits ≡ direct .runs .credits) × (w .queues ≡ direct .runs .queues)))
   unfolding Direct.start
   direct-stays r e h =
@@ -35,7 +35,7 @@ module _ (n f : ℕ) (w : Direct.Runs) (c : Clock) where
 
   -- and an accepted one
   pub direct-clears : 0 ≡ Direct.start-refusal n f w → (k : Clock) → k ≡ clock-of n f 0
-      → (record { refusal = 0; clock = k } ≡ started-of direct)
+      → (record { refusal = 0; clock = k } ≡ start-result-of direct)
       × ((clear-words (n * n) (w .bookings) ≡ direct .runs .bookings)
       × ((clear-words (n * n) (w .credits) ≡ direct .runs .credits) × (clear-words (n * n) (w .queues) ≡ direct .runs .queues)))
   unfolding Direct.start
@@ -51,7 +51,7 @@ module _ (n f : ℕ) (w : Pipelined.Runs) (c : Clock) where
 
   -- what a refused one leaves
   pub pipelined-stays : (r : ℕ) → r ≡ Pipelined.start-refusal n f w → r ≢ 0
-      → (record { refusal = r; clock = c } ≡ started-of pipelined)
+      → (record { refusal = r; clock = c } ≡ start-result-of pipelined)
       × ((w .bookings ≡ pipelined .runs .bookings)
       × ((w .credits ≡ pipelined .runs .credits)
       × ((w .queues ≡ pipelined .runs .queues) × ((w .copy ≡ pipelined .runs .copy) × (w .flight ≡ pipelined .runs .flight)))))
@@ -61,7 +61,7 @@ module _ (n f : ℕ) (w : Pipelined.Runs) (c : Clock) where
 
   -- and an accepted one
   pub pipelined-clears : 0 ≡ Pipelined.start-refusal n f w → (k : Clock) → k ≡ clock-of n f 0
-      → (record { refusal = 0; clock = k } ≡ started-of pipelined)
+      → (record { refusal = 0; clock = k } ≡ start-result-of pipelined)
       × ((clear-words (n * n) (w .bookings) ≡ pipelined .runs .bookings)
       × ((clear-words (n * n) (w .credits) ≡ pipelined .runs .credits)
       × ((clear-words (n * n) (w .queues) ≡ pipelined .runs .queues)

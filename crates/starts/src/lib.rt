@@ -1,6 +1,6 @@
 // The starts of a switch, direct and pipelined: refused, or every used word set to 0.
 ghost use mathlib.Core.Path.{_≡_};
-ghost use Rattle.wsgs.specs.Answers.{started-of, direct-runs-of, pipelined-runs-of};
+ghost use Rattle.wsgs.specs.Answers.{start-result-of, direct-runs-of, pipelined-runs-of};
 ghost use Rattle.wsgs.specs.Direct;
 ghost use Rattle.wsgs.specs.Pipelined;
 
@@ -12,7 +12,7 @@ use initial::first_clock;
 use questions::direct_refusal;
 use questions::pipelined_refusal;
 use wsgs::Clock;
-use wsgs::Started;
+use wsgs::StartResult;
 
 // Starts a direct switch.
 pub fn start_direct(
@@ -22,18 +22,18 @@ pub fn start_direct(
     bookings: &mut [u32],
     credits: &mut [u32],
     queues: &mut [u32],
-) -> Started
-    ensures { λ r. ⌜ r ≡ started-of (Direct.start ports frame clock (direct-runs-of (now (bookings .entry)) (now (credits .entry)) (now (queues .entry)))) ⌝ }
+) -> StartResult
+    ensures { λ r. ⌜ r ≡ start-result-of (Direct.start ports frame clock (direct-runs-of (now (bookings .entry)) (now (credits .entry)) (now (queues .entry)))) ⌝ }
     ensures { λ _. ⌜ now (bookings .exit) ≡ Direct.start ports frame clock (direct-runs-of (now (bookings .entry)) (now (credits .entry)) (now (queues .entry))) .runs .bookings ⌝ }
     ensures { λ _. ⌜ now (credits .exit) ≡ Direct.start ports frame clock (direct-runs-of (now (bookings .entry)) (now (credits .entry)) (now (queues .entry))) .runs .credits ⌝ }
     ensures { λ _. ⌜ now (queues .exit) ≡ Direct.start ports frame clock (direct-runs-of (now (bookings .entry)) (now (credits .entry)) (now (queues .entry))) .runs .queues ⌝ }
 {
     let refusal = direct_refusal(ports, frame, bookings, credits, queues);
     if refusal != 0 {
-        return Started { refusal, clock };
+        return StartResult { refusal, clock };
     }
     clear_matrices(ports, bookings, credits, queues);
-    Started {
+    StartResult {
         refusal: 0,
         clock: first_clock(ports, frame),
     }
@@ -49,8 +49,8 @@ pub fn start_pipelined(
     queues: &mut [u32],
     copy: &mut [u32],
     flight: &mut [u32],
-) -> Started
-    ensures { λ r. ⌜ r ≡ started-of (Pipelined.start ports frame clock (pipelined-runs-of (now (bookings .entry)) (now (credits .entry)) (now (queues .entry)) (now (copy .entry)) (now (flight .entry)))) ⌝ }
+) -> StartResult
+    ensures { λ r. ⌜ r ≡ start-result-of (Pipelined.start ports frame clock (pipelined-runs-of (now (bookings .entry)) (now (credits .entry)) (now (queues .entry)) (now (copy .entry)) (now (flight .entry)))) ⌝ }
     ensures { λ _. ⌜ now (bookings .exit) ≡ Pipelined.start ports frame clock (pipelined-runs-of (now (bookings .entry)) (now (credits .entry)) (now (queues .entry)) (now (copy .entry)) (now (flight .entry))) .runs .bookings ⌝ }
     ensures { λ _. ⌜ now (credits .exit) ≡ Pipelined.start ports frame clock (pipelined-runs-of (now (bookings .entry)) (now (credits .entry)) (now (queues .entry)) (now (copy .entry)) (now (flight .entry))) .runs .credits ⌝ }
     ensures { λ _. ⌜ now (queues .exit) ≡ Pipelined.start ports frame clock (pipelined-runs-of (now (bookings .entry)) (now (credits .entry)) (now (queues .entry)) (now (copy .entry)) (now (flight .entry))) .runs .queues ⌝ }
@@ -59,11 +59,11 @@ pub fn start_pipelined(
 {
     let refusal = pipelined_refusal(ports, frame, bookings, credits, queues, copy, flight);
     if refusal != 0 {
-        return Started { refusal, clock };
+        return StartResult { refusal, clock };
     }
     clear_matrices(ports, bookings, credits, queues);
     clear_ahead(ports, copy, flight);
-    Started {
+    StartResult {
         refusal: 0,
         clock: first_clock(ports, frame),
     }

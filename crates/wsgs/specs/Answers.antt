@@ -1,18 +1,17 @@
--- The outcome of a start or a tick in the types that the code answers with. Assumes nothing.
+-- The outcome of a start or a tick in the types that the code answers with, beside the lent runs. Assumes nothing.
+use mathlib.Core.Bool.{_&&_}
 use mathlib.Core.List.{List}
-use Prim.Native.Nat.{ℕ}
-use Rattle.wsgs.specs.declared.Clock.{Clock}
-use Rattle.wsgs.specs.declared.Started.{Started}
+use Prim.Native.Nat.{ℕ, _-_, _/_, _%_, _^_}
+use lib.Dec.{eqb, ltb}
+use lib.ListN.{getD}
+use Rattle.wsgs.specs.declared.StartResult.{StartResult}
 use Rattle.wsgs.specs.declared.Answer.{Answer}
-use Rattle.wsgs.specs.declared.Ticked.{Ticked}
-use Rattle.wsgs.specs.Steps.{outputs-of, pass-word-of}
-use Rattle.wsgs.specs.Questions.{Outcome}
+use Rattle.wsgs.specs.declared.TickResult.{TickResult}
+use Rattle.wsgs.specs.Basics.{pick}
+use Rattle.wsgs.specs.Steps.{Matching, outputs-of, pass-word-of}
+use Rattle.wsgs.specs.Questions.{Outcome, Effect, effect}
 use Rattle.wsgs.specs.Direct
 use Rattle.wsgs.specs.Pipelined
-
--- the clock that holds three numbers
-abbrev pub clock-of : (ports frame slot : ℕ) → Clock
-clock-of n f k = record { ports = n; frame = f; slot = k }
 
 -- the runs that a call is lent
 abbrev pub direct-runs-of : (bookings credits queues : List ℕ) → Direct.Runs
@@ -21,19 +20,26 @@ direct-runs-of a c q = record { bookings = a; credits = c; queues = q }
 abbrev pub pipelined-runs-of : (bookings credits queues copy flight : List ℕ) → Pipelined.Runs
 pipelined-runs-of a c q p f = record { bookings = a; credits = c; queues = q; copy = p; flight = f }
 
--- what a start answers
-abbrev pub started-of : {Runs : Type 0} → Outcome Runs → Started
-started-of o = record { refusal = o .refusal; clock = o .clock }
+-- what a start gives back, and with it the runs
+abbrev pub start-result-of : {Runs : Type 0} → Outcome Runs → StartResult
+start-result-of o = record { refusal = o .refusal; clock = o .clock }
 
--- what a tick answers, beside its clock and beside the clock's three numbers
-abbrev pub answer-of : {Runs : Type 0} → Outcome Runs → Answer
-answer-of o = record { refusal = o .refusal; outputs = outputs-of (o .matching); «first_pass» = pass-word-of (o .matching) }
+abbrev pub start-effect : {Runs : Type 0} → Outcome Runs → Effect StartResult Runs
+start-effect o = effect (start-result-of o) (o .runs)
 
-abbrev pub ticked-of : {Runs : Type 0} → Outcome Runs → Ticked
-ticked-of o =
-    record {
-      refusal = o .refusal;
-      slot = o .clock .slot;
-      outputs = outputs-of (o .matching);
-      «first_pass» = pass-word-of (o .matching);
-    }
+-- what a tick gives back, and with it the runs
+abbrev pub tick-result-of : {Runs : Type 0} → Outcome Runs → TickResult
+tick-result-of o =
+    record { refusal = o .refusal; clock = o .clock; outputs = outputs-of (o .matching); «first_pass» = pass-word-of (o .matching) }
+
+abbrev pub tick-effect : {Runs : Type 0} → Outcome Runs → Effect TickResult Runs
+tick-effect o = effect (tick-result-of o) (o .runs)
+
+-- the answer of a tick that has advanced its caller's clock: its result without the clock
+abbrev pub answer-of : TickResult → Answer
+answer-of r = record { refusal = r .refusal; outputs = r .outputs; «first_pass» = r .«first_pass» }
+
+-- the pairs that 32 output numbers and a word of the inputs served by pass one stand for
+abbrev pub matching-of : (outputs : List ℕ) (pass-word : ℕ) → Matching
+matching-of outputs w =
+    record { output = λ i. pick (ltb 0 i) (getD outputs (i - 1) 0) 0; first = λ i. ltb 0 i && eqb (w / 2 ^ (i - 1) % 2) 1 }

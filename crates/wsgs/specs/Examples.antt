@@ -3,6 +3,7 @@
 use mathlib.Core.List.{List, [], _∷_, _++_}
 use Prim.Native.Nat.{ℕ, zero, suc, _-_}
 use lib.ListN.{replicate}
+use Rattle.wsgs.specs.Clocks.{clock-of}
 use Rattle.wsgs.specs.Switch.{Switch, Form, direct, pipelined, Call, start, book, book-rate, arrive, tick}
 use Rattle.wsgs.specs.Ledger.{Ledger, ledger-of, reading, others, waited, served}
 
@@ -48,7 +49,7 @@ ticks m (suc k) = tick m ∷ ticks m k
 abbrev pub some-switch : Switch
 some-switch =
     record {
-      clock = record { ports = 9; frame = 2; slot = 77 };
+      clock = clock-of 9 2 77;
       bookings = replicate 9 8;
       credits = replicate 9 7;
       queues = replicate 9 6;
@@ -128,5 +129,5 @@ pipelined-films =
 abbrev pub examples : List Example
 examples = direct-films ∷ direct-second-frame ∷ pipelined-films ∷ []
 
-abbrev pub told : List Tally
-told = all-are 2 ∷ all-are 1 ∷ all-are 2 ∷ []
+abbrev pub expected-tallies : List Tally
+expected-tallies = all-are 2 ∷ all-are 1 ∷ all-are 2 ∷ []

@@ -1,5 +1,6 @@
 -- The definitions, from words to the claims; then the edges and the event program.
 pub mod Basics
+pub mod Clocks
 pub mod Words
 pub mod Frames
 pub mod Steps

@@ -1,5 +1,19 @@
 // The WSGS slot scheduler: the types that its definitions and its code share. The definitions stand in specs/, the theorems in proofs/.
 
+// The limits that calls are held to: ports of a switch; slots of a frame; packets that arrive by one call; packets in a queue; the rate of a
+// line, in kbit/s; and the slots that a clock can run.
+pub const MAX_PORTS: u64 = 32;
+
+pub const MAX_FRAME: u64 = 10_000;
+
+pub const MAX_ARRIVAL: u64 = 65_535;
+
+pub const MAX_QUEUE: u64 = 1_000_000;
+
+pub const MAX_LINE_RATE: u64 = 100_000_000;
+
+pub const MAX_SLOT: u32 = 4_000_000_000;
+
 // The number of ports, the length of a frame and the last slot run.
 pub struct Clock {
     pub ports: u32,
@@ -17,24 +31,24 @@ pub struct BookedSlots(pub u64);
 
 pub struct Credits(pub u32);
 
-// What a start answers: the refusal, 0 for none, and the clock afterwards.
-pub struct Started {
+// What a start gives back: the refusal, 0 for none, and the clock afterwards.
+pub struct StartResult {
     pub refusal: u32,
     pub clock: Clock,
 }
 
-// What a tick answers: the refusal, 0 for none; the output of each input from 1 on, 0 for none; and a word whose bit i - 1 tells that input i
-// was served by pass one.
-pub struct Answer {
+// What a tick gives back: the refusal, 0 for none; the clock afterwards; the output of each input from 1 on, 0 for none; and a word whose bit
+// i - 1 tells that input i was served by pass one.
+pub struct TickResult {
     pub refusal: u32,
+    pub clock: Clock,
     pub outputs: [u8; 32],
     pub first_pass: u32,
 }
 
-// The same beside the last slot run afterwards, where the clock goes in and out as its three numbers.
-pub struct Ticked {
+// The same without the clock, where the tick has advanced the caller's own.
+pub struct Answer {
     pub refusal: u32,
-    pub slot: u32,
     pub outputs: [u8; 32],
     pub first_pass: u32,
 }
@@ -55,14 +69,23 @@ pub enum Operation {
     Tick,
 }
 
-// What the first field of an event record names.
-pub enum Named {
+// What the first field of an event record reads as.
+pub enum OperationField {
     Known(Operation),
     Unknown,
 }
 
-// What an event record says: an operation with the numbers of its three other fields, or nothing readable.
+// What an event record reads as: a request, which is an operation with the numbers of the three other fields, or the number that refuses it.
 pub enum Reading {
-    Asks(Operation, u64, u64, u64),
-    Unreadable,
+    Request(Operation, u64, u64, u64),
+    Refused(u32),
+}
+
+// A refusal as its line of the event program has it: the last slot run, the record's second and third field, and the number. All are 0 where
+// there is none.
+pub struct Refusal {
+    pub slot: u64,
+    pub input: u64,
+    pub output: u64,
+    pub number: u32,
 }

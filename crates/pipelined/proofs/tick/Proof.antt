@@ -4,18 +4,18 @@ use mathlib.Core.List.{List}
 use Prim.Native.Nat.{ℕ}
 use native.Mathlib.Omega.{arith}
 use borrow.Author.Needs.{needs}
-use Rattle.wsgs.specs.declared.Ticked.{Ticked}
+use Rattle.wsgs.specs.declared.TickResult.{TickResult}
 use Rattle.wsgs.specs.Questions.{Outcome}
 use Rattle.wsgs.specs.Pipelined.{Runs}
-use Rattle.wsgs.specs.Answers.{pipelined-runs-of, ticked-of}
+use Rattle.wsgs.specs.Answers.{pipelined-runs-of, tick-result-of}
 use Rattle.pipelined.specs.Turnings.{Left}
 use Rattle.pipelined.proofs.PipelinedTick.{Accepted, accepted-found, tick-ran, tick-refused}
 use Rattle.pipelined.proofs.tick.Statement.{statement}
 use Rattle.pipelined.proofs.tick.Tie as tie
 
 -- what a tick leaves, clause by clause
-parts : {o : Outcome Runs} {r : Ticked} {c q p l : List ℕ} → Left o r c q p l
-    → (r ≡ ticked-of o) × ((c ≡ o .runs .credits) × ((q ≡ o .runs .queues) × ((p ≡ o .runs .copy) × (l ≡ o .runs .flight))))
+parts : {o : Outcome Runs} {r : TickResult} {c q p l : List ℕ} → Left o r c q p l
+    → (r ≡ tick-result-of o) × ((c ≡ o .runs .credits) × ((q ≡ o .runs .queues) × ((p ≡ o .runs .copy) × (l ≡ o .runs .flight))))
 parts d = (d .answer, (d .credits, (d .queues, (d .copy, d .flight))))
 
 -- what an accepted tick found

@@ -8,12 +8,13 @@ use native.Mathlib.Omega.{arith}
 use lib.Dec.{leb}
 use lib.ListN.{length}
 use borrow.Author.Tests.{le-leb, lt-leb}
-use Rattle.wsgs.specs.Questions.{Question, first-no, frame-covers-ports, long-enough, holds-pairs}
+use Rattle.wsgs.specs.declared.Clock.{Clock}
+use Rattle.wsgs.specs.Questions.{Question, first-no, frame-covers-ports, long-enough, clock-can-advance, holds-pairs}
 use Rattle.wsgs.specs.Answers.{direct-runs-of}
 use Rattle.wsgs.specs.Direct
 use Rattle.wsgs.specs.Pipelined
 use Rattle.wsgs.proofs.Laws.Questions.{none-left, asked-no, asked-yes, all-yes, rest-decides, some-no, DirectLong, PipelinedLong, direct-yes, pipelined-yes}
-use Rattle.questions.specs.Asked.{Sizes, on-sizes, sizes-refusal}
+use Rattle.questions.specs.Asked.{Sizes, on-sizes, sizes-refusal, clock-refusal}
 use Rattle.questions.proofs.Laws.Answers.{said-no, said-yes}
 
 -- DIRECT
@@ -45,6 +46,16 @@ module _ (n f : ℕ) (w : Direct.Runs) where
   direct-asked e =
       let a = direct-yes n f w [] (all-yes (Direct.questions n f w []) (omega arith) (sym e)) in
       (record { some-port = a .ports .0; few-ports = a .ports .1; some-slot = a .frame .0; few-slots = a .frame .1 }, a .long)
+
+-- A TICK of it: sizes or runs refuse as at a start, and else the clock decides
+module _ (c : Clock) (w : Direct.Runs) where
+  pub direct-tick-sized : (r : ℕ) → r ≡ Direct.start-refusal (c .ports) (c .frame) w → r ≢ 0 → r ≡ Direct.tick-refusal c w
+  unfolding Direct.start-refusal Direct.tick-refusal
+  direct-tick-sized r = some-no (Direct.questions (c .ports) (c .frame) w []) (clock-can-advance (c .slot) ∷ []) r
+
+  pub direct-tick-clock : 0 ≡ Direct.start-refusal (c .ports) (c .frame) w → clock-refusal c ≡ Direct.tick-refusal c w
+  unfolding Direct.start-refusal Direct.tick-refusal clock-refusal
+  direct-tick-clock e = rest-decides (Direct.questions (c .ports) (c .frame) w []) (clock-can-advance (c .slot) ∷ []) (omega arith) e
 
 -- the runs of a pipelined switch: those of a direct one, the copy and the words in flight
 module _ (n : ℕ) (w : Pipelined.Runs) where
@@ -111,3 +122,13 @@ module _ (n f : ℕ) (w : Pipelined.Runs) where
         a .0,
         a .1 .long,
       )
+
+-- A TICK of it: sizes or runs refuse as at a start, and else the clock decides
+module _ (c : Clock) (w : Pipelined.Runs) where
+  pub pipelined-tick-sized : (r : ℕ) → r ≡ Pipelined.start-refusal (c .ports) (c .frame) w → r ≢ 0 → r ≡ Pipelined.tick-refusal c w
+  unfolding Pipelined.start-refusal Pipelined.tick-refusal
+  pipelined-tick-sized r = some-no (Pipelined.questions (c .ports) (c .frame) w []) (clock-can-advance (c .slot) ∷ []) r
+
+  pub pipelined-tick-clock : 0 ≡ Pipelined.start-refusal (c .ports) (c .frame) w → clock-refusal c ≡ Pipelined.tick-refusal c w
+  unfolding Pipelined.start-refusal Pipelined.tick-refusal clock-refusal
+  pipelined-tick-clock e = rest-decides (Pipelined.questions (c .ports) (c .frame) w []) (clock-can-advance (c .slot) ∷ []) (omega arith) e

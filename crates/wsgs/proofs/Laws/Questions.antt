@@ -78,13 +78,12 @@ some-no (q ∷ qs) rs r e h = go (q .yes) e (λ d. some-no qs rs r d h)
     go true e h = h e
     go false e h = e
 
--- the question on the clock, put after others that are answered yes
-module _ (qs : List Question) (k : Numbered qs) (passed : 0 ≡ first-no qs) (slot : ℕ) where
-  pub clock-stands : 4000000000 ≤ slot → 7 ≡ first-no (qs ++ (clock-can-advance slot ∷ []))
-  clock-stands h = asked-no _ _ (le-ltb slot 4000000000 h) ∙ rest-decides qs _ k passed
+-- the question on the clock
+pub clock-stands : (slot : ℕ) → 4000000000 ≤ slot → 7 ≡ first-no (clock-can-advance slot ∷ [])
+clock-stands slot h = asked-no _ _ (le-ltb slot 4000000000 h)
 
-  pub clock-advances : slot < 4000000000 → 0 ≡ first-no (qs ++ (clock-can-advance slot ∷ []))
-  clock-advances h = none-left ∙ asked-yes _ _ (lt-ltb slot 4000000000 h) ∙ rest-decides qs _ k passed
+pub clock-advances : (slot : ℕ) → slot < 4000000000 → 0 ≡ first-no (clock-can-advance slot ∷ [])
+clock-advances slot h = none-left ∙ asked-yes _ _ (lt-ltb slot 4000000000 h)
 
 -- the runs of a direct switch are long enough
 pub record DirectLong (n : ℕ) (w : Direct.Runs) : Type 0 where
@@ -93,7 +92,7 @@ pub record DirectLong (n : ℕ) (w : Direct.Runs) : Type 0 where
   pub queues : n * n ≤ length (w .queues)
 
 -- those that the turns of a pipelined tick change, and all that it borrows
-pub record TurningLong (n : ℕ) (w : Pipelined.Turning) : Type 0 where
+pub record TurningLong (n : ℕ) (w : Pipelined.TurnRuns) : Type 0 where
   pub credits : n * n ≤ length (w .credits)
   pub queues : n * n ≤ length (w .queues)
   pub flight : 2 * n * n ≤ length (w .flight)
@@ -101,7 +100,7 @@ pub record TurningLong (n : ℕ) (w : Pipelined.Turning) : Type 0 where
 pub record PipelinedLong (n : ℕ) (w : Pipelined.Runs) : Type 0 where
   pub bookings : n * n ≤ length (w .bookings)
   pub copy : n * n ≤ length (w .copy)
-  pub sized : TurningLong n (Pipelined.turning w)
+  pub sized : TurningLong n (Pipelined.turn-runs w)
 
 -- what has been asked of sizes and runs where the questions of a form, and those after them, are answered yes
 pub record Asked (n f : ℕ) (Long : Type 0) (qs : List Question) : Type 0 where
