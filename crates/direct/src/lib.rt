@@ -52,12 +52,7 @@ fn run_slot(clock: Clock, bookings: &[u32], credits: &mut [u32], queues: &mut [u
 }
 
 // A tick: the questions, then the slot. The clock goes in and comes back whole.
-pub fn tick(
-    clock: Clock,
-    bookings: &[u32],
-    credits: &mut [u32],
-    queues: &mut [u32],
-) -> TickResult
+pub fn tick(clock: Clock, bookings: &[u32], credits: &mut [u32], queues: &mut [u32]) -> TickResult
     ensures outcome { λ r. ⌜ effect r (direct-runs-of (now (bookings .entry)) (now (credits .exit)) (now (queues .exit)))
         ≡ tick-effect (Direct.tick clock (direct-runs-of (now (bookings .entry)) (now (credits .entry)) (now (queues .entry)))) ⌝ }
 {
