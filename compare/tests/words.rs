@@ -1,129 +1,39 @@
 //! The proved library beside the second program: after every call the result, the clock and every lent word are compared, refused calls too.
-//! KIVDRAG_SEED and KIVDRAG_CALLS set other seeds and counts.
+//! KIVDRAG_SEED, KIVDRAG_CALLS and KIVDRAG_LISTS set another seed and other counts.
 
-use compare::{setting, Random, Runs};
-use second::{Answer, Clock, Direct, Pipelined};
+use compare::calls::{Arguments, Call, CALLS, MOST_LISTED};
+use compare::{rules, setting, Random};
+use second::switch::{used, EVERY_RUN};
+use second::{Answer, Clock, Form, Run, Switch, Words};
+use std::collections::BTreeMap;
 
-/// A call with its arguments, of any size.
-#[derive(Clone, Copy, Debug)]
-enum Call {
-    Start(bool, u64, u64),
-    Book(u64, u64, u64),
-    BookRate(u64, u64, u64, u64),
-    Release(u64, u64, u64),
-    Arrive(u64, u64, u64),
-    Tick(bool),
-}
+const FORMS: [Form; 2] = [Form::Direct, Form::Pipelined];
 
-const NOTHING: Answer = Answer { refusal: 0, outputs: [0; 32], first: 0 };
-
-/// The second program's arguments are narrower: a number that it cannot take is out of range as its largest one is.
-fn narrow(x: u64) -> u32 {
-    u32::try_from(x).unwrap_or(u32::MAX)
-}
-
-fn refused(refusal: u32) -> Answer {
-    Answer { refusal, ..NOTHING }
-}
-
-fn direct(w: &Runs) -> Direct {
-    Direct { bookings: w.bookings.clone(), credits: w.credits.clone(), queues: w.queues.clone() }
-}
-
-fn pipelined(w: &Runs) -> Pipelined {
-    Pipelined { bookings: w.bookings.clone(), credits: w.credits.clone(), queues: w.queues.clone(), copy: w.copy.clone(), flight: w.flight.clone() }
-}
-
-fn by_second(call: Call, clock: &mut Clock, w: &mut Runs) -> Answer {
-    match call {
-        Call::Start(false, n, f) => {
-            let mut d = direct(w);
-            let refusal = second::start_direct(narrow(n), narrow(f), clock, &mut d);
-            (w.bookings, w.credits, w.queues) = (d.bookings, d.credits, d.queues);
-            refused(refusal)
-        }
-        Call::Start(true, n, f) => {
-            let mut p = pipelined(w);
-            let refusal = second::start_pipelined(narrow(n), narrow(f), clock, &mut p);
-            *w = Runs { bookings: p.bookings, credits: p.credits, queues: p.queues, copy: p.copy, flight: p.flight };
-            refused(refusal)
-        }
-        Call::Book(i, j, d) => refused(second::book(clock, &mut w.bookings, narrow(i), narrow(j), d)),
-        Call::BookRate(i, j, line, rate) => refused(second::book_rate(clock, &mut w.bookings, narrow(i), narrow(j), line, rate)),
-        Call::Release(i, j, d) => refused(second::release(clock, &mut w.bookings, narrow(i), narrow(j), d)),
-        Call::Arrive(i, j, d) => refused(second::arrive(clock, &mut w.queues, narrow(i), narrow(j), d)),
-        Call::Tick(false) => {
-            let mut d = direct(w);
-            let answer = second::tick_direct(clock, &mut d);
-            (w.bookings, w.credits, w.queues) = (d.bookings, d.credits, d.queues);
-            answer
-        }
-        Call::Tick(true) => {
-            let mut p = pipelined(w);
-            let answer = second::tick_pipelined(clock, &mut p);
-            *w = Runs { bookings: p.bookings, credits: p.credits, queues: p.queues, copy: p.copy, flight: p.flight };
-            answer
-        }
-    }
-}
-
-fn by_library(call: Call, clock: &mut Clock, w: &mut Runs) -> Answer {
-    match call {
-        Call::Start(form, n, f) => refused(compare::start(form, n, f, clock, w)),
-        Call::Book(i, j, d) => refused(compare::book(clock, &mut w.bookings, i, j, d)),
-        Call::BookRate(i, j, line, rate) => refused(compare::book_rate(clock, &mut w.bookings, i, j, line, rate)),
-        Call::Release(i, j, d) => refused(compare::release(clock, &mut w.bookings, i, j, d)),
-        Call::Arrive(i, j, d) => refused(compare::arrive(clock, &mut w.queues, i, j, d)),
-        Call::Tick(form) => compare::tick(form, clock, w),
-    }
+/// A call by its weight, of those that a switch of the form has.
+fn drawn(r: &mut Random, form: Form, weight: fn(&Call) -> u64) -> &'static Call {
+    let choices = || CALLS.iter().filter(|call| call.form.is_none_or(|of| of == form));
+    let mut at = r.within(1, choices().map(weight).sum());
+    choices()
+        .find(|call| {
+            let found = at <= weight(call);
+            at = at.saturating_sub(weight(call));
+            found
+        })
+        .expect("at is at most the sum")
 }
 
 /// One call on both; they must agree on all of it.
-fn both(call: Call, clock: &mut Clock, w: &mut Runs) -> Answer {
-    let (before_clock, before) = (*clock, w.clone());
-    let (mut other_clock, mut other) = (*clock, w.clone());
-    let answer = by_library(call, clock, w);
-    let expected = by_second(call, &mut other_clock, &mut other);
-    assert_eq!(answer, expected, "{call:?} on {before_clock:?} {before:?}");
-    assert_eq!(*clock, other_clock, "{call:?} on {before_clock:?} {before:?}");
-    assert_eq!(*w, other, "{call:?} on {before_clock:?} {before:?}");
+fn both(call: &Call, form: Form, arguments: Arguments, s: &mut Switch) -> Answer {
+    let (before, mut other) = (s.clone(), s.clone());
+    let answer = (call.by_library)(s, form, arguments);
+    let expected = (call.by_second)(&mut other, form, arguments);
+    let said = || format!("{} {form:?} {arguments:?} on {before:?}", call.name);
+    assert_eq!(answer, expected, "{}", said());
+    assert_eq!(*s, other, "{}", said());
     if answer.refusal != 0 {
-        assert_eq!((*clock, &*w, answer.outputs, answer.first), (before_clock, &before, [0; 32], 0), "{call:?} was refused");
+        assert_eq!((&*s, answer), (&before, Answer::refused(answer.refusal)), "refused: {}", said());
     }
     answer
-}
-
-/// A number at or around a limit, or any other.
-fn around(r: &mut Random, limit: u64) -> u64 {
-    match r.within(0, 9) {
-        0 => 0,
-        1 => limit.saturating_sub(1),
-        2 => limit,
-        3 => limit + 1,
-        4 => r.of(&[1 << 32, (1 << 32) + 1, u64::MAX, u32::MAX as u64]),
-        _ => r.within(1, limit.max(1)),
-    }
-}
-
-fn any_call(r: &mut Random, clock: &Clock) -> Call {
-    let (n, f) = (clock.ports.clamp(1, 40) as u64, clock.frame.clamp(1, 20_000) as u64);
-    let port = |r: &mut Random| if r.one_in(12) { around(r, n) } else { r.within(1, n) };
-    let (i, j) = (port(r), port(r));
-    match r.within(0, 19) {
-        0 => {
-            let (ports, frame) = (if r.one_in(3) { around(r, 32) } else { r.within(1, 8) }, if r.one_in(3) { around(r, 10_000) } else { r.within(1, 40) });
-            Call::Start(r.one_in(2), ports, frame)
-        }
-        1..=3 => Call::Book(i, j, if r.one_in(3) { around(r, f) } else { r.within(1, f / n / 2 + 1) }),
-        4..=5 => {
-            let line = around(r, 100_000_000);
-            Call::BookRate(i, j, line, if r.one_in(2) { around(r, line.min(1 << 40)) } else { r.within(1, line.clamp(1, 1 << 40)) / (2 * n) })
-        }
-        6..=7 => Call::Release(i, j, if r.one_in(3) { around(r, f) } else { r.within(1, 3) }),
-        8..=11 => Call::Arrive(i, j, if r.one_in(4) { around(r, 65_535) } else { r.within(1, 5) }),
-        12..=15 => Call::Tick(false),
-        _ => Call::Tick(true),
-    }
 }
 
 /// Words of every kind: none, few, many, and those around what a word in flight may hold.
@@ -139,41 +49,64 @@ fn any_run(r: &mut Random, n: u64, length: usize) -> Vec<u32> {
     (0..length).map(|_| word(r)).collect()
 }
 
+/// The words of a run that a switch of either form uses.
+fn most_used(n: u64, run: Run) -> usize {
+    FORMS.into_iter().filter_map(|form| used(rules(), form, true, n, run)).max().unwrap_or(0)
+}
+
+/// A clock of any contents, also where the level in force does not look.
+fn any_clock(r: &mut Random) -> Clock {
+    Clock {
+        ports: if r.one_in(10) { r.of(&[0, 33, u32::MAX]) } else { r.of(&[1, 2, 3, 4, 5, 8, 16, 31, 32]) },
+        frame: if r.one_in(10) { r.of(&[0, 10_001, u32::MAX]) } else { r.of(&[1, 2, 3, 4, 5, 7, 32, 33, 100, 10_000]) },
+        last: match r.within(0, 5) {
+            0 => r.of(&[3_999_999_999, 4_000_000_000, 4_000_000_001, u32::MAX, 3_999_999_936]),
+            1 => r.next() as u32,
+            _ => r.within(0, 200) as u32,
+        },
+        line: r.of(&[0, 1, 7, 1_000, 99_999_999, 100_000_000, 100_000_001, u32::MAX]),
+        fine: r.one_in(2),
+        islip: r.one_in(2),
+        since: if r.one_in(3) { r.next() as u32 } else { r.within(0, 200) as u32 },
+        before: if r.one_in(3) { r.next() as u32 } else { r.within(0, 20) as u32 },
+        waiting: r.of(&[0, 0, 1, 3, 7, 9_999, 10_000, 10_001, u32::MAX]),
+    }
+}
+
 /// A clock and words that nobody has to have come by through calls.
-fn any_switch(r: &mut Random) -> (Clock, Runs) {
-    let ports = if r.one_in(10) { r.of(&[0, 33, u32::MAX]) } else { r.of(&[1, 2, 3, 4, 5, 8, 16, 31, 32]) };
-    let frame = if r.one_in(10) { r.of(&[0, 10_001, u32::MAX]) } else { r.of(&[1, 2, 3, 4, 5, 7, 32, 33, 100, 10_000]) };
-    let last = match r.within(0, 5) {
-        0 => r.of(&[3_999_999_999, 4_000_000_000, 4_000_000_001, u32::MAX, 3_999_999_936]),
-        1 => r.next() as u32,
-        _ => r.within(0, 200) as u32,
-    };
-    let n = ports.min(40) as u64;
-    let length = |r: &mut Random, words: u64| if r.one_in(40) { words.saturating_sub(1) as usize } else { (words + r.of(&[0, 0, 1, 5])) as usize };
-    let runs = [n * n, n * n, n * n, n * n, 2 * n * n].map(|words| {
-        let length = length(r, words);
-        any_run(r, n, length)
-    });
-    let [bookings, credits, queues, copy, flight] = runs;
-    (Clock { ports, frame, last }, Runs { bookings, credits, queues, copy, flight })
+fn any_switch(r: &mut Random) -> Switch {
+    let mut s = Switch { rules: rules(), clock: any_clock(r), words: Words::default() };
+    let n = s.n().min(40);
+    for run in EVERY_RUN {
+        let words = most_used(n, run);
+        let length = if r.one_in(40) { words.saturating_sub(1) } else { words + r.of(&[0, 0, 1, 5]) };
+        *s.words.run_mut(run) = any_run(r, n, length);
+    }
+    s
 }
 
 #[test]
 fn any_words_and_any_clock() {
     let mut r = Random::new(setting("KIVDRAG_SEED", 1));
     let calls = setting("KIVDRAG_CALLS", 3_000_000);
-    let (mut clock, mut w) = any_switch(&mut r);
-    let mut refusals = [0u64; 12];
+    let mut s = any_switch(&mut r);
+    let mut given: BTreeMap<&str, BTreeMap<u32, u64>> = BTreeMap::new();
     for at in 0..calls {
         if at % 12 == 0 {
-            (clock, w) = any_switch(&mut r);
+            s = any_switch(&mut r);
         }
-        let call = any_call(&mut r, &clock);
-        refusals[both(call, &mut clock, &mut w).refusal as usize] += 1;
+        let form = r.of(&FORMS);
+        let call = drawn(&mut r, form, |call| call.weights[0]);
+        let arguments = (call.any)(&mut r, &s);
+        let answer = both(call, form, arguments, &mut s);
+        *given.entry(call.name).or_default().entry(answer.refusal).or_default() += 1;
     }
-    println!("{calls} calls; of each refusal from 0 on: {refusals:?}");
-    for number in 0..12 {
-        assert!(calls < 100_000 || refusals[number] > 0, "no call gave {number}: {refusals:?}");
+    println!("{calls} calls; how often each gave each number: {given:?}");
+    for call in &CALLS {
+        let numbers: Vec<u32> = given.get(call.name).into_iter().flatten().map(|(&number, _)| number).collect();
+        let expected: Vec<u32> = [0].iter().chain(call.questions).copied().collect();
+        assert!(numbers.iter().all(|number| expected.contains(number)), "{} gave {numbers:?}", call.name);
+        assert!(calls < 100_000 || numbers == expected, "{} gave {numbers:?} only", call.name);
     }
 }
 
@@ -183,42 +116,22 @@ fn long_lists_keep_demand_3() {
     let lists = setting("KIVDRAG_LISTS", 400);
     let (mut claims, mut binding) = (0usize, 0usize);
     for _ in 0..lists {
-        let form = r.one_in(2);
-        let n = r.of(&[1, 2, 3, 4, 6, 9]);
-        let f = r.within(if form { n } else { 1 }, n + 9);
-        let (_, mut w) = any_switch(&mut r);
-        for run in [&mut w.bookings, &mut w.credits, &mut w.queues, &mut w.copy, &mut w.flight] {
-            run.resize(2 * (n * n) as usize + 3, 7);
+        let form = r.of(&FORMS);
+        let mut s = any_switch(&mut r);
+        for run in EVERY_RUN {
+            s.words.run_mut(run).resize(most_used(MOST_LISTED, run) + 3, 7);
         }
-        let mut clock = Clock { ports: 5, frame: 77, last: 9 };
-        assert_eq!(both(Call::Start(form, n, f), &mut clock, &mut w).refusal, 0);
-        let mut ledger = second::ledger::Ledger::start(form, n as u32, f as u32);
         let films = r.one_in(2);
-        for _ in 0..r.within(20, 400) {
-            let (i, j) = (r.within(1, n), r.within(1, n));
-            let d = r.within(1, (f / 2).max(1));
-            let call = match r.within(0, 11) {
-                0 => Call::Book(i, j, d),
-                1 => Call::BookRate(i, j, 1_000, r.within(1, 500)),
-                2 => Call::Release(i, j, d),
-                3..=6 => Call::Arrive(i, j, if films { r.within(20, 90) } else { r.within(1, 3) }),
-                _ => Call::Tick(form),
-            };
-            let answer = both(call, &mut clock, &mut w);
-            if answer.refusal == 0 {
-                let (i, j) = (i as u32, j as u32);
-                match call {
-                    Call::Book(_, _, d) => ledger.book(i, j, d),
-                    Call::BookRate(_, _, line, rate) => ledger.book(i, j, (rate * f).div_ceil(line)),
-                    Call::Release(_, _, d) => ledger.release(i, j, d),
-                    Call::Arrive(_, _, d) => ledger.arrive(i, j, d),
-                    Call::Tick(_) => ledger.tick(answer),
-                    Call::Start(..) => unreachable!(),
-                }
-            }
+        let mut ledgers = Vec::new();
+        let mut call = CALLS.iter().find(|call| call.form == Some(form)).expect("the form's start");
+        for _ in 0..=r.within(20, 400) {
+            let arguments = (call.listed)(&mut r, &s, films);
+            let answer = both(call, form, arguments, &mut s);
+            (call.noted)(&mut ledgers, form, answer, arguments);
+            call = drawn(&mut r, form, |call| call.weights[1]);
         }
-        for claim in ledger.claims() {
-            assert!(claim.holds(), "{claim:?} n {n} f {f} pipelined {form}");
+        for claim in ledgers.iter().flat_map(|ledger| ledger.claims()) {
+            assert!(claim.holds(), "{claim:?} {form:?}");
             claims += 1;
             binding += claim.binds() as usize;
         }
