@@ -16,7 +16,7 @@ pub fn tick_direct(
     credits: &mut [u32],
     queues: &mut [u32],
 ) -> Answer
-    ensures outcome { λ r. ⌜ effect r (now (clock .exit), (direct-runs-of (now (bookings .entry)) (now (credits .exit)) (now (queues .exit))))
+    ensures outcome { λ r. ⌜ effect r (now (clock .exit), direct-runs-of (now (bookings .entry)) (now (credits .exit)) (now (queues .exit)))
         ≡ answer-effect (Direct.tick (now (clock .entry)) (direct-runs-of (now (bookings .entry)) (now (credits .entry)) (now (queues .entry)))) ⌝ }
 {
     let result = direct::tick(*clock, bookings, credits, queues);
@@ -58,7 +58,7 @@ pub fn tick_pipelined(
     flight: &mut [u32],
 ) -> Answer
     ensures outcome { λ r. ⌜ effect r
-        (now (clock .exit), (pipelined-runs-of (now (bookings .entry)) (now (credits .exit)) (now (queues .exit)) (now (copy .exit)) (now (flight .exit))))
+        (now (clock .exit), pipelined-runs-of (now (bookings .entry)) (now (credits .exit)) (now (queues .exit)) (now (copy .exit)) (now (flight .exit)))
         ≡ answer-effect (Pipelined.tick (now (clock .entry))
         (pipelined-runs-of (now (bookings .entry)) (now (credits .entry)) (now (queues .entry)) (now (copy .entry)) (now (flight .entry)))) ⌝ }
 {
