@@ -1,2 +1,3 @@
-pub mod Effects
-pub mod Ticks
+pub mod Matchings
+pub mod SlotLaws
+pub mod RecordLaws
