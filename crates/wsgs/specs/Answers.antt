@@ -9,7 +9,7 @@ use Rattle.wsgs.specs.declared.StartResult.{StartResult}
 use Rattle.wsgs.specs.declared.Answer.{Answer}
 use Rattle.wsgs.specs.declared.TickResult.{TickResult}
 use Rattle.wsgs.specs.Basics.{pick}
-use Rattle.wsgs.specs.Steps.{Matching, outputs-of, pass-word-of}
+use Rattle.wsgs.specs.Steps.{Matching, empty-matching, outputs-of, pass-word-of}
 use Rattle.wsgs.specs.Questions.{Outcome, Effect, effect}
 use Rattle.wsgs.specs.Direct
 use Rattle.wsgs.specs.Pipelined
@@ -47,3 +47,16 @@ answer-effect o = effect (answer-of (tick-result-of o)) (o .clock, o .runs)
 abbrev pub matching-of : (outputs : List ℕ) (pass-word : ℕ) → Matching
 matching-of outputs w =
     record { output = λ i. pick (ltb 0 i) (getD outputs (i - 1) 0) 0; first = λ i. ltb 0 i && eqb (w / 2 ^ (i - 1) % 2) 1 }
+
+-- THE WAY BACK: the outcome that a start's result and the runs at its exit tell, and that a tick's tell
+abbrev pub start-outcome : {Runs : Type 0} → Effect StartResult Runs → Outcome Runs
+start-outcome e = record { refusal = e .answer .refusal; matching = empty-matching; clock = e .answer .clock; runs = e .words }
+
+abbrev pub tick-outcome : {Runs : Type 0} → Effect TickResult Runs → Outcome Runs
+tick-outcome e =
+    record {
+      refusal = e .answer .refusal;
+      matching = matching-of (e .answer .outputs) (e .answer .«first_pass»);
+      clock = e .answer .clock;
+      runs = e .words;
+    }
