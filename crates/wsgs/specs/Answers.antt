@@ -40,8 +40,18 @@ tick-effect o = effect (tick-result-of o) (o .runs)
 abbrev pub answer-of : TickResult → Answer
 answer-of r = record { refusal = r .refusal; outputs = r .outputs; «first_pass» = r .«first_pass» }
 
+abbrev pub in-place : {Runs : Type 0} → Effect TickResult Runs → Effect Answer (Clock × Runs)
+in-place e = effect (answer-of (e .answer)) (e .answer .clock, e .words)
+
 abbrev pub answer-effect : {Runs : Type 0} → Outcome Runs → Effect Answer (Clock × Runs)
-answer-effect o = effect (answer-of (tick-result-of o)) (o .clock, o .runs)
+answer-effect o = in-place (tick-effect o)
+
+-- the way back: an answer and the clock make the result
+abbrev pub result-of : Clock → Answer → TickResult
+result-of k r = record { refusal = r .refusal; clock = k; outputs = r .outputs; «first_pass» = r .«first_pass» }
+
+abbrev pub by-value : {Runs : Type 0} → Effect Answer (Clock × Runs) → Effect TickResult Runs
+by-value e = effect (result-of (e .words .0) (e .answer)) (e .words .1)
 
 -- the pairs that 32 output numbers and a word of the inputs served by pass one stand for
 abbrev pub matching-of : (outputs : List ℕ) (pass-word : ℕ) → Matching
