@@ -4,6 +4,7 @@ use mathlib.Core.List.{List}
 use Prim.Native.Nat.{ℕ, _-_, _/_, _%_, _^_}
 use lib.Dec.{eqb, ltb}
 use lib.ListN.{getD}
+use Rattle.wsgs.specs.declared.Clock.{Clock}
 use Rattle.wsgs.specs.declared.StartResult.{StartResult}
 use Rattle.wsgs.specs.declared.Answer.{Answer}
 use Rattle.wsgs.specs.declared.TickResult.{TickResult}
@@ -35,9 +36,12 @@ tick-result-of o =
 abbrev pub tick-effect : {Runs : Type 0} → Outcome Runs → Effect TickResult Runs
 tick-effect o = effect (tick-result-of o) (o .runs)
 
--- the answer of a tick that has advanced its caller's clock: its result without the clock
+-- a tick that advances its caller's clock: its result without the clock, and with it the clock and the runs
 abbrev pub answer-of : TickResult → Answer
 answer-of r = record { refusal = r .refusal; outputs = r .outputs; «first_pass» = r .«first_pass» }
+
+abbrev pub answer-effect : {Runs : Type 0} → Outcome Runs → Effect Answer (Clock × Runs)
+answer-effect o = effect (answer-of (tick-result-of o)) (o .clock, o .runs)
 
 -- the pairs that 32 output numbers and a word of the inputs served by pass one stand for
 abbrev pub matching-of : (outputs : List ℕ) (pass-word : ℕ) → Matching
