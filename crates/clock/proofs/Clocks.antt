@@ -31,7 +31,7 @@ use Rattle.wsgs.proofs.TickResult as result
 use Rattle.wsgs.proofs.TickResult.Laws as result-laws
 use Rattle.wsgs.proofs.Answer as answer
 use Rattle.wsgs.proofs.Answer.Laws as answer-laws
-use Rattle.wsgs.specs.Answers.{answer-of}
+use Rattle.wsgs.specs.Answers.{answer-of, result-of}
 
 -- the machine value of a clock
 abbrev pub value : Clock → Val
@@ -47,9 +47,6 @@ answer-typed t us is =
     LL.owes answer.the-type answer-laws.the-laws (answer-of t) (f .0, (f .1 .1 .0, (f .1 .1 .1 .0, tt)))
 
 -- a clock and an answer make a result
-abbrev pub result-of : Clock → Answer → TickResult
-result-of k r = record { refusal = r .refusal; clock = k; outputs = r .outputs; «first_pass» = r .«first_pass» }
-
 pub result-typed : (k : Clock) (r : Answer) (us : List Val) → Is clock.the-row k (value k ∷ []) → Is answer.the-row r us → Is result.the-row (result-of k r) (LL.vals result.the-type result-laws.the-laws (result-of k r))
 result-typed k r us is is-r =
     let f = LL.owed answer.the-type answer-laws.the-laws r us is-r in

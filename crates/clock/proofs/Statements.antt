@@ -23,14 +23,14 @@ use denote.Struct.Laws as LL
 use Rattle.wsgs.specs.declared.Clock.{Clock}
 use Rattle.wsgs.specs.declared.TickResult.{TickResult}
 use Rattle.wsgs.specs.declared.Answer.{Answer}
-use Rattle.wsgs.specs.Answers.{answer-of}
+use Rattle.wsgs.specs.Answers.{answer-of, result-of}
 use Rattle.wsgs.proofs.Clock as clock
 use Rattle.wsgs.proofs.Clock.Laws as clock-laws
 use Rattle.wsgs.proofs.TickResult as result
 use Rattle.wsgs.proofs.TickResult.Laws as result-laws
 use Rattle.wsgs.proofs.Answer as answer
 use Rattle.wsgs.proofs.Answer.Laws as answer-laws
-use Rattle.clock.proofs.Clocks.{value, clock-typed, answer-typed, result-of, result-typed}
+use Rattle.clock.proofs.Clocks.{value, clock-typed, answer-typed, result-typed}
 
 -- the type of a run, and of the pointer by which it is lent on
 abbrev run-ty : Lifetime → Mutability → Ty

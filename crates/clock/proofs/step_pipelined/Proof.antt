@@ -37,9 +37,8 @@ use denote.Triple.Table.{entered, cited}
 use denote.Triple.Walked.{Stays, walkOf}
 use Rattle.wsgs.specs.declared.Clock.{Clock}
 use Rattle.wsgs.specs.declared.Answer.{Answer}
-use Rattle.wsgs.specs.declared.TickResult.{TickResult}
-use Rattle.wsgs.specs.Questions.{Outcome, Effect, effect}
-use Rattle.wsgs.specs.Answers.{pipelined-runs-of, answer-effect}
+use Rattle.wsgs.specs.Questions.{Outcome, effect}
+use Rattle.wsgs.specs.Answers.{pipelined-runs-of, answer-effect, result-of, by-value}
 use Rattle.wsgs.specs.Pipelined
 use Rattle.wsgs.proofs.Clock as clock
 use Rattle.wsgs.proofs.Clock.Laws as clock-laws
@@ -49,7 +48,7 @@ use Rattle.wsgs.proofs.TickResult as result
 use Rattle.wsgs.proofs.TickResult.Laws as result-laws
 use Rattle.clock.proofs.Locals.{Blocks, locals, leaves, behind}
 use Rattle.clock.proofs.Statements.{takes, lends-on, copies, lands-as, makes-result}
-use Rattle.clock.proofs.Clocks.{value, result-of, result-typed, lends-clock, clock-back}
+use Rattle.clock.proofs.Clocks.{value, result-typed, lends-clock, clock-back}
 use Rattle.clock.proofs.Said.{all-said, by-walk, returned, ends, tells}
 use Rattle.clock.proofs.tick_pipelined as tick
 use Rattle.clock.proofs.tick_pipelined.Symbol as tick-def
@@ -94,15 +93,12 @@ module _ {M : Type 1} (𝓤 : URA M) (H : Heap 𝓤) (A : Atoms 𝓤) (W : Given
     goes : ent 𝓤 (⋆ 𝓤 H A (Tokens ∷ Owned ∷ [])) (Tick 𝓤 H A mem run .pre y′)
     goes = qed W (Tokens ∷ Owned ∷ []) ∵ join ! $ frame ! $ done !
 
-  -- what the tick ensures of its result, of the clock and of the runs, and what this step makes of it
+  -- what the tick ensures of its result, of the clock and of the runs
   abbrev out : Outcome Pipelined.Runs
   out = Pipelined.tick (a .0) (pipelined-runs-of (a .1 .0 .now) (a .1 .1 .0 .now) (a .1 .1 .1 .0 .now) (a .1 .1 .1 .1 .0 .now) (a .1 .1 .1 .1 .1 .0 .now))
 
   abbrev Said : Answer → Clock → Lasts step.ended κs a → Type 0
   Said r k zs = effect r (k, pipelined-runs-of (a .1 .0 .now) (zs .1 .1 .0) (zs .1 .1 .1 .0) (zs .1 .1 .1 .1 .0) (zs .1 .1 .1 .1 .1 .0)) ≡ answer-effect out
-
-  abbrev by-value : Effect Answer (Clock × Pipelined.Runs) → Effect TickResult Pipelined.Runs
-  by-value e = effect (result-of (e .words .0) (e .answer)) (e .words .1)
 
   module _ (C : Calls 𝓤 H) (Λ : Loops 𝓤 H) (fm : FmC 𝓤 H (W .laws) C) (known : Triple 𝓤 (C #clock·tick-pipelined) (Tick 𝓤 H A mem run)) where
     walk : Is clock.the-row (a .0) (value (a .0) ∷ []) → Room u32 (length (a .1 .0 .now)) → Room u32 (length (a .1 .1 .0 .now)) → Room u32 (length (a .1 .1 .1 .0 .now)) → Room u32 (length (a .1 .1 .1 .1 .0 .now)) → Room u32 (length (a .1 .1 .1 .1 .1 .0 .now))

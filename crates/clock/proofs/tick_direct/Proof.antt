@@ -36,9 +36,8 @@ use denote.Triple.Table.{entered, cited}
 use denote.Triple.Walked.{Stays, walkOf}
 use Rattle.wsgs.specs.declared.Clock.{Clock}
 use Rattle.wsgs.specs.declared.TickResult.{TickResult}
-use Rattle.wsgs.specs.declared.Answer.{Answer}
-use Rattle.wsgs.specs.Questions.{Outcome, Effect, effect}
-use Rattle.wsgs.specs.Answers.{direct-runs-of, answer-of, tick-effect}
+use Rattle.wsgs.specs.Questions.{Outcome, effect}
+use Rattle.wsgs.specs.Answers.{direct-runs-of, answer-of, in-place, tick-effect}
 use Rattle.wsgs.specs.Direct
 use Rattle.wsgs.proofs.Clock as clock
 use Rattle.wsgs.proofs.TickResult as result
@@ -95,15 +94,12 @@ module _ {M : Type 1} (𝓤 : URA M) (H : Heap 𝓤) (A : Atoms 𝓤) (W : Given
       qed W (Tokens ∷ Owned ∷ []) ∵ move ! (1 ∷ []) $
       use1 W (‵ (owns (typesAt (core.signature .params) (κs .1)) (y′ .0 .3) (y′ .0 .4))) (clock-owned 𝓤 H A W k is Run-types (a .1) (y .0 .4 .1)) $ move ! (1 ∷ 0 ∷ []) $ join ! $ frame ! $ done !
 
-  -- what the core ensures of its result and the runs, and what this tick makes of it
+  -- what the core ensures of its result and the runs
   abbrev out : Outcome Direct.Runs
   out = Direct.tick k (direct-runs-of (a .1 .0 .now) (a .1 .1 .0 .now) (a .1 .1 .1 .0 .now))
 
   abbrev Said : TickResult → Lasts core.ended (κs .1) (y′ .0 .3) → Type 0
   Said t zs = effect t (direct-runs-of (a .1 .0 .now) (zs .1 .1 .0) (zs .1 .1 .1 .0)) ≡ tick-effect out
-
-  abbrev in-place : Effect TickResult Direct.Runs → Effect Answer (Clock × Direct.Runs)
-  in-place e = effect (answer-of (e .answer)) (e .answer .clock, e .words)
 
   module _ (C : Calls 𝓤 H) (Λ : Loops 𝓤 H) (fm : FmC 𝓤 H (W .laws) C) (known : Triple 𝓤 (C #direct·tick) (Core 𝓤 H A mem run)) where
     walk : Room u32 (length (a .1 .0 .now)) → Room u32 (length (a .1 .1 .0 .now)) → Room u32 (length (a .1 .1 .1 .0 .now))

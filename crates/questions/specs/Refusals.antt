@@ -1,4 +1,4 @@
--- The questions that calls on a pair, starts and ticks open with. Assumes nothing.
+-- The refusals that calls share: of sizes, of a clock and of a pair. Assumes nothing.
 use mathlib.Core.List.{List, [], _∷_}
 use Prim.Native.Nat.{ℕ, _≤_}
 use Rattle.wsgs.specs.declared.Clock.{Clock}
@@ -21,9 +21,7 @@ unfoldable pub pair-refusal : Clock → List ℕ → ℕ → ℕ → ℕ
 unfolding first-no
 pair-refusal c m i j = first-no (on-pair c m i j [])
 
--- sizes in range
-pub record Sizes (n f : ℕ) : Type 0 where
-  pub some-port : 1 ≤ n
-  pub few-ports : n ≤ 32
-  pub some-slot : 1 ≤ f
-  pub few-slots : f ≤ 10000
+-- the number of ports and the length of a frame are in range
+pub record SizesInRange (n f : ℕ) : Type 0 where
+  pub ports : (1 ≤ n) × (n ≤ 32)
+  pub frame : (1 ≤ f) × (f ≤ 10000)

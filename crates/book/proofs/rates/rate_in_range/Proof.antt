@@ -1,8 +1,8 @@
--- `book::rates::are_rates` meets its contract. Assumes nothing.
+-- `book::rates::rate_in_range` meets its contract. Assumes nothing.
 use borrow.Author.Needs.{needs}
 use Rattle.questions.proofs.Laws.Answers.{said-no, said-yes}
-use Rattle.book.proofs.rates.are_rates.Statement.{statement}
-use Rattle.book.proofs.rates.are_rates.Tie as tie
+use Rattle.book.proofs.rates.rate_in_range.Statement.{statement}
+use Rattle.book.proofs.rates.rate_in_range.Tie as tie
 
 is-between-requires : tie.Need-is-between-requires
 is-between-requires c κs = search needs
@@ -16,5 +16,5 @@ is-between-requires-2 c κs = search needs
 returns-2 : tie.Need-returns-2
 returns-2 c = rw (said-yes (c .before .before .is-between .ensures) (c .before .if1 .left)) (c .is-between2 .ensures)
 
-pub are-rates-spec : {M : Type 1} → statement M
-are-rates-spec = tie.close (tie.spec is-between-requires returns is-between-requires-2 returns-2)
+pub rate-in-range-spec : {M : Type 1} → statement M
+rate-in-range-spec = tie.close (tie.spec is-between-requires returns is-between-requires-2 returns-2)

@@ -1,9 +1,9 @@
--- `starts::initial::clear_ahead` meets its contract. Assumes nothing.
+-- `starts::initial::clear_pipeline` meets its contract. Assumes nothing.
 use native.Mathlib.Omega.{arith}
 use borrow.Author.Needs.{needs}
 use Rattle.wsgs.proofs.Laws.Words.{square-small, rows-small}
-use Rattle.starts.proofs.initial.clear_ahead.Statement.{statement}
-use Rattle.starts.proofs.initial.clear_ahead.Tie as tie
+use Rattle.starts.proofs.initial.clear_pipeline.Statement.{statement}
+use Rattle.starts.proofs.initial.clear_pipeline.Tie as tie
 
 mul-clear-words : tie.Need-mul-clear-words
 mul-clear-words c = let s = c .before .before .before in omega (arith, square-small (s .args .ports) (s .pre))
@@ -29,8 +29,8 @@ same-length-2 c = search needs
 returns : tie.Need-returns
 returns c = search needs
 
-pub clear-ahead-spec : {M : Type 1} → statement M
-clear-ahead-spec =
+pub clear-pipeline-spec : {M : Type 1} → statement M
+clear-pipeline-spec =
     tie.close
     (tie.spec
     mul-clear-words

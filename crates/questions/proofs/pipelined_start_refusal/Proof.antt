@@ -1,11 +1,11 @@
--- `questions::pipelined_refusal` meets its contract: the sizes refuse, or the frame is too short, or else the runs decide.
+-- `questions::pipelined_start_refusal` meets its contract: the sizes refuse, or the frame is too short, or else the runs decide.
 -- Assumes nothing.
 use mathlib.Core.Path.{sym, _∙_}
 use borrow.Author.Needs.{needs}
 use Rattle.questions.proofs.Laws.Pairs.{sizes-asked}
 use Rattle.questions.proofs.Laws.Runs.{pipelined-sized, pipelined-uncovered, pipelined-short, pipelined-long}
-use Rattle.questions.proofs.pipelined_refusal.Statement.{statement}
-use Rattle.questions.proofs.pipelined_refusal.Tie as tie
+use Rattle.questions.proofs.pipelined_start_refusal.Statement.{statement}
+use Rattle.questions.proofs.pipelined_start_refusal.Tie as tie
 
 sizes-refusal-requires : tie.Need-sizes-refusal-requires
 sizes-refusal-requires c κs = search needs
@@ -21,7 +21,7 @@ returns-2 c =
 pipelined-runs-suffice-requires : tie.Need-pipelined-runs-suffice-requires
 pipelined-runs-suffice-requires c κs =
     let e = c .before in
-    sizes-asked _ _ (sym (e .if1 .left) ∙ e .before .sizes-refusal .ensures) .few-ports
+    sizes-asked _ _ (sym (e .if1 .left) ∙ e .before .sizes-refusal .ensures) .ports .1
 
 returns-3 : tie.Need-returns-3
 returns-3 c =
@@ -37,8 +37,8 @@ returns-4 c =
     pipelined-long _ _ _ (sym (e .if1 .left) ∙ e .before .sizes-refusal .ensures) (d .if2 .left)
     _ (c .before .pipelined-runs-suffice .ensures) (c .if3 .left)
 
-pub pipelined-refusal-spec : {M : Type 1} → statement M
-pipelined-refusal-spec =
+pub pipelined-start-refusal-spec : {M : Type 1} → statement M
+pipelined-start-refusal-spec =
     tie.close
     (tie.spec
     sizes-refusal-requires
