@@ -1,3 +1,2 @@
-pub mod Matchings
 pub mod SlotLaws
 pub mod RecordLaws
