@@ -6,9 +6,6 @@ use Rattle.kivdrag.proofs.read_block.Tie as tie
 read-requires : tie.Need-read-requires
 read-requires c κs = search needs
 
-nothing-read-requires : tie.Need-nothing-read-requires
-nothing-read-requires c κs = search needs
-
 same-length : tie.Need-same-length
 same-length c = search needs
 
@@ -18,17 +15,17 @@ returns c = search needs
 count-requires : tie.Need-count-requires
 count-requires c κs = search needs
 
-slice-reshare-prefix-feed-block : tie.Need-slice-reshare-prefix-feed-block
-slice-reshare-prefix-feed-block c = search needs
+slice-reshare-prefix-feed-text : tie.Need-slice-reshare-prefix-feed-text
+slice-reshare-prefix-feed-text c = search needs
 
-slice-aggregate-feed-block : tie.Need-slice-aggregate-feed-block
-slice-aggregate-feed-block c = search needs
+slice-aggregate-feed-text : tie.Need-slice-aggregate-feed-text
+slice-aggregate-feed-text c = search needs
 
-feed-block-requires : tie.Need-feed-block-requires
-feed-block-requires c κs = search needs
+feed-text-requires : tie.Need-feed-text-requires
+feed-text-requires c κs = search needs
 
 same-length-2 : tie.Need-same-length-2
-same-length-2 c = search needs
+same-length-2 c = c .before .before .before .before .before .before .before .before .before .before .before .before .before .before .before .before .before .before .before .before .before .before .before .before .before .before .before .before .before .read .kept .1 .0
 
 same-length-3 : tie.Need-same-length-3
 same-length-3 c = search needs
@@ -59,13 +56,12 @@ read-block-spec =
     tie.close
     (tie.spec
     read-requires
-    nothing-read-requires
     same-length
     returns
     count-requires
-    slice-reshare-prefix-feed-block
-    slice-aggregate-feed-block
-    feed-block-requires
+    slice-reshare-prefix-feed-text
+    slice-aggregate-feed-text
+    feed-text-requires
     same-length-2
     same-length-3
     same-length-4
