@@ -1,7 +1,6 @@
 // A stored random trace, fed to the event program's library in pieces of a few bytes, so that every readable record is cut, and with an output
 // that holds little more than one slot may print, so that ticks are cut too. tools/stored_trace makes `stdin`, and the second program `stdout`.
 use events::KEPT_BYTES;
-use events::Progress;
 use events::begin;
 use feeding::TextResult;
 use feeding::feed_end;
