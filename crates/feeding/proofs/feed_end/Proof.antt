@@ -32,7 +32,10 @@ same-length-7 : tie.Need-same-length-7
 same-length-7 c = search needs
 
 returns : tie.Need-returns
-returns c = let call = c .before .before .before .before .before .before .before .before .before .before .before .before .before .before in rw (eq-eqb _ _ (call .before .before .before .before .before .before .before .before .before .if1 .taken)) (call .feed-text .ensures)
+returns c =
+    let call = c .before .before .before .before .before .before .before .before .before .before .before .before .before .before in
+    let way = call .before .before .before .before .before .before .before .before .before in
+    rw (eq-eqb (way .before .before .before .before .before .before .before .before .before .args .progress .count) 0 (way .if1 .taken)) (call .feed-text .ensures)
 
 slice-aggregate-feed-text-2 : tie.Need-slice-aggregate-feed-text-2
 slice-aggregate-feed-text-2 c = search needs
@@ -62,7 +65,10 @@ same-length-14 : tie.Need-same-length-14
 same-length-14 c = search needs
 
 returns-2 : tie.Need-returns-2
-returns-2 c = let call = c .before .before .before .before .before .before .before .before .before .before .before .before .before .before in rw (ne-eqb _ _ (call .before .before .before .before .before .before .before .before .before .if1 .left)) (call .feed-text2 .ensures)
+returns-2 c =
+    let call = c .before .before .before .before .before .before .before .before .before .before .before .before .before .before in
+    let way = call .before .before .before .before .before .before .before .before .before in
+    rw (ne-eqb (way .before .before .before .before .before .before .before .before .before .args .progress .count) 0 (way .if1 .left)) (call .feed-text2 .ensures)
 
 pub feed-end-spec : {M : Type 1} → statement M
 feed-end-spec =
