@@ -33,7 +33,7 @@ module _ (n x : ℕ) where
   last-decides few low = rw (le-leb n 32 few, le-leb 1 x low)
 
   -- a port passes
-  port-passes : n ≤ 32 → Port n x → is-port n x ≡ true
+  pub port-passes : n ≤ 32 → Port n x → is-port n x ≡ true
   unfolding is-port
   port-passes few p = rw (le-leb n 32 few, range-in 1 n x (p .low) (p .high))
 

@@ -6,7 +6,7 @@ use wsgs::MAX_PORTS;
 use wsgs::Output;
 
 // Whether a number is one of the ports, which are at most 32.
-fn is_port(ports: usize, number: u64) -> bool
+pub fn is_port(ports: usize, number: u64) -> bool
     ensures tested { λ r. ⌜ r ≡ is-port ports number ⌝ }
 {
     if ports as u64 > MAX_PORTS {
