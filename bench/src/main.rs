@@ -3,7 +3,7 @@
 
 mod plain;
 
-use compare::exported::*;
+use compare::calls::exported::*;
 use compare::Random;
 use std::fmt::Write;
 use std::hint::black_box;
@@ -75,28 +75,21 @@ fn by_hand(pipelined: bool, s: &mut Switch) -> plain::Answer {
     }
 }
 
-/// The second program's switch of the same contents, and its tick.
-enum Second {
-    Direct(second::Clock, second::Direct),
-    Pipelined(second::Clock, second::Pipelined),
+/// The second program's switch of the same contents, at the level in force.
+fn of_second(s: &Switch) -> second::Switch {
+    let mut other = second::Switch::off(compare::rules());
+    [other.clock.ports, other.clock.frame, other.clock.last] = s.clock;
+    let w = &mut other.words;
+    (w.slots, w.credits, w.queues) = (s.bookings.clone(), s.credits.clone(), s.queues.clone());
+    (w.copy, w.flight) = (s.copy.clone(), s.flight.clone());
+    other
 }
 
-impl Second {
-    fn of(pipelined: bool, s: &Switch) -> Second {
-        let clock = second::Clock { ports: s.clock[0], frame: s.clock[1], last: s.clock[2] };
-        let (bookings, credits, queues) = (s.bookings.clone(), s.credits.clone(), s.queues.clone());
-        if pipelined {
-            Second::Pipelined(clock, second::Pipelined { bookings, credits, queues, copy: s.copy.clone(), flight: s.flight.clone() })
-        } else {
-            Second::Direct(clock, second::Direct { bookings, credits, queues })
-        }
-    }
-
-    fn tick(&mut self) -> second::Answer {
-        match self {
-            Second::Direct(clock, w) => second::tick_direct(clock, w),
-            Second::Pipelined(clock, w) => second::tick_pipelined(clock, w),
-        }
+fn by_second(pipelined: bool, s: &mut second::Switch) -> second::Answer {
+    if pipelined {
+        s.tick_pipelined()
+    } else {
+        s.tick_direct()
     }
 }
 
@@ -148,7 +141,7 @@ fn main() {
             for (load, percent) in LOADS {
                 let s = loaded(n, percent);
                 agree(pipelined, &s);
-                let (mut a, mut b, c, mut d) = (s.clone(), s.clone(), s.clone(), Second::of(pipelined, &s));
+                let (mut a, mut b, c, mut d) = (s.clone(), s.clone(), s.clone(), of_second(&s));
                 let t = nanoseconds(20_000, &mut [
                     &mut || {
                         black_box(proved(pipelined, black_box(&mut a)).first);
@@ -157,7 +150,7 @@ fn main() {
                         black_box(by_hand(pipelined, black_box(&mut b)).first);
                     },
                     &mut || {
-                        black_box(black_box(&mut d).tick().first);
+                        black_box(by_second(pipelined, black_box(&mut d)).first);
                     },
                     &mut || {
                         black_box(read_once(black_box(&c)));

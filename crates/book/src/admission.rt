@@ -1,10 +1,9 @@
 // Admission: slots are booked where the sums of row and column leave room, and taken off where they are booked.
 ghost use mathlib.Core.Path.{_≡_};
-ghost use Prim.Native.Nat.{_+_, _-_, _≤_};
-ghost use Rattle.wsgs.specs.Words.{word, put};
-ghost use Rattle.wsgs.specs.Questions.{accepted};
+ghost use Prim.Native.Nat.{_≤_};
+ghost use Rattle.wsgs.specs.Questions.{effect};
 ghost use Rattle.wsgs.specs.Claims.{Reached};
-ghost use Rattle.book.specs.Asked.{sums-refusal, held-refusal};
+ghost use Rattle.book.specs.Effects.{admit-effect, withdraw-effect};
 use crate::bookings::booked;
 use crate::bookings::column_sum;
 use crate::bookings::row_sum;
@@ -22,10 +21,10 @@ pub fn admit(
     output: Output,
     slots: BookedSlots,
 ) -> u32
-    requires { ⌜ Reached clock (now bookings) (input .0) (output .0) ⌝ }
-    requires { ⌜ slots .0 ≤ 10000 ⌝ }
-    ensures { λ r. ⌜ r ≡ sums-refusal clock (now (bookings .entry)) (input .0) (output .0) (slots .0) ⌝ }
-    ensures { λ r. ⌜ now (bookings .exit) ≡ accepted r (put (clock .ports) (now (bookings .entry)) (input .0) (output .0) (word (clock .ports) (now (bookings .entry)) (input .0) (output .0) + slots .0)) (now (bookings .entry)) ⌝ }
+    requires pair_in_range { ⌜ Reached clock (now bookings) (input .0) (output .0) ⌝ }
+    requires slots_in_range { ⌜ slots .0 ≤ 10000 ⌝ }
+    ensures outcome { λ r. ⌜ effect r (now (bookings .exit))
+        ≡ admit-effect clock (now (bookings .entry)) (input .0) (output .0) (slots .0) ⌝ }
 {
     let ports = clock.ports as u64;
     let limit = clock.frame as u64 + 1;
@@ -54,9 +53,9 @@ pub fn withdraw(
     output: Output,
     slots: BookedSlots,
 ) -> u32
-    requires { ⌜ Reached clock (now bookings) (input .0) (output .0) ⌝ }
-    ensures { λ r. ⌜ r ≡ held-refusal clock (now (bookings .entry)) (input .0) (output .0) (slots .0) ⌝ }
-    ensures { λ r. ⌜ now (bookings .exit) ≡ accepted r (put (clock .ports) (now (bookings .entry)) (input .0) (output .0) (word (clock .ports) (now (bookings .entry)) (input .0) (output .0) - slots .0)) (now (bookings .entry)) ⌝ }
+    requires pair_in_range { ⌜ Reached clock (now bookings) (input .0) (output .0) ⌝ }
+    ensures outcome { λ r. ⌜ effect r (now (bookings .exit))
+        ≡ withdraw-effect clock (now (bookings .entry)) (input .0) (output .0) (slots .0) ⌝ }
 {
     let ports = clock.ports as u64;
     let held = booked(ports, bookings, input, output);

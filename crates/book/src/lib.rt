@@ -1,6 +1,7 @@
 // The book and the arrivals of a switch: booking by slots and by rate, release and arrival.
 ghost use mathlib.Core.Path.{_≡_};
-ghost use Rattle.wsgs.specs.Book.{book-refusal, book-words, rate-refusal, rate-words, release-refusal, release-words, arrive-refusal, arrive-words};
+ghost use Rattle.wsgs.specs.Questions.{effect};
+ghost use Rattle.wsgs.specs.Book.{book-effect, rate-effect, release-effect, arrive-effect};
 
 mod admission;
 mod bookings;
@@ -13,11 +14,12 @@ use admission::withdraw;
 use questions::is_between;
 use questions::pair_refusal;
 use queues::enqueue;
-use rates::are_rates;
+use rates::rate_in_range;
 use rates::rate_slots;
 use wsgs::BookedSlots;
 use wsgs::Clock;
 use wsgs::Input;
+use wsgs::MAX_ARRIVAL;
 use wsgs::Output;
 
 // Books slots of each frame for a pair.
@@ -28,8 +30,8 @@ pub fn book(
     output: Output,
     slots: BookedSlots,
 ) -> u32
-    ensures { λ r. ⌜ r ≡ book-refusal clock (now (bookings .entry)) (input .0) (output .0) (slots .0) ⌝ }
-    ensures { λ _. ⌜ now (bookings .exit) ≡ book-words clock (now (bookings .entry)) (input .0) (output .0) (slots .0) ⌝ }
+    ensures outcome { λ r. ⌜ effect r (now (bookings .exit))
+        ≡ book-effect clock (now (bookings .entry)) (input .0) (output .0) (slots .0) ⌝ }
 {
     let refusal = pair_refusal(clock, bookings, input, output);
     if refusal != 0 {
@@ -50,14 +52,14 @@ pub fn book_rate(
     line: u64,
     rate: u64,
 ) -> u32
-    ensures { λ r. ⌜ r ≡ rate-refusal clock (now (bookings .entry)) (input .0) (output .0) line rate ⌝ }
-    ensures { λ _. ⌜ now (bookings .exit) ≡ rate-words clock (now (bookings .entry)) (input .0) (output .0) line rate ⌝ }
+    ensures outcome { λ r. ⌜ effect r (now (bookings .exit))
+        ≡ rate-effect clock (now (bookings .entry)) (input .0) (output .0) line rate ⌝ }
 {
     let refusal = pair_refusal(clock, bookings, input, output);
     if refusal != 0 {
         return refusal;
     }
-    if !are_rates(line, rate) {
+    if !rate_in_range(line, rate) {
         return 6;
     }
     admit(
@@ -77,8 +79,8 @@ pub fn release(
     output: Output,
     slots: BookedSlots,
 ) -> u32
-    ensures { λ r. ⌜ r ≡ release-refusal clock (now (bookings .entry)) (input .0) (output .0) (slots .0) ⌝ }
-    ensures { λ _. ⌜ now (bookings .exit) ≡ release-words clock (now (bookings .entry)) (input .0) (output .0) (slots .0) ⌝ }
+    ensures outcome { λ r. ⌜ effect r (now (bookings .exit))
+        ≡ release-effect clock (now (bookings .entry)) (input .0) (output .0) (slots .0) ⌝ }
 {
     let refusal = pair_refusal(clock, bookings, input, output);
     if refusal != 0 {
@@ -92,14 +94,14 @@ pub fn release(
 
 // Adds packets that arrived to a pair's queue.
 pub fn arrive(clock: Clock, queues: &mut [u32], input: Input, output: Output, packets: u64) -> u32
-    ensures { λ r. ⌜ r ≡ arrive-refusal clock (now (queues .entry)) (input .0) (output .0) packets ⌝ }
-    ensures { λ _. ⌜ now (queues .exit) ≡ arrive-words clock (now (queues .entry)) (input .0) (output .0) packets ⌝ }
+    ensures outcome { λ r. ⌜ effect r (now (queues .exit))
+        ≡ arrive-effect clock (now (queues .entry)) (input .0) (output .0) packets ⌝ }
 {
     let refusal = pair_refusal(clock, queues, input, output);
     if refusal != 0 {
         return refusal;
     }
-    if !is_between(1, 65_535, packets) {
+    if !is_between(1, MAX_ARRIVAL, packets) {
         return 6;
     }
     enqueue(clock, queues, input, output, packets)

@@ -1,5 +1,4 @@
 -- Laws and rules that the walks of this crate's functions share.
-pub mod Advance
 pub mod Locals
 pub mod Statements
 pub mod Clocks

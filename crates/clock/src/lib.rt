@@ -1,43 +1,30 @@
-// The ticks of both forms, with the clock advanced in place. The slot is run by crates/direct or crates/pipelined on the clock's three numbers, and
-// the last slot run that it gives back, the old one where the tick is refused, is written into the clock.
+// The ticks of both forms, with the clock advanced in place. The slot is run by crates/direct or crates/pipelined, which take the clock by value
+// and give it back; what they give back, the old clock where the tick is refused, is stored in the lent one.
 ghost use mathlib.Core.Path.{_≡_};
-ghost use Rattle.wsgs.specs.Answers.{answer-of, direct-runs-of, pipelined-runs-of};
+ghost use Rattle.wsgs.specs.Questions.{effect};
+ghost use Rattle.wsgs.specs.Answers.{direct-runs-of, pipelined-runs-of, tick-effect, answer-effect};
 ghost use Rattle.wsgs.specs.Direct;
 ghost use Rattle.wsgs.specs.Pipelined;
 use wsgs::Answer;
 use wsgs::Clock;
+use wsgs::TickResult;
 
-// The clock after a tick, and what the tick answers.
-pub struct Stepped {
-    pub clock: Clock,
-    pub answer: Answer,
-}
-
-// A tick of the direct form.
+// A tick of the direct form, which advances the lent clock.
 pub fn tick_direct(
     clock: &mut Clock,
     bookings: &[u32],
     credits: &mut [u32],
     queues: &mut [u32],
 ) -> Answer
-    ensures answer { λ r. ⌜ r ≡ answer-of (Direct.tick (now (clock .entry)) (direct-runs-of (now (bookings .entry)) (now (credits .entry)) (now (queues .entry)))) ⌝ }
-    ensures clock_exit { λ _. ⌜ now (clock .exit) ≡ Direct.tick (now (clock .entry)) (direct-runs-of (now (bookings .entry)) (now (credits .entry)) (now (queues .entry))) .clock ⌝ }
-    ensures credits_exit { λ _. ⌜ now (credits .exit) ≡ Direct.tick (now (clock .entry)) (direct-runs-of (now (bookings .entry)) (now (credits .entry)) (now (queues .entry))) .runs .credits ⌝ }
-    ensures queues_exit { λ _. ⌜ now (queues .exit) ≡ Direct.tick (now (clock .entry)) (direct-runs-of (now (bookings .entry)) (now (credits .entry)) (now (queues .entry))) .runs .queues ⌝ }
+    ensures outcome { λ r. ⌜ effect r (now (clock .exit), direct-runs-of (now (bookings .entry)) (now (credits .exit)) (now (queues .exit)))
+        ≡ answer-effect (Direct.tick (now (clock .entry)) (direct-runs-of (now (bookings .entry)) (now (credits .entry)) (now (queues .entry)))) ⌝ }
 {
-    let direct = direct::tick(
-        clock.ports,
-        clock.frame,
-        clock.slot,
-        bookings,
-        credits,
-        queues,
-    );
-    clock.slot = direct.slot;
+    let result = direct::tick(*clock, bookings, credits, queues);
+    *clock = result.clock;
     Answer {
-        refusal: direct.refusal,
-        outputs: direct.outputs,
-        first_pass: direct.first_pass,
+        refusal: result.refusal,
+        outputs: result.outputs,
+        first_pass: result.first_pass,
     }
 }
 
@@ -47,21 +34,21 @@ pub fn step_direct(
     bookings: &[u32],
     credits: &mut [u32],
     queues: &mut [u32],
-) -> Stepped
-    ensures answer { λ r. ⌜ r .answer ≡ answer-of (Direct.tick clock (direct-runs-of (now (bookings .entry)) (now (credits .entry)) (now (queues .entry)))) ⌝ }
-    ensures clock { λ r. ⌜ r .clock ≡ Direct.tick clock (direct-runs-of (now (bookings .entry)) (now (credits .entry)) (now (queues .entry))) .clock ⌝ }
-    ensures credits_exit { λ _. ⌜ now (credits .exit) ≡ Direct.tick clock (direct-runs-of (now (bookings .entry)) (now (credits .entry)) (now (queues .entry))) .runs .credits ⌝ }
-    ensures queues_exit { λ _. ⌜ now (queues .exit) ≡ Direct.tick clock (direct-runs-of (now (bookings .entry)) (now (credits .entry)) (now (queues .entry))) .runs .queues ⌝ }
+) -> TickResult
+    ensures outcome { λ r. ⌜ effect r (direct-runs-of (now (bookings .entry)) (now (credits .exit)) (now (queues .exit)))
+        ≡ tick-effect (Direct.tick clock (direct-runs-of (now (bookings .entry)) (now (credits .entry)) (now (queues .entry)))) ⌝ }
 {
-    let mut c = clock;
-    let a = tick_direct(&mut c, bookings, credits, queues);
-    Stepped {
-        clock: c,
-        answer: a,
+    let mut advanced = clock;
+    let answer = tick_direct(&mut advanced, bookings, credits, queues);
+    TickResult {
+        refusal: answer.refusal,
+        clock: advanced,
+        outputs: answer.outputs,
+        first_pass: answer.first_pass,
     }
 }
 
-// A tick of the pipelined form.
+// A tick of the pipelined form, which advances the lent clock.
 pub fn tick_pipelined(
     clock: &mut Clock,
     bookings: &[u32],
@@ -70,32 +57,21 @@ pub fn tick_pipelined(
     copy: &mut [u32],
     flight: &mut [u32],
 ) -> Answer
-    ensures answer { λ r. ⌜ r ≡ answer-of (Pipelined.tick (now (clock .entry)) (pipelined-runs-of (now (bookings .entry)) (now (credits .entry)) (now (queues .entry)) (now (copy .entry)) (now (flight .entry)))) ⌝ }
-    ensures clock_exit { λ _. ⌜ now (clock .exit) ≡ Pipelined.tick (now (clock .entry)) (pipelined-runs-of (now (bookings .entry)) (now (credits .entry)) (now (queues .entry)) (now (copy .entry)) (now (flight .entry))) .clock ⌝ }
-    ensures credits_exit { λ _. ⌜ now (credits .exit) ≡ Pipelined.tick (now (clock .entry)) (pipelined-runs-of (now (bookings .entry)) (now (credits .entry)) (now (queues .entry)) (now (copy .entry)) (now (flight .entry))) .runs .credits ⌝ }
-    ensures queues_exit { λ _. ⌜ now (queues .exit) ≡ Pipelined.tick (now (clock .entry)) (pipelined-runs-of (now (bookings .entry)) (now (credits .entry)) (now (queues .entry)) (now (copy .entry)) (now (flight .entry))) .runs .queues ⌝ }
-    ensures copy_exit { λ _. ⌜ now (copy .exit) ≡ Pipelined.tick (now (clock .entry)) (pipelined-runs-of (now (bookings .entry)) (now (credits .entry)) (now (queues .entry)) (now (copy .entry)) (now (flight .entry))) .runs .copy ⌝ }
-    ensures flight_exit { λ _. ⌜ now (flight .exit) ≡ Pipelined.tick (now (clock .entry)) (pipelined-runs-of (now (bookings .entry)) (now (credits .entry)) (now (queues .entry)) (now (copy .entry)) (now (flight .entry))) .runs .flight ⌝ }
+    ensures outcome { λ r. ⌜ effect r
+        (now (clock .exit), pipelined-runs-of (now (bookings .entry)) (now (credits .exit)) (now (queues .exit)) (now (copy .exit)) (now (flight .exit)))
+        ≡ answer-effect (Pipelined.tick (now (clock .entry))
+        (pipelined-runs-of (now (bookings .entry)) (now (credits .entry)) (now (queues .entry)) (now (copy .entry)) (now (flight .entry)))) ⌝ }
 {
-    let pipelined = pipelined::tick(
-        clock.ports,
-        clock.frame,
-        clock.slot,
-        bookings,
-        credits,
-        queues,
-        copy,
-        flight,
-    );
-    clock.slot = pipelined.slot;
+    let result = pipelined::tick(*clock, bookings, credits, queues, copy, flight);
+    *clock = result.clock;
     Answer {
-        refusal: pipelined.refusal,
-        outputs: pipelined.outputs,
-        first_pass: pipelined.first_pass,
+        refusal: result.refusal,
+        outputs: result.outputs,
+        first_pass: result.first_pass,
     }
 }
 
-// The same by value.
+// The same by value: code that has a clock of its own runs the tick above through this, and lends no clock.
 pub fn step_pipelined(
     clock: Clock,
     bookings: &[u32],
@@ -103,18 +79,18 @@ pub fn step_pipelined(
     queues: &mut [u32],
     copy: &mut [u32],
     flight: &mut [u32],
-) -> Stepped
-    ensures answer { λ r. ⌜ r .answer ≡ answer-of (Pipelined.tick clock (pipelined-runs-of (now (bookings .entry)) (now (credits .entry)) (now (queues .entry)) (now (copy .entry)) (now (flight .entry)))) ⌝ }
-    ensures clock { λ r. ⌜ r .clock ≡ Pipelined.tick clock (pipelined-runs-of (now (bookings .entry)) (now (credits .entry)) (now (queues .entry)) (now (copy .entry)) (now (flight .entry))) .clock ⌝ }
-    ensures credits_exit { λ _. ⌜ now (credits .exit) ≡ Pipelined.tick clock (pipelined-runs-of (now (bookings .entry)) (now (credits .entry)) (now (queues .entry)) (now (copy .entry)) (now (flight .entry))) .runs .credits ⌝ }
-    ensures queues_exit { λ _. ⌜ now (queues .exit) ≡ Pipelined.tick clock (pipelined-runs-of (now (bookings .entry)) (now (credits .entry)) (now (queues .entry)) (now (copy .entry)) (now (flight .entry))) .runs .queues ⌝ }
-    ensures copy_exit { λ _. ⌜ now (copy .exit) ≡ Pipelined.tick clock (pipelined-runs-of (now (bookings .entry)) (now (credits .entry)) (now (queues .entry)) (now (copy .entry)) (now (flight .entry))) .runs .copy ⌝ }
-    ensures flight_exit { λ _. ⌜ now (flight .exit) ≡ Pipelined.tick clock (pipelined-runs-of (now (bookings .entry)) (now (credits .entry)) (now (queues .entry)) (now (copy .entry)) (now (flight .entry))) .runs .flight ⌝ }
+) -> TickResult
+    ensures outcome { λ r. ⌜ effect r
+        (pipelined-runs-of (now (bookings .entry)) (now (credits .exit)) (now (queues .exit)) (now (copy .exit)) (now (flight .exit)))
+        ≡ tick-effect (Pipelined.tick clock
+        (pipelined-runs-of (now (bookings .entry)) (now (credits .entry)) (now (queues .entry)) (now (copy .entry)) (now (flight .entry)))) ⌝ }
 {
-    let mut c = clock;
-    let a = tick_pipelined(&mut c, bookings, credits, queues, copy, flight);
-    Stepped {
-        clock: c,
-        answer: a,
+    let mut advanced = clock;
+    let answer = tick_pipelined(&mut advanced, bookings, credits, queues, copy, flight);
+    TickResult {
+        refusal: answer.refusal,
+        clock: advanced,
+        outputs: answer.outputs,
+        first_pass: answer.first_pass,
     }
 }

@@ -7,13 +7,14 @@ use native.Mathlib.Omega.{arith}
 use borrow.Author.Tests.{eq-eqb, ne-eqb, lt-ltb, le-ltb}
 use lib.Dec.{ltb}
 use lib.ListN.{replicate}
-use Rattle.wsgs.specs.declared.TickResult.{TickResult}
+use Rattle.wsgs.specs.declared.Clock.{Clock}
+use Rattle.wsgs.specs.Clocks.{at-slot}
 use Rattle.wsgs.specs.Basics.{pick, Port}
 use Rattle.wsgs.specs.Words.{word, copied}
 use Rattle.wsgs.specs.Frames.{first-of-frame}
 use Rattle.wsgs.specs.Steps.{Matching, empty-matching, pass-two, listed, marked, outputs-of, pass-word-of}
-use Rattle.wsgs.specs.Questions.{Outcome, refused}
-use Rattle.wsgs.specs.Answers.{clock-of, tick-result-of}
+use Rattle.wsgs.specs.Questions.{refused, effect}
+use Rattle.wsgs.specs.Answers.{direct-runs-of, tick-effect}
 use Rattle.wsgs.specs.Direct.{Runs, loaded, paired, spent, tick-refusal, ticked, tick}
 use Rattle.wsgs.proofs.Steps.{two-keeps}
 use Rattle.wsgs.proofs.Laws.Listed.{listed-none}
@@ -76,28 +77,25 @@ module _ (n f k : ℕ) (w : Runs) where
       }
 
 -- A tick is refused or runs the slot, as its refusal says.
-module _ (n f s : ℕ) (w : Runs) (r : ℕ) (asked : r ≡ tick-refusal (clock-of n f s) w) where
-  abbrev out : Outcome Runs
-  out = tick (clock-of n f s) w
-
+module _ (k : Clock) (w : Runs) (r : ℕ) (asked : r ≡ tick-refusal k w) where
   -- what it leaves
-  out-refused : 1 ≤ r → out ≡ refused r (clock-of n f s) w
+  out-refused : 1 ≤ r → tick k w ≡ refused r k w
   unfolding tick
   out-refused h = rw (← asked, ne-eqb r 0 (omega arith))
 
-  out-ran : r ≤ 0 → out ≡ ticked (clock-of n f s) w
+  out-ran : r ≤ 0 → tick k w ≡ ticked k w
   unfolding tick
   out-ran h = rw (← asked, eq-eqb r 0 (omega arith))
 
-  -- a refused one answers zeros and the old slot
-  pub tick-refused : 1 ≤ r
-      → (_≡_ {A = TickResult} (record { refusal = r; slot = s; outputs = replicate 32 0; «first_pass» = 0 }) (tick-result-of out))
-      × ((w .credits ≡ out .runs .credits) × (w .queues ≡ out .runs .queues))
-  tick-refused h = rw (out-refused h, outputs-are empty-matching, mark-is empty-matching, listed-none 32, marked-none 32) (refl, (refl, refl))
+  -- a refused one answers zeros and the old clock
+  pub tick-refused : 1 ≤ r → effect (record { refusal = r; clock = k; outputs = replicate 32 0; «first_pass» = 0 }) w ≡ tick-effect (tick k w)
+  tick-refused h = rw (out-refused h, outputs-are empty-matching, mark-is empty-matching, listed-none 32, marked-none 32)
 
   -- another answers the slot
-  pub tick-ran : r ≤ 0 → (first : ℕ) (outputs credits queues : List ℕ) → SlotRun n f (s + 1) w outputs first credits queues
-      → (_≡_ {A = TickResult} (record { refusal = 0; slot = s + 1; outputs = outputs; «first_pass» = first }) (tick-result-of out))
-      × ((credits ≡ out .runs .credits) × (queues ≡ out .runs .queues))
+  pub tick-ran : r ≤ 0 → (first : ℕ) (outputs credits queues : List ℕ)
+      → SlotRun (k .ports) (k .frame) (k .slot + 1) w outputs first credits queues
+      → effect (record { refusal = 0; clock = at-slot k (k .slot + 1); outputs = outputs; «first_pass» = first })
+      (direct-runs-of (w .bookings) credits queues)
+      ≡ tick-effect (tick k w)
   unfolding ticked
-  tick-ran h first outputs credits queues d = rw (out-ran h, d .answer, d .mark, d .credits-left, d .queues-left) (refl, (refl, refl))
+  tick-ran h first outputs credits queues d = rw (out-ran h, d .answer, d .mark, d .credits-left, d .queues-left)

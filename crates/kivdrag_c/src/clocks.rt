@@ -1,11 +1,11 @@
 // A clock as C lends it: three words for the number of ports, the length of a frame and the last slot run.
 ghost use mathlib.Core.Path.{_≡_};
-ghost use Rattle.kivdrag_c.specs.Clocks.{held, words-of};
+ghost use Rattle.kivdrag_c.specs.Clocks.{clock-in-words, clock-words};
 use wsgs::Clock;
 
 // The clock that words hold.
 pub fn clock_in(words: &[u32; 3]) -> Clock
-    ensures { λ r. ⌜ r ≡ held (now (words .entry)) ⌝ }
+    ensures result { λ r. ⌜ r ≡ clock-in-words (now (words .entry)) ⌝ }
 {
     Clock {
         ports: words[0],
@@ -16,7 +16,7 @@ pub fn clock_in(words: &[u32; 3]) -> Clock
 
 // Writes a clock into its words.
 pub fn put_clock(words: &mut [u32; 3], clock: Clock)
-    ensures { λ _. ⌜ now (words .exit) ≡ words-of clock ⌝ }
+    ensures words_exit { λ _. ⌜ now (words .exit) ≡ clock-words clock ⌝ }
 {
     *words = [clock.ports, clock.frame, clock.slot];
 }

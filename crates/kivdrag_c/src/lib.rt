@@ -1,18 +1,19 @@
 // The calls of a switch as C has them (include/kivdrag.h). Each is the proved call of its name, on a clock that is lent as three words.
 ghost use mathlib.Core.Path.{_≡_};
+ghost use Rattle.wsgs.specs.Questions.{effect};
 ghost use Rattle.wsgs.specs.Answers.{direct-runs-of, pipelined-runs-of};
 ghost use Rattle.wsgs.specs.Direct;
 ghost use Rattle.wsgs.specs.Pipelined;
-ghost use Rattle.wsgs.specs.Book.{book-refusal, book-words, rate-refusal, rate-words, release-refusal, release-words, arrive-refusal, arrive-words};
-ghost use Rattle.wsgs.specs.Steps.{outputs-of, pass-word-of};
-ghost use Rattle.kivdrag_c.specs.Clocks.{held, words-of};
+ghost use Rattle.wsgs.specs.Book.{book-effect, rate-effect, release-effect, arrive-effect};
+ghost use Rattle.kivdrag_c.specs.Clocks.{clock-in-words};
+ghost use Rattle.kivdrag_c.specs.Results.{c-start, c-start-of, c-tick, c-tick-of};
 
-mod answers;
 mod clocks;
+mod results;
 
-use answers::put_answer;
 use clocks::clock_in;
 use clocks::put_clock;
+use results::put_result;
 use wsgs::BookedSlots;
 use wsgs::Input;
 use wsgs::Output;
@@ -27,15 +28,14 @@ pub extern "C" fn kivdrag_start_direct(
     credits: &mut [u32],
     queues: &mut [u32],
 ) -> u32
-    ensures { λ r. ⌜ r ≡ Direct.start ports frame (held (now (clock .entry))) (direct-runs-of (now (bookings .entry)) (now (credits .entry)) (now (queues .entry))) .refusal ⌝ }
-    ensures { λ _. ⌜ now (clock .exit) ≡ words-of (Direct.start ports frame (held (now (clock .entry))) (direct-runs-of (now (bookings .entry)) (now (credits .entry)) (now (queues .entry))) .clock) ⌝ }
-    ensures { λ _. ⌜ now (bookings .exit) ≡ Direct.start ports frame (held (now (clock .entry))) (direct-runs-of (now (bookings .entry)) (now (credits .entry)) (now (queues .entry))) .runs .bookings ⌝ }
-    ensures { λ _. ⌜ now (credits .exit) ≡ Direct.start ports frame (held (now (clock .entry))) (direct-runs-of (now (bookings .entry)) (now (credits .entry)) (now (queues .entry))) .runs .credits ⌝ }
-    ensures { λ _. ⌜ now (queues .exit) ≡ Direct.start ports frame (held (now (clock .entry))) (direct-runs-of (now (bookings .entry)) (now (credits .entry)) (now (queues .entry))) .runs .queues ⌝ }
+    ensures outcome { λ r. ⌜ c-start r (now (clock .exit))
+        (direct-runs-of (now (bookings .exit)) (now (credits .exit)) (now (queues .exit)))
+        ≡ c-start-of (Direct.start ports frame (clock-in-words (now (clock .entry)))
+        (direct-runs-of (now (bookings .entry)) (now (credits .entry)) (now (queues .entry)))) ⌝ }
 {
-    let started = starts::start_direct(ports, frame, clock_in(clock), bookings, credits, queues);
-    put_clock(clock, started.clock);
-    started.refusal
+    let result = starts::start_direct(ports, frame, clock_in(clock), bookings, credits, queues);
+    put_clock(clock, result.clock);
+    result.refusal
 }
 
 // Starts a pipelined switch.
@@ -50,15 +50,13 @@ pub extern "C" fn kivdrag_start_pipelined(
     copy: &mut [u32],
     flight: &mut [u32],
 ) -> u32
-    ensures { λ r. ⌜ r ≡ Pipelined.start ports frame (held (now (clock .entry))) (pipelined-runs-of (now (bookings .entry)) (now (credits .entry)) (now (queues .entry)) (now (copy .entry)) (now (flight .entry))) .refusal ⌝ }
-    ensures { λ _. ⌜ now (clock .exit) ≡ words-of (Pipelined.start ports frame (held (now (clock .entry))) (pipelined-runs-of (now (bookings .entry)) (now (credits .entry)) (now (queues .entry)) (now (copy .entry)) (now (flight .entry))) .clock) ⌝ }
-    ensures { λ _. ⌜ now (bookings .exit) ≡ Pipelined.start ports frame (held (now (clock .entry))) (pipelined-runs-of (now (bookings .entry)) (now (credits .entry)) (now (queues .entry)) (now (copy .entry)) (now (flight .entry))) .runs .bookings ⌝ }
-    ensures { λ _. ⌜ now (credits .exit) ≡ Pipelined.start ports frame (held (now (clock .entry))) (pipelined-runs-of (now (bookings .entry)) (now (credits .entry)) (now (queues .entry)) (now (copy .entry)) (now (flight .entry))) .runs .credits ⌝ }
-    ensures { λ _. ⌜ now (queues .exit) ≡ Pipelined.start ports frame (held (now (clock .entry))) (pipelined-runs-of (now (bookings .entry)) (now (credits .entry)) (now (queues .entry)) (now (copy .entry)) (now (flight .entry))) .runs .queues ⌝ }
-    ensures { λ _. ⌜ now (copy .exit) ≡ Pipelined.start ports frame (held (now (clock .entry))) (pipelined-runs-of (now (bookings .entry)) (now (credits .entry)) (now (queues .entry)) (now (copy .entry)) (now (flight .entry))) .runs .copy ⌝ }
-    ensures { λ _. ⌜ now (flight .exit) ≡ Pipelined.start ports frame (held (now (clock .entry))) (pipelined-runs-of (now (bookings .entry)) (now (credits .entry)) (now (queues .entry)) (now (copy .entry)) (now (flight .entry))) .runs .flight ⌝ }
+    ensures outcome { λ r. ⌜ c-start r (now (clock .exit))
+        (pipelined-runs-of (now (bookings .exit)) (now (credits .exit)) (now (queues .exit)) (now (copy .exit)) (now (flight .exit)))
+        ≡ c-start-of (Pipelined.start ports frame (clock-in-words (now (clock .entry)))
+        (pipelined-runs-of (now (bookings .entry)) (now (credits .entry)) (now (queues .entry))
+        (now (copy .entry)) (now (flight .entry)))) ⌝ }
 {
-    let started = starts::start_pipelined(
+    let result = starts::start_pipelined(
         ports,
         frame,
         clock_in(clock),
@@ -68,8 +66,8 @@ pub extern "C" fn kivdrag_start_pipelined(
         copy,
         flight,
     );
-    put_clock(clock, started.clock);
-    started.refusal
+    put_clock(clock, result.clock);
+    result.refusal
 }
 
 // Books slots of each frame for a pair.
@@ -81,8 +79,8 @@ pub extern "C" fn kivdrag_book(
     output: u64,
     slots: u64,
 ) -> u32
-    ensures { λ r. ⌜ r ≡ book-refusal (held (now (clock .entry))) (now (bookings .entry)) input output slots ⌝ }
-    ensures { λ _. ⌜ now (bookings .exit) ≡ book-words (held (now (clock .entry))) (now (bookings .entry)) input output slots ⌝ }
+    ensures outcome { λ r. ⌜ effect r (now (bookings .exit))
+        ≡ book-effect (clock-in-words (now (clock .entry))) (now (bookings .entry)) input output slots ⌝ }
 {
     let clock = clock_in(clock);
     let slots = BookedSlots(slots);
@@ -99,8 +97,8 @@ pub extern "C" fn kivdrag_book_rate(
     line: u64,
     rate: u64,
 ) -> u32
-    ensures { λ r. ⌜ r ≡ rate-refusal (held (now (clock .entry))) (now (bookings .entry)) input output line rate ⌝ }
-    ensures { λ _. ⌜ now (bookings .exit) ≡ rate-words (held (now (clock .entry))) (now (bookings .entry)) input output line rate ⌝ }
+    ensures outcome { λ r. ⌜ effect r (now (bookings .exit))
+        ≡ rate-effect (clock-in-words (now (clock .entry))) (now (bookings .entry)) input output line rate ⌝ }
 {
     let clock = clock_in(clock);
     book::book_rate(clock, bookings, Input(input), Output(output), line, rate)
@@ -115,8 +113,8 @@ pub extern "C" fn kivdrag_release(
     output: u64,
     slots: u64,
 ) -> u32
-    ensures { λ r. ⌜ r ≡ release-refusal (held (now (clock .entry))) (now (bookings .entry)) input output slots ⌝ }
-    ensures { λ _. ⌜ now (bookings .exit) ≡ release-words (held (now (clock .entry))) (now (bookings .entry)) input output slots ⌝ }
+    ensures outcome { λ r. ⌜ effect r (now (bookings .exit))
+        ≡ release-effect (clock-in-words (now (clock .entry))) (now (bookings .entry)) input output slots ⌝ }
 {
     let clock = clock_in(clock);
     let slots = BookedSlots(slots);
@@ -132,8 +130,8 @@ pub extern "C" fn kivdrag_arrive(
     output: u64,
     packets: u64,
 ) -> u32
-    ensures { λ r. ⌜ r ≡ arrive-refusal (held (now (clock .entry))) (now (queues .entry)) input output packets ⌝ }
-    ensures { λ _. ⌜ now (queues .exit) ≡ arrive-words (held (now (clock .entry))) (now (queues .entry)) input output packets ⌝ }
+    ensures outcome { λ r. ⌜ effect r (now (queues .exit))
+        ≡ arrive-effect (clock-in-words (now (clock .entry))) (now (queues .entry)) input output packets ⌝ }
 {
     let clock = clock_in(clock);
     book::arrive(clock, queues, Input(input), Output(output), packets)
@@ -149,16 +147,13 @@ pub extern "C" fn kivdrag_tick_direct(
     outputs: &mut [u8; 32],
     first_pass: &mut u32,
 ) -> u32
-    ensures { λ r. ⌜ r ≡ Direct.tick (held (now (clock .entry))) (direct-runs-of (now (bookings .entry)) (now (credits .entry)) (now (queues .entry))) .refusal ⌝ }
-    ensures { λ _. ⌜ now (clock .exit) ≡ words-of (Direct.tick (held (now (clock .entry))) (direct-runs-of (now (bookings .entry)) (now (credits .entry)) (now (queues .entry))) .clock) ⌝ }
-    ensures { λ _. ⌜ now (credits .exit) ≡ Direct.tick (held (now (clock .entry))) (direct-runs-of (now (bookings .entry)) (now (credits .entry)) (now (queues .entry))) .runs .credits ⌝ }
-    ensures { λ _. ⌜ now (queues .exit) ≡ Direct.tick (held (now (clock .entry))) (direct-runs-of (now (bookings .entry)) (now (credits .entry)) (now (queues .entry))) .runs .queues ⌝ }
-    ensures { λ _. ⌜ now (outputs .exit) ≡ outputs-of (Direct.tick (held (now (clock .entry))) (direct-runs-of (now (bookings .entry)) (now (credits .entry)) (now (queues .entry))) .matching) ⌝ }
-    ensures { λ _. ⌜ now («first_pass» .exit) ≡ pass-word-of (Direct.tick (held (now (clock .entry))) (direct-runs-of (now (bookings .entry)) (now (credits .entry)) (now (queues .entry))) .matching) ⌝ }
+    ensures outcome { λ r. ⌜ c-tick r (now (clock .exit)) (now (outputs .exit)) (now («first_pass» .exit))
+        (direct-runs-of (now (bookings .entry)) (now (credits .exit)) (now (queues .exit)))
+        ≡ c-tick-of (Direct.tick (clock-in-words (now (clock .entry)))
+        (direct-runs-of (now (bookings .entry)) (now (credits .entry)) (now (queues .entry)))) ⌝ }
 {
-    let ran = clock::step_direct(clock_in(clock), bookings, credits, queues);
-    put_clock(clock, ran.clock);
-    put_answer(ran.answer, outputs, first_pass)
+    let result = clock::step_direct(clock_in(clock), bookings, credits, queues);
+    put_result(result, clock, outputs, first_pass)
 }
 
 // Runs the turns of one time of a pipelined switch, and hands out the pairs of the next slot.
@@ -173,16 +168,12 @@ pub extern "C" fn kivdrag_tick_pipelined(
     outputs: &mut [u8; 32],
     first_pass: &mut u32,
 ) -> u32
-    ensures { λ r. ⌜ r ≡ Pipelined.tick (held (now (clock .entry))) (pipelined-runs-of (now (bookings .entry)) (now (credits .entry)) (now (queues .entry)) (now (copy .entry)) (now (flight .entry))) .refusal ⌝ }
-    ensures { λ _. ⌜ now (clock .exit) ≡ words-of (Pipelined.tick (held (now (clock .entry))) (pipelined-runs-of (now (bookings .entry)) (now (credits .entry)) (now (queues .entry)) (now (copy .entry)) (now (flight .entry))) .clock) ⌝ }
-    ensures { λ _. ⌜ now (credits .exit) ≡ Pipelined.tick (held (now (clock .entry))) (pipelined-runs-of (now (bookings .entry)) (now (credits .entry)) (now (queues .entry)) (now (copy .entry)) (now (flight .entry))) .runs .credits ⌝ }
-    ensures { λ _. ⌜ now (queues .exit) ≡ Pipelined.tick (held (now (clock .entry))) (pipelined-runs-of (now (bookings .entry)) (now (credits .entry)) (now (queues .entry)) (now (copy .entry)) (now (flight .entry))) .runs .queues ⌝ }
-    ensures { λ _. ⌜ now (copy .exit) ≡ Pipelined.tick (held (now (clock .entry))) (pipelined-runs-of (now (bookings .entry)) (now (credits .entry)) (now (queues .entry)) (now (copy .entry)) (now (flight .entry))) .runs .copy ⌝ }
-    ensures { λ _. ⌜ now (flight .exit) ≡ Pipelined.tick (held (now (clock .entry))) (pipelined-runs-of (now (bookings .entry)) (now (credits .entry)) (now (queues .entry)) (now (copy .entry)) (now (flight .entry))) .runs .flight ⌝ }
-    ensures { λ _. ⌜ now (outputs .exit) ≡ outputs-of (Pipelined.tick (held (now (clock .entry))) (pipelined-runs-of (now (bookings .entry)) (now (credits .entry)) (now (queues .entry)) (now (copy .entry)) (now (flight .entry))) .matching) ⌝ }
-    ensures { λ _. ⌜ now («first_pass» .exit) ≡ pass-word-of (Pipelined.tick (held (now (clock .entry))) (pipelined-runs-of (now (bookings .entry)) (now (credits .entry)) (now (queues .entry)) (now (copy .entry)) (now (flight .entry))) .matching) ⌝ }
+    ensures outcome { λ r. ⌜ c-tick r (now (clock .exit)) (now (outputs .exit)) (now («first_pass» .exit))
+        (pipelined-runs-of (now (bookings .entry)) (now (credits .exit)) (now (queues .exit)) (now (copy .exit)) (now (flight .exit)))
+        ≡ c-tick-of (Pipelined.tick (clock-in-words (now (clock .entry)))
+        (pipelined-runs-of (now (bookings .entry)) (now (credits .entry)) (now (queues .entry))
+        (now (copy .entry)) (now (flight .entry)))) ⌝ }
 {
-    let turned = clock::step_pipelined(clock_in(clock), bookings, credits, queues, copy, flight);
-    put_clock(clock, turned.clock);
-    put_answer(turned.answer, outputs, first_pass)
+    let result = clock::step_pipelined(clock_in(clock), bookings, credits, queues, copy, flight);
+    put_result(result, clock, outputs, first_pass)
 }

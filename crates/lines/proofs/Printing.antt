@@ -7,18 +7,20 @@ use native.Mathlib.Decide.{ℕ-discrete, decLe}
 use native.Mathlib.Nat.{add-zero, add-suc}
 use native.Mathlib.Numerals.{add-one}
 use native.Mathlib.Omega.{arith}
-use borrow.Author.Tests.{eq-eqb, ne-eqb}
+use borrow.Author.Tests.{eq-eqb, ne-eqb, lt-ltb}
 use lib.Bits.{bitAnd, and-mask}
 use lib.ListN.{length, getD, length-append, List·getD-eq-default}
+use Rattle.wsgs.specs.declared.Refusal.{Refusal}
+use Rattle.wsgs.specs.Answers.{matching-of}
 use Rattle.wsgs.specs.Basics.{pick}
 use Rattle.wsgs.specs.Steps.{Matching}
 use Rattle.wsgs.specs.Text.{CR, LF, comma, bytes, decimal, line}
-use Rattle.wsgs.specs.Program.{refused-line, match-lines}
-use Rattle.lines.specs.Lines.{is-set, matching-of, match-line}
+use Rattle.wsgs.specs.Program.{refused-line, refusal-text, match-line, match-lines}
+use Rattle.lines.specs.Lines.{field-room, line-room, match-room, refusal-room, slot-room, is-set}
 use Rattle.lines.proofs.Decimals.{decimal-short}
 
--- a comma and a number take at most 21 bytes
-pub field-short : (n : ℕ) → length (comma ∷ decimal n) ≤ 21
+-- a comma and a number take the room of a field
+pub field-short : (n : ℕ) → length (comma ∷ decimal n) ≤ field-room
 field-short n = omega (arith, decimal-short n)
 
 -- a line, field by field
@@ -31,17 +33,30 @@ line-of name a b c d =
     ∙ append-assoc (name ++ (comma ∷ a)) (comma ∷ b) (comma ∷ (c ++ (comma ∷ (d ++ (CR ∷ LF ∷ [])))))
     ∙ append-assoc name (comma ∷ a) (comma ∷ (b ++ (comma ∷ (c ++ (comma ∷ (d ++ (CR ∷ LF ∷ [])))))))
 
--- a line takes at most 86 bytes beside its name
+-- a line takes the room of a line beside its kind
 pub line-short : (name : List ℕ) (a b c d : ℕ)
-    → length (line (name ∷ decimal a ∷ decimal b ∷ decimal c ∷ decimal d ∷ [])) ≤ length name + 86
+    → length (line (name ∷ decimal a ∷ decimal b ∷ decimal c ∷ decimal d ∷ [])) ≤ length name + line-room
 line-short name a b c d =
     rw (← line-of name (decimal a) (decimal b) (decimal c) (decimal d))
     (simp length-append (omega (arith, decimal-short a, decimal-short b, decimal-short c, decimal-short d)))
 
--- a refusal's line
-pub refusal-short : (slot x y number : ℕ) → length (refused-line slot x y number) ≤ 93
-unfolding refused-line bytes
-refusal-short slot x y number = line-short (bytes "refused") slot x y number
+-- no refusal, and the line of one
+module _ (r : Refusal) where
+  pub no-refusal : r .number ≡ 0 → [] ≡ refusal-text r
+  no-refusal e = rw (eq-eqb (r .number) 0 e)
+
+  pub the-refusal : (r .number ≡ 0 → ⊥)
+      → line (bytes "refused" ∷ decimal (r .slot) ∷ decimal (r .input) ∷ decimal (r .output) ∷ decimal (r .number) ∷ []) ≡ refusal-text r
+  unfolding refused-line
+  the-refusal d = rw (ne-eqb (r .number) 0 d)
+
+  pub refusal-short : length (refusal-text r) ≤ refusal-room
+  unfolding bytes
+  refusal-short = go (ℕ-discrete (r .number) 0)
+    where
+      go : Dec (r .number ≡ 0) → length (refusal-text r) ≤ refusal-room
+      go (yes e) = rw (← no-refusal e) (omega arith)
+      go (no d) = rw (← the-refusal d) (line-short (bytes "refused") (r .slot) (r .input) (r .output) (r .number))
 
 -- the pass that a bit of the word tells
 pub pass-of : (w i : ℕ) → 2 - bitAnd (w / 2 ^ i) 1 ≡ pick (is-set w i) 1 2
@@ -65,21 +80,28 @@ module _ (slot i output : ℕ) (first : Bool) where
   unfolding match-line
   the-line d = rw (ne-eqb output 0 d)
 
-  pub match-short : length (match-line slot i output first) ≤ 91
+  pub match-short : length (match-line slot i output first) ≤ match-room
   unfolding bytes
   match-short = go (ℕ-discrete output 0)
     where
-      go : Dec (output ≡ 0) → length (match-line slot i output first) ≤ 91
+      go : Dec (output ≡ 0) → length (match-line slot i output first) ≤ match-room
       go (yes e) = rw (← no-line e) (omega arith)
       go (no d) = rw (← the-line d) (omega (arith, line-short (bytes "match") slot i output (pick first 1 2)))
 
 -- the lines of a slot, one input more
 pub matches-suc : (slot : ℕ) (a : Matching) (x : ℕ)
     → match-lines slot a (suc x) ≡ match-lines slot a x ++ match-line slot (suc x) (a .output (suc x)) (a .first (suc x))
-unfolding match-lines match-line
+unfolding match-lines
 matches-suc slot a x = refl
 
 module _ (slot : ℕ) (outputs : List ℕ) (passes : ℕ) where
+  -- the pair of input i + 1, as it stands in the array and the word
+  output-at : (i : ℕ) → matching-of outputs passes .output (suc i) ≡ getD outputs i 0
+  output-at i = let back : suc i - 1 ≡ i = omega arith in rw (lt-ltb 0 (suc i) (omega arith), back)
+
+  first-at : (i : ℕ) → matching-of outputs passes .first (suc i) ≡ is-set passes i
+  first-at i = let back : suc i - 1 ≡ i = omega arith in rw (lt-ltb 0 (suc i) (omega arith), back)
+
   pub matches-none : [] ≡ match-lines slot (matching-of outputs passes) 0
   unfolding match-lines
   matches-none = refl
@@ -87,12 +109,10 @@ module _ (slot : ℕ) (outputs : List ℕ) (passes : ℕ) where
   pub matches-more : (i : ℕ)
       → match-lines slot (matching-of outputs passes) i ++ match-line slot (i + 1) (getD outputs i 0) (is-set passes i)
       ≡ match-lines slot (matching-of outputs passes) (i + 1)
-  matches-more i =
-      let back : suc i - 1 ≡ i = omega arith in
-      rw (add-one i) (sym (matches-suc slot (matching-of outputs passes) i ∙ rw back))
+  matches-more i = rw (add-one i) (sym (matches-suc slot (matching-of outputs passes) i ∙ rw (output-at i, first-at i)))
 
-  -- a slot's lines take at most 91 bytes an input
-  pub matches-short : (i : ℕ) → length (match-lines slot (matching-of outputs passes) i) ≤ 91 * i
+  -- a slot's lines take the room of a pair's line for each input
+  pub matches-short : (i : ℕ) → length (match-lines slot (matching-of outputs passes) i) ≤ match-room * i
   unfolding match-lines
   matches-short zero = omega arith
   matches-short (suc i) =
@@ -111,7 +131,7 @@ module _ (slot : ℕ) (outputs : List ℕ) (passes : ℕ) where
     none-past zero = rw (add-zero m)
     none-past (suc n) =
         let a = matching-of outputs passes in
-        let e : a .output (suc (m + n)) ≡ 0 = List·getD-eq-default outputs 0 (omega arith) in
+        let e : a .output (suc (m + n)) ≡ 0 = output-at (m + n) ∙ List·getD-eq-default outputs 0 (omega arith) in
         rw (add-suc m n, matches-suc slot a (m + n), ← no-line slot (suc (m + n)) (a .output (suc (m + n))) (a .first (suc (m + n))) e, append-nil)
         (none-past n)
 
@@ -119,9 +139,9 @@ module _ (slot : ℕ) (outputs : List ℕ) (passes : ℕ) where
     matches-past n h = let e : m + (n - m) ≡ n = omega arith in rw e at (sym (none-past (n - m)))
 
   -- a slot's lines as a tick answers them, whatever the number of ports
-  pub slot-short : length outputs ≡ 32 → (n : ℕ) → length (match-lines slot (matching-of outputs passes) n) ≤ 2912
+  pub slot-short : length outputs ≡ 32 → (n : ℕ) → length (match-lines slot (matching-of outputs passes) n) ≤ slot-room
   slot-short long n = go (decLe n 32)
     where
-      go : Dec (n ≤ 32) → length (match-lines slot (matching-of outputs passes) n) ≤ 2912
+      go : Dec (n ≤ 32) → length (match-lines slot (matching-of outputs passes) n) ≤ slot-room
       go (yes l) = omega (arith, matches-short n)
       go (no l) = rw (← matches-past 32 long n (omega arith)) (omega (arith, matches-short 32))

@@ -1,5 +1,5 @@
 -- Texts written one after the other are one text written. Assumes nothing.
-use mathlib.Core.Path.{_≡_, refl, sym, ap, subst, _∙_}
+use mathlib.Core.Path.{_≡_, refl, sym, ap, ap₂, subst, _∙_}
 use mathlib.Core.List.{List, [], _∷_, _++_, append-assoc, append-nil}
 use Prim.Native.Nat.{ℕ, suc, _+_, _-_, _≤_, _<_}
 use native.Mathlib.Nat.{add-assoc, zero-add}
@@ -8,7 +8,8 @@ use native.Mathlib.Omega.{arith}
 use lib.ListN.{length, take, drop, set, getD, length-append, length-drop, drop-of-length-le}
 use lib.Seq.{length-take-le, take-length, take-all, take-at, drop-append-add, drop-drop, set-split, append-snoc, paste, paste-zero, paste-suc, length-paste}
 use borrow.Author.Tests.{le-leb, lt-leb}
-use Rattle.lines.specs.Lines.{written, Wrote, with-room}
+use Rattle.wsgs.specs.Questions.{Effect, effect}
+use Rattle.lines.specs.Lines.{with-text, TextWritten, with-room, put-effect}
 
 module _ (out : List ℕ) (at : ℕ) where
   -- what stands before a text and the text
@@ -16,11 +17,11 @@ module _ (out : List ℕ) (at : ℕ) where
   front text h = length-append (take at out) text ∙ ap (λ n. n + length text) (length-take-le at out h)
 
   -- nothing written
-  pub wrote-none : at ≤ length out → Wrote out at [] at out
+  pub wrote-none : at ≤ length out → TextWritten out at [] at out
   wrote-none h = record { fits = omega arith; next-place = omega arith; buffer = paste-zero out at [] }
 
   -- a byte
-  pub wrote-byte : (b : ℕ) → at < length out → Wrote out at (b ∷ []) (at + 1) (set out at b)
+  pub wrote-byte : (b : ℕ) → at < length out → TextWritten out at (b ∷ []) (at + 1) (set out at b)
   wrote-byte b h =
       record {
         fits = omega arith;
@@ -49,24 +50,24 @@ module _ (out : List ℕ) (at : ℕ) where
             long = ap length e ∙ length-paste out at text (suc i) (omega arith) (omega arith);
           }
 
-      pub copied-all : length text ≤ i → Wrote out at text (at + i) out′
+      pub copied-all : length text ≤ i → TextWritten out at text (at + i) out′
       copied-all l =
           let e : i ≡ length text = omega (arith, p .within) in
           record { fits = h; next-place = rw e; buffer = p .so-far ∙ rw (e, take-length text) }
 
 -- the same text by another name
-pub wrote-is : {out out′ : List ℕ} {at next : ℕ} {t u : List ℕ} → Wrote out at t next out′ → t ≡ u → Wrote out at u next out′
-wrote-is {out} {out′} {at} {next} w e = subst (λ t. Wrote out at t next out′) e w
+pub wrote-is : {out out′ : List ℕ} {at next : ℕ} {t u : List ℕ} → TextWritten out at t next out′ → t ≡ u → TextWritten out at u next out′
+wrote-is {out} {out′} {at} {next} w e = subst (λ t. TextWritten out at t next out′) e w
 
 -- after a text another
-module _ {a b : List ℕ} {at next : ℕ} {t : List ℕ} (w : Wrote a at t next b) where
+module _ {a b : List ℕ} {at next : ℕ} {t : List ℕ} (w : TextWritten a at t next b) where
   pub wrote-long : length b ≡ length a
   wrote-long =
       ap length (w .buffer)
       ∙ length-append (take at a ++ t) (drop (at + length t) a)
       ∙ omega (arith, w .fits, front a at t (omega (arith, w .fits)), length-drop (at + length t) a)
 
-  pub wrote-then : {c : List ℕ} {end : ℕ} {u : List ℕ} → Wrote b next u end c → Wrote a at (t ++ u) end c
+  pub wrote-then : {c : List ℕ} {end : ℕ} {u : List ℕ} → TextWritten b next u end c → TextWritten a at (t ++ u) end c
   wrote-then {u = u} v =
       let p = take at a ++ t in
       let q = drop (at + length t) a in
@@ -83,19 +84,11 @@ module _ {a b : List ℕ} {at next : ℕ} {t : List ℕ} (w : Wrote a at t next 
 
 -- a text at the front of a buffer that has room for it, and of one that has not
 module _ (most : ℕ) (out text : List ℕ) where
-  pub record Given (next : ℕ) (out′ : List ℕ) : Type 0 where
-    pub count : next ≡ length (with-room most out text)
-    pub buffer : out′ ≡ written 0 (with-room most out text) out
+  pub no-room : length out < most → effect 0 out ≡ put-effect most text out
+  no-room h = rw (lt-leb most (length out) h)
 
-  pub no-room : length out < most → Given 0 out
-  no-room h = record { count = rw (lt-leb most (length out) h); buffer = rw (lt-leb most (length out) h) }
-
-  pub room : {next : ℕ} {out′ : List ℕ} → most ≤ length out → Wrote out 0 text next out′ → Given next out′
-  room h w =
-      record {
-        count = rw (le-leb most (length out) h) (omega (arith, w .next-place));
-        buffer = rw (le-leb most (length out) h) (w .buffer);
-      }
+  pub room : {next : ℕ} {out′ : List ℕ} → most ≤ length out → TextWritten out 0 text next out′ → effect next out′ ≡ put-effect most text out
+  room h w = rw (le-leb most (length out) h) (ap₂ effect (omega (arith, w .next-place)) (w .buffer))
 
 -- a text at the front of the rest of a buffer from a place on stands at that place of the buffer
 module _ (most : ℕ) (out : List ℕ) (at : ℕ) (text : List ℕ) (h : at + most ≤ length out) (short : length text ≤ most) where
@@ -111,15 +104,16 @@ module _ (most : ℕ) (out : List ℕ) (at : ℕ) (text : List ℕ) (h : at + mo
   has-room : with-room most the-rest text ≡ text
   has-room = rw (rest-is, le-leb most (length (drop at out)) (omega (arith, length-drop at out)))
 
-  pub wrote-rest : {count : ℕ} {part : List ℕ} → count ≡ length (with-room most the-rest text)
-      → part ≡ written 0 (with-room most the-rest text) the-rest
-      → Wrote out at text (at + count) (take at out ++ (part ++ drop (length out - at) (drop at out)))
-  wrote-rest {count} {part} ec ep =
+  pub wrote-rest : {count : ℕ} {part : List ℕ} → effect count part ≡ put-effect most text the-rest
+      → TextWritten out at text (at + count) (take at out ++ (part ++ drop (length out - at) (drop at out)))
+  wrote-rest {count} {part} e =
+      let counted : count ≡ length text = ap (λ (x : Effect ℕ (List ℕ)). x .answer) e ∙ rw has-room in
+      let is : part ≡ with-text 0 text the-rest = ap (λ (x : Effect ℕ (List ℕ)). x .words) e ∙ rw has-room in
       record {
         fits = omega arith;
-        next-place = rw (ec, has-room);
+        next-place = rw counted;
         buffer =
             rw (rest-none, append-nil part)
-            (ap (λ t. take at out ++ t) (ep ∙ rw (has-room, rest-is, zero-add (length text), drop-drop (length text) at out))
+            (ap (λ t. take at out ++ t) (is ∙ rw (rest-is, zero-add (length text), drop-drop (length text) at out))
             ∙ sym (append-assoc (take at out) text (drop (at + length text) out)));
       }

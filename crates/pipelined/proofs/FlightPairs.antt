@@ -11,6 +11,7 @@ use borrow.Author.Tests.{le-leb, lt-leb}
 use lib.Bits.{bitOr}
 use lib.Dec.{leb}
 use lib.ListN.{getD, set, replicate}
+use Rattle.wsgs.specs.declared.Clock.{Clock}
 use Rattle.wsgs.specs.declared.TickResult.{TickResult}
 use Rattle.wsgs.specs.Basics.{pick, between, updated}
 use Rattle.wsgs.specs.Steps.{listed, marked, outputs-of, pass-word-of}
@@ -100,7 +101,7 @@ module _ (n s : ℕ) (flight : List ℕ) where
         }
 
   -- those of all inputs are the answer
-  pub handed-all : (k x word : ℕ) (outputs : List ℕ) → x ≡ n → Handed x outputs word
-      → _≡_ {A = TickResult} (record { refusal = 0; slot = k; outputs = outputs; «first_pass» = word }) (answering k (handed-out n flight s))
+  pub handed-all : (c : Clock) (x word : ℕ) (outputs : List ℕ) → x ≡ n → Handed x outputs word
+      → _≡_ {A = TickResult} (record { refusal = 0; clock = c; outputs = outputs; «first_pass» = word }) (answering c (handed-out n flight s))
   unfolding handed-out outputs-of pass-word-of
-  handed-all k x word outputs e h = rw (h .output, h .first, e)
+  handed-all c x word outputs e h = rw (h .output, h .first, e)

@@ -1,15 +1,14 @@
 -- The runs that the turns of a pipelined tick change, put together from lists; that those lent to it are long enough; what it knows of the slots
--- ahead; and what it answers and leaves. Assumes nothing.
+-- ahead; and what it gives back. Assumes nothing.
 use mathlib.Core.Path.{_≡_}
 use mathlib.Core.List.{List}
 use Prim.Native.Nat.{ℕ, _+_, _*_, _%_, _≤_, _<_}
 use lib.ListN.{length}
+use Rattle.wsgs.specs.declared.Clock.{Clock}
 use Rattle.wsgs.specs.declared.TickResult.{TickResult}
 use Rattle.wsgs.specs.Frames.{into-frame}
 use Rattle.wsgs.specs.Steps.{Matching, outputs-of, pass-word-of}
-use Rattle.wsgs.specs.Questions.{Outcome}
-use Rattle.wsgs.specs.Pipelined.{Runs, TurnRuns}
-use Rattle.wsgs.specs.Answers.{tick-result-of}
+use Rattle.wsgs.specs.Pipelined.{TurnRuns}
 
 -- the credits, the queues and the rows in flight
 abbrev pub turn-runs-of : (credits queues flight : List ℕ) → TurnRuns
@@ -33,14 +32,6 @@ pub record Foreseen (n f k one two into : ℕ) : Type 0 where
   pub one-within : one < 2 * n
   pub two-within : two < 2 * n
 
--- what an accepted tick at time k answers that hands out a matching
-abbrev pub answering : ℕ → Matching → TickResult
-answering k m = record { refusal = 0; slot = k; outputs = outputs-of m; «first_pass» = pass-word-of m }
-
--- what a tick leaves: the answer r, the credits, the queues, the frame copy and the rows in flight
-pub record Left (o : Outcome Runs) (r : TickResult) (c q a f : List ℕ) : Type 0 where
-  pub answer : r ≡ tick-result-of o
-  pub credits : c ≡ o .runs .credits
-  pub queues : q ≡ o .runs .queues
-  pub copy : a ≡ o .runs .copy
-  pub flight : f ≡ o .runs .flight
+-- what an accepted tick gives back that has come to a clock and hands out a matching
+abbrev pub answering : Clock → Matching → TickResult
+answering c m = record { refusal = 0; clock = c; outputs = outputs-of m; «first_pass» = pass-word-of m }

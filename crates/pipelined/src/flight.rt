@@ -12,6 +12,7 @@ ghost use Rattle.pipelined.specs.Turnings.{answering};
 use std::num::wrapping_sub_u32;
 use turns::all_free;
 use words::clear_words;
+use wsgs::Clock;
 use wsgs::Input;
 use wsgs::Output;
 use wsgs::TickResult;
@@ -102,15 +103,16 @@ pub fn free_for(ports: usize, row: usize, flight: &[u32]) -> u32
     all_free(ports) ^ taken
 }
 
-// The answer of the tick at a time: the pairs that the row of the next slot hands out.
-pub fn hand_out(ports: usize, time: u32, flight: &[u32]) -> TickResult
-    requires { ⌜ 1 ≤ ports ⌝ }
-    requires { ⌜ ports ≤ 32 ⌝ }
-    requires { ⌜ 2 * ports * ports ≤ length (now flight) ⌝ }
-    ensures { λ r. ⌜ r ≡ answering time (handed-out ports (now (flight .entry)) (time + 1)) ⌝ }
+// The result of a tick that has come to a clock's slot: the pairs that the row of the next slot hands out.
+pub fn hand_out(clock: Clock, flight: &[u32]) -> TickResult
+    requires some_port { ⌜ 1 ≤ clock .ports ⌝ }
+    requires few_ports { ⌜ clock .ports ≤ 32 ⌝ }
+    requires flight_fits { ⌜ 2 * clock .ports * clock .ports ≤ length (now flight) ⌝ }
+    ensures result { λ r. ⌜ r ≡ answering clock (handed-out (clock .ports) (now (flight .entry)) (clock .slot + 1)) ⌝ }
 {
-    let highest = ports as u32;
-    let row = row_of(ports, time as u64 + 1);
+    let highest = clock.ports;
+    let ports = highest as usize;
+    let row = row_of(ports, clock.slot as u64 + 1);
     let mut outputs = [0u8; 32];
     let mut first_pass = 0u32;
     for column in 0..ports {
@@ -122,7 +124,7 @@ pub fn hand_out(ports: usize, time: u32, flight: &[u32]) -> TickResult
     }
     TickResult {
         refusal: 0,
-        slot: time,
+        clock,
         outputs,
         first_pass,
     }

@@ -7,7 +7,7 @@ ghost use Rattle.wsgs.specs.Questions.{pair-in-range};
 ghost use Rattle.wsgs.specs.Answers.{direct-runs-of, pipelined-runs-of};
 ghost use Rattle.wsgs.specs.Direct;
 ghost use Rattle.wsgs.specs.Pipelined;
-ghost use Rattle.questions.specs.Asked.{sizes-refusal, clock-refusal, pair-refusal};
+ghost use Rattle.questions.specs.Refusals.{sizes-refusal, clock-refusal, pair-refusal};
 use runs::direct_runs_suffice;
 use runs::holds_pairs;
 use runs::pipelined_runs_suffice;
@@ -20,14 +20,14 @@ use wsgs::Output;
 
 // Whether a number is one of low to high.
 pub fn is_between(low: u64, high: u64, number: u64) -> bool
-    ensures { λ r. ⌜ r ≡ between low high number ⌝ }
+    ensures result { λ r. ⌜ r ≡ between low high number ⌝ }
 {
     low <= number && number <= high
 }
 
-// Whether both are ports.
-fn are_ports(ports: u64, input: Input, output: Output) -> bool
-    ensures { λ r. ⌜ r ≡ pair-in-range ports (input .0) (output .0) .yes ⌝ }
+// Whether input and output are ports: question 5.
+fn pair_in_range(ports: u64, input: Input, output: Output) -> bool
+    ensures result { λ r. ⌜ r ≡ pair-in-range ports (input .0) (output .0) .yes ⌝ }
 {
     if !is_between(1, ports, input.0) {
         return false;
@@ -37,7 +37,7 @@ fn are_ports(ports: u64, input: Input, output: Output) -> bool
 
 // The number of ports and the length of a frame: questions 1 and 2.
 fn sizes_refusal(ports: u64, frame: u64) -> u32
-    ensures { λ r. ⌜ r ≡ sizes-refusal ports frame ⌝ }
+    ensures result { λ r. ⌜ r ≡ sizes-refusal ports frame ⌝ }
 {
     if !is_between(1, MAX_PORTS, ports) {
         return 1;
@@ -50,7 +50,7 @@ fn sizes_refusal(ports: u64, frame: u64) -> u32
 
 // The clock of a switch that is to run a slot more: question 7.
 fn clock_refusal(clock: Clock) -> u32
-    ensures { λ r. ⌜ r ≡ clock-refusal clock ⌝ }
+    ensures result { λ r. ⌜ r ≡ clock-refusal clock ⌝ }
 {
     if clock.slot >= MAX_SLOT {
         return 7;
@@ -60,7 +60,7 @@ fn clock_refusal(clock: Clock) -> u32
 
 // A call on a pair of a run: questions 1, 2, 4 and 5.
 pub fn pair_refusal(clock: Clock, run: &[u32], input: Input, output: Output) -> u32
-    ensures { λ r. ⌜ r ≡ pair-refusal clock (now (run .entry)) (input .0) (output .0) ⌝ }
+    ensures result { λ r. ⌜ r ≡ pair-refusal clock (now (run .entry)) (input .0) (output .0) ⌝ }
 {
     let ports = clock.ports as u64;
     let refusal = sizes_refusal(ports, clock.frame as u64);
@@ -70,21 +70,22 @@ pub fn pair_refusal(clock: Clock, run: &[u32], input: Input, output: Output) -> 
     if !holds_pairs(ports, run) {
         return 4;
     }
-    if !are_ports(ports, input, output) {
+    if !pair_in_range(ports, input, output) {
         return 5;
     }
     0
 }
 
 // The start of a direct switch: questions 1, 2 and 4.
-pub fn direct_refusal(
+pub fn direct_start_refusal(
     ports: u64,
     frame: u64,
     bookings: &[u32],
     credits: &[u32],
     queues: &[u32],
 ) -> u32
-    ensures { λ r. ⌜ r ≡ Direct.start-refusal ports frame (direct-runs-of (now (bookings .entry)) (now (credits .entry)) (now (queues .entry))) ⌝ }
+    ensures result { λ r. ⌜ r ≡ Direct.start-refusal ports frame
+        (direct-runs-of (now (bookings .entry)) (now (credits .entry)) (now (queues .entry))) ⌝ }
 {
     let refusal = sizes_refusal(ports, frame);
     if refusal != 0 {
@@ -98,16 +99,12 @@ pub fn direct_refusal(
 
 // A tick of a direct switch: those, and question 7.
 pub fn direct_tick_refusal(clock: Clock, bookings: &[u32], credits: &[u32], queues: &[u32]) -> u32
-    ensures { λ r. ⌜ r ≡ Direct.tick-refusal clock
+    ensures result { λ r. ⌜ r ≡ Direct.tick-refusal clock
         (direct-runs-of (now (bookings .entry)) (now (credits .entry)) (now (queues .entry))) ⌝ }
 {
-    let refusal = direct_refusal(
-        clock.ports as u64,
-        clock.frame as u64,
-        bookings,
-        credits,
-        queues,
-    );
+    let ports = clock.ports as u64;
+    let frame = clock.frame as u64;
+    let refusal = direct_start_refusal(ports, frame, bookings, credits, queues);
     if refusal != 0 {
         return refusal;
     }
@@ -115,7 +112,7 @@ pub fn direct_tick_refusal(clock: Clock, bookings: &[u32], credits: &[u32], queu
 }
 
 // The start of a pipelined switch: questions 1 to 4.
-pub fn pipelined_refusal(
+pub fn pipelined_start_refusal(
     ports: u64,
     frame: u64,
     bookings: &[u32],
@@ -124,7 +121,9 @@ pub fn pipelined_refusal(
     copy: &[u32],
     flight: &[u32],
 ) -> u32
-    ensures { λ r. ⌜ r ≡ Pipelined.start-refusal ports frame (pipelined-runs-of (now (bookings .entry)) (now (credits .entry)) (now (queues .entry)) (now (copy .entry)) (now (flight .entry))) ⌝ }
+    ensures result { λ r. ⌜ r ≡ Pipelined.start-refusal ports frame
+        (pipelined-runs-of (now (bookings .entry)) (now (credits .entry)) (now (queues .entry))
+        (now (copy .entry)) (now (flight .entry))) ⌝ }
 {
     let refusal = sizes_refusal(ports, frame);
     if refusal != 0 {
@@ -148,18 +147,13 @@ pub fn pipelined_tick_refusal(
     copy: &[u32],
     flight: &[u32],
 ) -> u32
-    ensures { λ r. ⌜ r ≡ Pipelined.tick-refusal clock
-        (pipelined-runs-of (now (bookings .entry)) (now (credits .entry)) (now (queues .entry)) (now (copy .entry)) (now (flight .entry))) ⌝ }
+    ensures result { λ r. ⌜ r ≡ Pipelined.tick-refusal clock
+        (pipelined-runs-of (now (bookings .entry)) (now (credits .entry)) (now (queues .entry))
+        (now (copy .entry)) (now (flight .entry))) ⌝ }
 {
-    let refusal = pipelined_refusal(
-        clock.ports as u64,
-        clock.frame as u64,
-        bookings,
-        credits,
-        queues,
-        copy,
-        flight,
-    );
+    let ports = clock.ports as u64;
+    let frame = clock.frame as u64;
+    let refusal = pipelined_start_refusal(ports, frame, bookings, credits, queues, copy, flight);
     if refusal != 0 {
         return refusal;
     }

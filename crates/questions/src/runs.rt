@@ -8,16 +8,17 @@ ghost use Rattle.wsgs.specs.Pipelined;
 
 // Whether a run holds the words of all pairs.
 pub fn holds_pairs(ports: u64, run: &[u32]) -> bool
-    requires { ⌜ ports ≤ 32 ⌝ }
-    ensures { λ r. ⌜ r ≡ holds-pairs ports (now (run .entry)) ⌝ }
+    requires ports_in_range { ⌜ ports ≤ 32 ⌝ }
+    ensures result { λ r. ⌜ r ≡ holds-pairs ports (now (run .entry)) ⌝ }
 {
     (ports * ports) as usize <= run.len()
 }
 
 // Whether the runs of a direct switch are long enough.
 pub fn direct_runs_suffice(ports: u64, bookings: &[u32], credits: &[u32], queues: &[u32]) -> bool
-    requires { ⌜ ports ≤ 32 ⌝ }
-    ensures { λ r. ⌜ r ≡ Direct.runs-suffice ports (direct-runs-of (now (bookings .entry)) (now (credits .entry)) (now (queues .entry))) ⌝ }
+    requires ports_in_range { ⌜ ports ≤ 32 ⌝ }
+    ensures result { λ r. ⌜ r ≡ Direct.runs-suffice ports
+        (direct-runs-of (now (bookings .entry)) (now (credits .entry)) (now (queues .entry))) ⌝ }
 {
     if !holds_pairs(ports, bookings) {
         return false;
@@ -37,8 +38,10 @@ pub fn pipelined_runs_suffice(
     copy: &[u32],
     flight: &[u32],
 ) -> bool
-    requires { ⌜ ports ≤ 32 ⌝ }
-    ensures { λ r. ⌜ r ≡ Pipelined.runs-suffice ports (pipelined-runs-of (now (bookings .entry)) (now (credits .entry)) (now (queues .entry)) (now (copy .entry)) (now (flight .entry))) ⌝ }
+    requires ports_in_range { ⌜ ports ≤ 32 ⌝ }
+    ensures result { λ r. ⌜ r ≡ Pipelined.runs-suffice ports
+        (pipelined-runs-of (now (bookings .entry)) (now (credits .entry)) (now (queues .entry))
+        (now (copy .entry)) (now (flight .entry))) ⌝ }
 {
     if !direct_runs_suffice(ports, bookings, credits, queues) {
         return false;

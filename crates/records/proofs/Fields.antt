@@ -9,7 +9,7 @@ use native.Mathlib.Omega.{arith}
 use borrow.Author.Tests.{eq-eqb, ne-eqb, le-leb, lt-leb}
 use lib.ListN.{length, take, drop, length-drop}
 use lib.Seq.{take-all}
-use Rattle.wsgs.specs.declared.Reading.the-variants.{Unreadable}
+use Rattle.wsgs.specs.declared.Reading.the-variants.{Refused}
 use Rattle.wsgs.specs.Text.{comma, reversed, fields-from, fields, look-up, names, read-field, reading-of, read-record}
 use Rattle.records.specs.Commas.{first-comma}
 use Rattle.records.proofs.Texts.{comma-first, comma-later}
@@ -78,22 +78,22 @@ module _ (t : List ℕ) (k : ℕ) (at-k : k ≡ first-comma t) where
 
 -- what a record of up to 64 bytes says by the number of its fields
 module _ (t : List ℕ) where
-  pub over-64 : 64 < length t → Unreadable ≡ read-record t
+  pub over-64 : 64 < length t → Refused 12 ≡ read-record t
   unfolding read-record
   over-64 h = rw (lt-leb (length t) 64 h)
 
   module _ (h : length t ≤ 64) (a : List ℕ) where
-    pub one-field : fields t ≡ a ∷ [] → Unreadable ≡ read-record t
+    pub one-field : fields t ≡ a ∷ [] → Refused 12 ≡ read-record t
     unfolding read-record
     one-field e = rw (le-leb (length t) 64 h, e)
 
     module _ (b : List ℕ) where
-      pub two-fields : fields t ≡ a ∷ b ∷ [] → Unreadable ≡ read-record t
+      pub two-fields : fields t ≡ a ∷ b ∷ [] → Refused 12 ≡ read-record t
       unfolding read-record
       two-fields e = rw (le-leb (length t) 64 h, e)
 
       module _ (c : List ℕ) where
-        pub three-fields : fields t ≡ a ∷ b ∷ c ∷ [] → Unreadable ≡ read-record t
+        pub three-fields : fields t ≡ a ∷ b ∷ c ∷ [] → Refused 12 ≡ read-record t
         unfolding read-record
         three-fields e = rw (le-leb (length t) 64 h, e)
 
@@ -103,6 +103,6 @@ module _ (t : List ℕ) where
           unfolding read-record
           four-fields e = rw (le-leb (length t) 64 h, e)
 
-          pub more-fields : (q : List ℕ) → fields t ≡ a ∷ b ∷ c ∷ d ∷ fields q → Unreadable ≡ read-record t
+          pub more-fields : (q : List ℕ) → fields t ≡ a ∷ b ∷ c ∷ d ∷ fields q → Refused 12 ≡ read-record t
           unfolding read-record fields
           more-fields q e = rw (le-leb (length t) 64 h, e, some-field q [] .1)

@@ -8,14 +8,19 @@ ghost use Rattle.wsgs.specs.Basics.{same};
 ghost use Rattle.wsgs.specs.Text.{read-field, look-up, names, unused-are-0, reading-of, read-record};
 ghost use Rattle.records.specs.Commas.{first-comma};
 
+// The longest record that can be read, in bytes without its CR LF, and the longest number field.
+pub const MAX_RECORD: usize = 64;
+
+const MAX_DIGITS: usize = 10;
+
 // A field's number: one to ten decimal digits.
 pub fn read_field(text: &[u8]) -> Field
-    ensures { λ r. ⌜ r ≡ read-field (now (text .entry)) ⌝ }
+    ensures number { λ r. ⌜ r ≡ read-field (now (text .entry)) ⌝ }
 {
     if text.len() < 1 {
         return Field::Bad;
     }
-    if text.len() > 10 {
+    if text.len() > MAX_DIGITS {
         return Field::Bad;
     }
     let mut value: u64 = 0;
@@ -36,7 +41,7 @@ pub fn read_field(text: &[u8]) -> Field
 
 // Whether two texts are the same.
 fn is_same(a: &[u8], b: &[u8]) -> bool
-    ensures { λ r. ⌜ r ≡ same (now (a .entry)) (now (b .entry)) ⌝ }
+    ensures comparison { λ r. ⌜ r ≡ same (now (a .entry)) (now (b .entry)) ⌝ }
 {
     if a.len() != b.len() {
         return false;
@@ -53,7 +58,7 @@ fn is_same(a: &[u8], b: &[u8]) -> bool
 
 // The operation that a record's first field names.
 pub fn look_up(text: &[u8]) -> OperationField
-    ensures { λ r. ⌜ r ≡ look-up names (now (text .entry)) ⌝ }
+    ensures operation { λ r. ⌜ r ≡ look-up names (now (text .entry)) ⌝ }
 {
     if is_same(text, b"start") {
         return OperationField::Known(Operation::Start);
@@ -78,7 +83,7 @@ pub fn look_up(text: &[u8]) -> OperationField
 
 // The place of the first comma, or the length where there is none.
 fn comma_place(text: &[u8]) -> usize
-    ensures { λ r. ⌜ r ≡ first-comma (now (text .entry)) ⌝ }
+    ensures place { λ r. ⌜ r ≡ first-comma (now (text .entry)) ⌝ }
 {
     let mut i = 0;
     while i < text.len() {
@@ -91,66 +96,72 @@ fn comma_place(text: &[u8]) -> usize
 }
 
 // Whether the fields that an operation does not use are 0.
-fn unused_are_zero(operation: Operation, x: u64, y: u64, z: u64) -> bool
-    ensures { λ r. ⌜ r ≡ unused-are-0 operation x y z ⌝ }
+fn unused_are_zero(operation: Operation, input: u64, output: u64, amount: u64) -> bool
+    ensures answer { λ r. ⌜ r ≡ unused-are-0 operation input output amount ⌝ }
 {
     match operation {
-        Operation::Start => z == 0,
-        Operation::Pipe => z == 0,
+        Operation::Start => amount == 0,
+        Operation::Pipe => amount == 0,
         Operation::Book => true,
         Operation::Release => true,
         Operation::Arrive => true,
-        Operation::Tick => x == 0 && y == 0,
+        Operation::Tick => input == 0 && output == 0,
     }
 }
 
-// What four fields say.
-fn read_fields(name: &[u8], second: &[u8], third: &[u8], fourth: &[u8]) -> Reading
-    ensures { λ r. ⌜ r ≡ reading-of (look-up names (now (name .entry))) (read-field (now (second .entry))) (read-field (now (third .entry))) (read-field (now (fourth .entry))) ⌝ }
+// What four fields say, or the refusal 12 where one cannot be read.
+fn read_fields(operation: &[u8], input: &[u8], output: &[u8], amount: &[u8]) -> Reading
+    ensures reading { λ r. ⌜ r ≡ reading-of (look-up names (now (operation .entry)))
+        (read-field (now (input .entry))) (read-field (now (output .entry))) (read-field (now (amount .entry))) ⌝ }
 {
-    let OperationField::Known(operation) = look_up(name) else {
-        return Reading::Unreadable;
+    let OperationField::Known(operation) = look_up(operation) else {
+        return Reading::Refused(12);
     };
-    let Field::Number(x) = read_field(second) else {
-        return Reading::Unreadable;
+    let Field::Number(input) = read_field(input) else {
+        return Reading::Refused(12);
     };
-    let Field::Number(y) = read_field(third) else {
-        return Reading::Unreadable;
+    let Field::Number(output) = read_field(output) else {
+        return Reading::Refused(12);
     };
-    let Field::Number(z) = read_field(fourth) else {
-        return Reading::Unreadable;
+    let Field::Number(amount) = read_field(amount) else {
+        return Reading::Refused(12);
     };
-    if unused_are_zero(operation, x, y, z) {
-        Reading::Request(operation, x, y, z)
+    if unused_are_zero(operation, input, output, amount) {
+        Reading::Request(operation, input, output, amount)
     } else {
-        Reading::Unreadable
+        Reading::Refused(12)
     }
 }
 
-// What a record says: at most 64 bytes, and four fields.
+// What a record says, or the refusal 12: it has at most 64 bytes and four fields.
 pub fn read_record(text: &[u8]) -> Reading
-    ensures { λ r. ⌜ r ≡ read-record (now (text .entry)) ⌝ }
+    ensures reading { λ r. ⌜ r ≡ read-record (now (text .entry)) ⌝ }
 {
-    if text.len() > 64 {
-        return Reading::Unreadable;
+    if text.len() > MAX_RECORD {
+        return Reading::Refused(12);
     }
-    let a = comma_place(text);
-    if a >= text.len() {
-        return Reading::Unreadable;
+    let first_end = comma_place(text);
+    if first_end >= text.len() {
+        return Reading::Refused(12);
     }
-    let after_first = &text[a + 1..];
-    let b = comma_place(after_first);
-    if b >= after_first.len() {
-        return Reading::Unreadable;
+    let after_first = &text[first_end + 1..];
+    let second_end = comma_place(after_first);
+    if second_end >= after_first.len() {
+        return Reading::Refused(12);
     }
-    let after_second = &after_first[b + 1..];
-    let c = comma_place(after_second);
-    if c >= after_second.len() {
-        return Reading::Unreadable;
+    let after_second = &after_first[second_end + 1..];
+    let third_end = comma_place(after_second);
+    if third_end >= after_second.len() {
+        return Reading::Refused(12);
     }
-    let fourth = &after_second[c + 1..];
+    let fourth = &after_second[third_end + 1..];
     if comma_place(fourth) < fourth.len() {
-        return Reading::Unreadable;
+        return Reading::Refused(12);
     }
-    read_fields(&text[..a], &after_first[..b], &after_second[..c], fourth)
+    read_fields(
+        &text[..first_end],
+        &after_first[..second_end],
+        &after_second[..third_end],
+        fourth,
+    )
 }

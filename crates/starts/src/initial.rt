@@ -1,16 +1,16 @@
 // What starts share: the clock of a switch that has run no slot yet, and the words set to 0.
 ghost use mathlib.Core.Path.{_≡_};
 ghost use Prim.Native.Nat.{_*_, _≤_};
-ghost use Rattle.wsgs.specs.Answers.{clock-of};
+ghost use Rattle.wsgs.specs.Clocks.{first-clock};
 ghost use Rattle.words.specs.Runs.{clear-words};
-ghost use Rattle.questions.specs.Asked.{Sizes};
+ghost use Rattle.questions.specs.Refusals.{SizesInRange};
 use words::clear_words;
 use wsgs::Clock;
 
 // The clock of sizes in range, before the first slot.
 pub fn first_clock(ports: u64, frame: u64) -> Clock
-    requires { ⌜ Sizes ports frame ⌝ }
-    ensures { λ r. ⌜ r ≡ clock-of ports frame 0 ⌝ }
+    requires sizes_in_range { ⌜ SizesInRange ports frame ⌝ }
+    ensures result { λ r. ⌜ r ≡ first-clock ports frame ⌝ }
 {
     Clock {
         ports: ports as u32,
@@ -21,10 +21,10 @@ pub fn first_clock(ports: u64, frame: u64) -> Clock
 
 // Sets the words of all pairs to 0 in the runs that both forms have.
 pub fn clear_matrices(ports: u64, bookings: &mut [u32], credits: &mut [u32], queues: &mut [u32])
-    requires { ⌜ ports ≤ 32 ⌝ }
-    ensures { λ _. ⌜ now (bookings .exit) ≡ clear-words (ports * ports) (now (bookings .entry)) ⌝ }
-    ensures { λ _. ⌜ now (credits .exit) ≡ clear-words (ports * ports) (now (credits .entry)) ⌝ }
-    ensures { λ _. ⌜ now (queues .exit) ≡ clear-words (ports * ports) (now (queues .entry)) ⌝ }
+    requires ports_in_range { ⌜ ports ≤ 32 ⌝ }
+    ensures bookings_exit { λ _. ⌜ now (bookings .exit) ≡ clear-words (ports * ports) (now (bookings .entry)) ⌝ }
+    ensures credits_exit { λ _. ⌜ now (credits .exit) ≡ clear-words (ports * ports) (now (credits .entry)) ⌝ }
+    ensures queues_exit { λ _. ⌜ now (queues .exit) ≡ clear-words (ports * ports) (now (queues .entry)) ⌝ }
 {
     let words = (ports * ports) as usize;
     clear_words(bookings, words);
@@ -33,10 +33,10 @@ pub fn clear_matrices(ports: u64, bookings: &mut [u32], credits: &mut [u32], que
 }
 
 // Sets to 0 what a pipelined switch has besides: the frame copy, and the rows in flight.
-pub fn clear_ahead(ports: u64, copy: &mut [u32], flight: &mut [u32])
-    requires { ⌜ ports ≤ 32 ⌝ }
-    ensures { λ _. ⌜ now (copy .exit) ≡ clear-words (ports * ports) (now (copy .entry)) ⌝ }
-    ensures { λ _. ⌜ now (flight .exit) ≡ clear-words (2 * ports * ports) (now (flight .entry)) ⌝ }
+pub fn clear_pipeline(ports: u64, copy: &mut [u32], flight: &mut [u32])
+    requires ports_in_range { ⌜ ports ≤ 32 ⌝ }
+    ensures copy_exit { λ _. ⌜ now (copy .exit) ≡ clear-words (ports * ports) (now (copy .entry)) ⌝ }
+    ensures flight_exit { λ _. ⌜ now (flight .exit) ≡ clear-words (2 * ports * ports) (now (flight .entry)) ⌝ }
 {
     clear_words(copy, (ports * ports) as usize);
     clear_words(flight, (2 * ports * ports) as usize);

@@ -29,7 +29,7 @@ pub fn copy_words(from: &[u32], to: &mut [u32], count: usize)
 
 // The first count words set to 0, of a run that has them.
 fn clear_first(run: &mut [u32], count: usize)
-    requires { ⌜ count ≤ length (now run) ⌝ }
+    requires run_long { ⌜ count ≤ length (now run) ⌝ }
     ensures run_exit { λ _. ⌜ now (run .exit) ≡ cleared count (now (run .entry)) ⌝ }
 {
     for at in 0..count {
@@ -39,8 +39,8 @@ fn clear_first(run: &mut [u32], count: usize)
 
 // The first count words copied, where both runs have them.
 fn copy_first(from: &[u32], to: &mut [u32], count: usize)
-    requires { ⌜ count ≤ length (now from) ⌝ }
-    requires { ⌜ count ≤ length (now to) ⌝ }
+    requires from_long { ⌜ count ≤ length (now from) ⌝ }
+    requires to_long { ⌜ count ≤ length (now to) ⌝ }
     ensures to_exit { λ _. ⌜ now (to .exit) ≡ copied count (now (from .entry)) (now (to .entry)) ⌝ }
 {
     for i in 0..count {

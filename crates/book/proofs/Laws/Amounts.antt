@@ -1,4 +1,4 @@
--- Laws of amounts: which of questions 8 to 11 refuses one that is in range, and that the slots of a rate are few. Assumes nothing.
+-- Laws of amounts: what questions 8 to 11 make of one that is in range, and that the slots of a rate are few. Assumes nothing.
 use mathlib.Core.Path.{_≡_}
 use mathlib.Core.Bool.{true}
 use mathlib.Core.List.{List}
@@ -7,48 +7,51 @@ use native.Mathlib.Nat.{mul-le-mul-left, mul-le-mul-right, mul-comm, suc-mul, di
 use native.Mathlib.Omega.{arith}
 use borrow.Author.Tests.{le-leb, lt-leb}
 use Rattle.wsgs.specs.declared.Clock.{Clock}
-use Rattle.wsgs.specs.Words.{word, row-sum, column-sum}
+use Rattle.wsgs.specs.Words.{word, put, row-sum, column-sum}
 use Rattle.wsgs.specs.Basics.{between}
-use Rattle.wsgs.specs.Questions.{rate-in-range}
+use Rattle.wsgs.specs.Questions.{rate-in-range, effect}
 use Rattle.wsgs.specs.Book.{rate-slots}
 use Rattle.wsgs.proofs.Laws.Tests.{both, in-range}
-use Rattle.book.specs.Asked.{sums-refusal, held-refusal, queue-refusal, Rated}
+use Rattle.book.specs.Effects.{admit-effect, withdraw-effect, enqueue-effect, RateInRange}
 
 module _ (c : Clock) (a : List ℕ) (i j d : ℕ) where
+  abbrev n : ℕ
+  n = c .ports
+
   -- a row that is full
-  pub row-full : c .frame + 1 < 2 * (row-sum (c .ports) a i + d) → 8 ≡ sums-refusal c a i j d
-  unfolding sums-refusal
+  pub row-full : c .frame + 1 < 2 * (row-sum n a i + d) → effect 8 a ≡ admit-effect c a i j d
+  unfolding admit-effect
   row-full h = rw (lt-leb _ _ h)
 
-  module _ (row : 2 * (row-sum (c .ports) a i + d) ≤ c .frame + 1) where
+  module _ (row : 2 * (row-sum n a i + d) ≤ c .frame + 1) where
     -- a column that is full
-    pub column-full : c .frame + 1 < 2 * (column-sum (c .ports) a j + d) → 9 ≡ sums-refusal c a i j d
-    unfolding sums-refusal
+    pub column-full : c .frame + 1 < 2 * (column-sum n a j + d) → effect 9 a ≡ admit-effect c a i j d
+    unfolding admit-effect
     column-full h = rw (le-leb _ _ row, lt-leb _ _ h)
 
     -- neither
-    pub both-admit : 2 * (column-sum (c .ports) a j + d) ≤ c .frame + 1 → 0 ≡ sums-refusal c a i j d
-    unfolding sums-refusal
+    pub both-admit : 2 * (column-sum n a j + d) ≤ c .frame + 1 → effect 0 (put n a i j (word n a i j + d)) ≡ admit-effect c a i j d
+    unfolding admit-effect
     both-admit h = rw (le-leb _ _ row, le-leb _ _ h)
 
   -- fewer slots booked than are taken off
-  pub held-short : word (c .ports) a i j < d → 10 ≡ held-refusal c a i j d
-  unfolding held-refusal
-  held-short h = rw (lt-leb _ _ h)
+  pub too-few-booked : word n a i j < d → effect 10 a ≡ withdraw-effect c a i j d
+  unfolding withdraw-effect
+  too-few-booked h = rw (lt-leb _ _ h)
 
   -- as many
-  pub held-enough : d ≤ word (c .ports) a i j → 0 ≡ held-refusal c a i j d
-  unfolding held-refusal
-  held-enough h = rw (le-leb _ _ h)
+  pub enough-to-withdraw : d ≤ word n a i j → effect 0 (put n a i j (word n a i j - d)) ≡ withdraw-effect c a i j d
+  unfolding withdraw-effect
+  enough-to-withdraw h = rw (le-leb _ _ h)
 
   -- a queue that is full
-  pub queue-full : 1000000 < word (c .ports) a i j + d → 11 ≡ queue-refusal c a i j d
-  unfolding queue-refusal
+  pub queue-full : 1000000 < word n a i j + d → effect 11 a ≡ enqueue-effect c a i j d
+  unfolding enqueue-effect
   queue-full h = rw (lt-leb _ _ h)
 
   -- one that is not
-  pub queue-takes : word (c .ports) a i j + d ≤ 1000000 → 0 ≡ queue-refusal c a i j d
-  unfolding queue-refusal
+  pub queue-takes : word n a i j + d ≤ 1000000 → effect 0 (put n a i j (word n a i j + d)) ≡ enqueue-effect c a i j d
+  unfolding enqueue-effect
   queue-takes h = rw (le-leb _ _ h)
 
 -- an amount in range
@@ -56,13 +59,13 @@ pub amount-few : (high d : ℕ) → between 1 high d ≡ true → d ≤ high
 amount-few high d e = in-range 1 high d (rw e tt) .1
 
 -- a rate in range
-pub rated : (f line rate : ℕ) → f ≤ 10000 → rate-in-range line rate .yes ≡ true → Rated f line rate
-rated f line rate h e =
+pub rate-asked : (f line rate : ℕ) → f ≤ 10000 → rate-in-range line rate .yes ≡ true → RateInRange f line rate
+rate-asked f line rate h e =
     let p = both (between 1 100000000 line) (between 1 line rate) (rw e tt) in
     let l = in-range 1 100000000 line (p .0) in
     record { frame = h; some = l .0; fast = l .1; part = in-range 1 line rate (p .1) .1 }
 
-module _ (f line rate : ℕ) (r : Rated f line rate) where
+module _ (f line rate : ℕ) (r : RateInRange f line rate) where
   -- what a rate asks for is at most what its line has
   pub rate-bound : rate * f ≤ line * f
   rate-bound = mul-le-mul-right f (r .part)

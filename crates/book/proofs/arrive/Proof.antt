@@ -3,7 +3,7 @@ use mathlib.Core.Path.{_≡_, sym, _∙_}
 use mathlib.Core.Bool.{true}
 use borrow.Author.Needs.{needs}
 use Rattle.wsgs.specs.Questions.{packets-in-range}
-use Rattle.questions.specs.Asked.{pair-refusal}
+use Rattle.questions.specs.Refusals.{pair-refusal}
 use Rattle.book.proofs.Laws.Amounts.{amount-few}
 use Rattle.book.proofs.Laws.Calls.{arrive-decides}
 use Rattle.questions.proofs.Laws.Pairs.{pair-asked}
@@ -53,7 +53,7 @@ returns-3 : tie.Need-returns-3
 returns-3 c =
     let w = c .before .before in
     let e = w .before .before in
-    arrive-decides _ _ _ _ _ .at-rest (passed (asked e)) (in-range e) _ _ (w .enqueue .ensures .0) (w .enqueue .ensures .1)
+    w .enqueue .ensures ∙ arrive-decides _ _ _ _ _ .at-rest (passed (asked e)) (in-range e)
 
 pub arrive-spec : {M : Type 1} → statement M
 arrive-spec =

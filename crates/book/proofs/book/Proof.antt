@@ -4,7 +4,7 @@ use mathlib.Core.Bool.{true}
 use native.Mathlib.Omega.{arith}
 use borrow.Author.Needs.{needs}
 use Rattle.wsgs.specs.Questions.{slots-in-range}
-use Rattle.questions.specs.Asked.{pair-refusal}
+use Rattle.questions.specs.Refusals.{pair-refusal}
 use Rattle.book.proofs.Laws.Amounts.{amount-few}
 use Rattle.book.proofs.Laws.Calls.{book-decides}
 use Rattle.questions.proofs.Laws.Pairs.{pair-asked}
@@ -61,7 +61,7 @@ returns-3 : tie.Need-returns-3
 returns-3 c =
     let w = c .before .before in
     let e = w .before .before in
-    book-decides _ _ _ _ _ .at-rest (passed (asked e)) (in-range e) _ _ (w .admit .ensures .0) (w .admit .ensures .1)
+    w .admit .ensures ∙ book-decides _ _ _ _ _ .at-rest (passed (asked e)) (in-range e)
 
 pub book-spec : {M : Type 1} → statement M
 book-spec =

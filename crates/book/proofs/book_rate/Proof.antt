@@ -4,8 +4,8 @@ use mathlib.Core.Bool.{true}
 use native.Mathlib.Omega.{arith}
 use borrow.Author.Needs.{needs}
 use Rattle.wsgs.specs.Questions.{rate-in-range}
-use Rattle.questions.specs.Asked.{pair-refusal}
-use Rattle.book.proofs.Laws.Amounts.{rated}
+use Rattle.questions.specs.Refusals.{pair-refusal}
+use Rattle.book.proofs.Laws.Amounts.{rate-asked}
 use Rattle.book.proofs.Laws.Calls.{rate-decides}
 use Rattle.questions.proofs.Laws.Pairs.{pair-asked}
 use Rattle.questions.proofs.Laws.Answers.{said-no, said-yes}
@@ -24,7 +24,7 @@ asked c = c .before .before
 
 -- and the rates are in range
 in-range : (c : tie.Else2) → let a = start (asked c) .args in rate-in-range (a .line) (a .rate) .yes ≡ true
-in-range c = said-yes (c .before .are-rates .ensures) (c .if2 .left)
+in-range c = said-yes (c .before .rate-in-range .ensures) (c .if2 .left)
 
 pair-refusal-requires : tie.Need-pair-refusal-requires
 pair-refusal-requires c κs = search needs
@@ -35,14 +35,14 @@ same-length c = search needs
 returns : tie.Need-returns
 returns c = rate-decides _ _ _ _ _ _ .at-pair _ (c .before .pair-refusal .ensures) (c .if1 .taken)
 
-are-rates-requires : tie.Need-are-rates-requires
-are-rates-requires c κs = search needs
+rate-in-range-requires : tie.Need-rate-in-range-requires
+rate-in-range-requires c κs = search needs
 
 same-length-2 : tie.Need-same-length-2
 same-length-2 c = search needs
 
 returns-2 : tie.Need-returns-2
-returns-2 c = rate-decides _ _ _ _ _ _ .at-amount (passed (c .before .before)) (said-no (c .before .are-rates .ensures) (c .if2 .taken))
+returns-2 c = rate-decides _ _ _ _ _ _ .at-amount (passed (c .before .before)) (said-no (c .before .rate-in-range .ensures) (c .if2 .taken))
 
 cast-rate-slots : tie.Need-cast-rate-slots
 cast-rate-slots c = search needs
@@ -50,7 +50,7 @@ cast-rate-slots c = search needs
 rate-slots-requires : tie.Need-rate-slots-requires
 rate-slots-requires c κs =
     let e = c .before .before in
-    rated _ _ _ (pair-asked _ _ _ _ (passed (asked e)) .frame .1) (in-range e)
+    rate-asked _ _ _ (pair-asked _ _ _ _ (passed (asked e)) .frame .1) (in-range e)
 
 admit-requires : tie.Need-admit-requires
 admit-requires c κs =
@@ -65,7 +65,7 @@ returns-3 c =
     let w = c .before .before in
     let s = w .before .rate-slots .ensures .0 in
     let e = w .before .before .before .before in
-    rate-decides _ _ _ _ _ _ .at-rest (passed (asked e)) (in-range e) _ _ (rw s at (w .admit .ensures .0)) (rw s at (w .admit .ensures .1))
+    (rw s at (w .admit .ensures)) ∙ rate-decides _ _ _ _ _ _ .at-rest (passed (asked e)) (in-range e)
 
 pub book-rate-spec : {M : Type 1} → statement M
 book-rate-spec =
@@ -74,7 +74,7 @@ book-rate-spec =
     pair-refusal-requires
     same-length
     returns
-    are-rates-requires
+    rate-in-range-requires
     same-length-2
     returns-2
     cast-rate-slots

@@ -3,7 +3,7 @@ use mathlib.Core.Path.{_≡_, sym, _∙_}
 use mathlib.Core.Bool.{true}
 use borrow.Author.Needs.{needs}
 use Rattle.wsgs.specs.Questions.{slots-in-range}
-use Rattle.questions.specs.Asked.{pair-refusal}
+use Rattle.questions.specs.Refusals.{pair-refusal}
 use Rattle.book.proofs.Laws.Calls.{release-decides}
 use Rattle.questions.proofs.Laws.Pairs.{pair-asked}
 use Rattle.questions.proofs.Laws.Answers.{said-no, said-yes}
@@ -55,7 +55,7 @@ returns-3 : tie.Need-returns-3
 returns-3 c =
     let w = c .before .before in
     let e = w .before .before in
-    release-decides _ _ _ _ _ .at-rest (passed (asked e)) (in-range e) _ _ (w .withdraw .ensures .0) (w .withdraw .ensures .1)
+    w .withdraw .ensures ∙ release-decides _ _ _ _ _ .at-rest (passed (asked e)) (in-range e)
 
 pub release-spec : {M : Type 1} → statement M
 release-spec =

@@ -6,6 +6,9 @@ use Rattle.direct.proofs.SlotLaws.{slot-run}
 use Rattle.direct.proofs.run_slot.Statement.{statement}
 use Rattle.direct.proofs.run_slot.Tie as tie
 
+cast-ports : tie.Need-cast-ports
+cast-ports c = search needs
+
 reload-requires : tie.Need-reload-requires
 reload-requires c κs = search needs
 
@@ -36,6 +39,7 @@ pub run-slot-spec : {M : Type 1} → statement M
 run-slot-spec =
     tie.close
     (tie.spec
+    cast-ports
     reload-requires
     pass-one-requires
     pass-two-requires

@@ -8,13 +8,15 @@ use Rattle.direct.proofs.SlotLaws.{tick-refused, tick-ran}
 use Rattle.direct.proofs.tick.Statement.{statement}
 use Rattle.direct.proofs.tick.Tie as tie
 
--- what an accepted tick found
-found : (c : tie.Else1) → let a = c .before .before .before .before .before .before .before .args in
-    Accepted (a .ports) (a .frame) (a .slot) (a .bookings .now) (a .credits .now) (a .queues .now)
-found c = accepted-found _ _ _ _ _ _ (sym (c .before .tick-refusal .ensures) ∙ omega arith)
+-- where the tick begins, and what an accepted one found
+abbrev begun : tie.Else1 → tie.Start
+begun c = c .before .before .before .before .before .before .before
 
-tick-refusal-requires : tie.Need-tick-refusal-requires
-tick-refusal-requires c κs = search needs
+found : (c : tie.Else1) → let a = begun c .args in Accepted (a .clock) (direct-runs-of (a .bookings .now) (a .credits .now) (a .queues .now))
+found c = accepted-found _ _ (sym (c .before .direct-tick-refusal .ensures) ∙ omega arith)
+
+direct-tick-refusal-requires : tie.Need-direct-tick-refusal-requires
+direct-tick-refusal-requires c κs = search needs
 
 same-length : tie.Need-same-length
 same-length c = search needs
@@ -23,14 +25,14 @@ same-length-2 : tie.Need-same-length-2
 same-length-2 c = search needs
 
 returns : tie.Need-returns
-returns c = tick-refused _ _ _ _ _ (c .before .tick-refusal .ensures) (c .if1 .taken)
+returns c = tick-refused _ _ _ (c .before .direct-tick-refusal .ensures) (c .if1 .taken)
 
 add-next : tie.Need-add-next
-add-next c = omega (arith, found c .slots-left)
+add-next c = omega (arith, found (c .before) .slots-left)
 
 run-slot-requires : tie.Need-run-slot-requires
 run-slot-requires c κs =
-    let a = found (c .before .before) in
+    let a = found (c .before .before .before) in
     (a .few-ports, (a .some-slot, (omega arith, (a .bookings, (a .credits, a .queues)))))
 
 same-length-3 : tie.Need-same-length-3
@@ -42,16 +44,16 @@ same-length-4 c = search needs
 returns-2 : tie.Need-returns-2
 returns-2 c =
     let k = c .before .before .before .before .before in
-    let e = k .before .before .before in
-    let a = e .before .before .before .before .before .before .before .args in
-    tick-ran (a .ports) (a .frame) (a .slot) (direct-runs-of (a .bookings .now) (a .credits .now) (a .queues .now)) _
-    (e .before .tick-refusal .ensures) (e .if1 .left) _ _ _ _ (k .run-slot .ensures)
+    let e = k .before .before .before .before in
+    let a = begun e .args in
+    tick-ran (a .clock) (direct-runs-of (a .bookings .now) (a .credits .now) (a .queues .now)) _
+    (e .before .direct-tick-refusal .ensures) (e .if1 .left) _ _ _ _ (k .run-slot .ensures)
 
 pub tick-spec : {M : Type 1} → statement M
 tick-spec =
     tie.close
     (tie.spec
-    tick-refusal-requires
+    direct-tick-refusal-requires
     same-length
     same-length-2
     returns

@@ -1,7 +1,7 @@
 -- `kivdrag_c::kivdrag_start_pipelined` meets its contract: that of `starts::start_pipelined` at the clock that the words hold, with the clock afterwards put
 -- back into them. Assumes nothing.
 use borrow.Author.Needs.{needs}
-use Rattle.kivdrag_c.proofs.Laws.{start-left}
+use Rattle.kivdrag_c.proofs.Laws.{start-written}
 use Rattle.kivdrag_c.proofs.kivdrag_start_pipelined.Statement.{statement}
 use Rattle.kivdrag_c.proofs.kivdrag_start_pipelined.Tie as tie
 
@@ -33,8 +33,7 @@ returns : tie.Need-returns
 returns c =
     let s = c .before .before .before .before .before .before .before .before .before .before .before .before in
     let e = rw (s .before .before .before .before .before .before .clock-in .ensures) at (s .start-pipelined .ensures) in
-    let l = start-left (e .0) (c .put-clock .ensures) in
-    (l .0, (l .1, e .1))
+    start-written e (c .put-clock .ensures)
 
 pub kivdrag-start-pipelined-spec : {M : Type 1} → statement M
 kivdrag-start-pipelined-spec =

@@ -1,9 +1,7 @@
--- `kivdrag_c::kivdrag_tick_pipelined` meets its contract: that of `clock::step_pipelined` at the clock that the words hold, with the clock afterwards and
--- the answer put into the lent words. Assumes nothing.
-use mathlib.Core.Path.{ap, _∙_}
+-- `kivdrag_c::kivdrag_tick_pipelined` meets its contract: that of `clock::step_pipelined` at the clock that the words hold, with its result put into
+-- the lent words. Assumes nothing.
 use borrow.Author.Needs.{needs}
-use Rattle.kivdrag_c.specs.Clocks.{words-of}
-use Rattle.kivdrag_c.proofs.Laws.{answer-left}
+use Rattle.kivdrag_c.proofs.Laws.{tick-written}
 use Rattle.kivdrag_c.proofs.kivdrag_tick_pipelined.Statement.{statement}
 use Rattle.kivdrag_c.proofs.kivdrag_tick_pipelined.Tie as tie
 
@@ -13,11 +11,8 @@ clock-in-requires c κs = search needs
 step-pipelined-requires : tie.Need-step-pipelined-requires
 step-pipelined-requires c κs = search needs
 
-put-clock-requires : tie.Need-put-clock-requires
-put-clock-requires c κs = search needs
-
-put-answer-requires : tie.Need-put-answer-requires
-put-answer-requires c κs = search needs
+put-result-requires : tie.Need-put-result-requires
+put-result-requires c κs = search needs
 
 same-length : tie.Need-same-length
 same-length c = search needs
@@ -33,11 +28,9 @@ same-length-4 c = search needs
 
 returns : tie.Need-returns
 returns c =
-    let w = c .before .before .before in
-    let s = w .before .before .before .before .before .before .before .before .before .before in
+    let s = c .before .before .before .before .before .before .before .before .before .before .before .before in
     let e = rw (s .before .before .before .before .before .clock-in .ensures) at (s .step-pipelined .ensures) in
-    let a = answer-left (e .0) (c .put-answer .ensures) in
-    (a .0, (w .put-clock .ensures ∙ ap words-of (e .1 .0), (e .1 .1 .0, (e .1 .1 .1 .0, (e .1 .1 .1 .1 .0, (e .1 .1 .1 .1 .1, a .1))))))
+    tick-written e (c .put-result .ensures)
 
 pub kivdrag-tick-pipelined-spec : {M : Type 1} → statement M
 kivdrag-tick-pipelined-spec =
@@ -45,8 +38,7 @@ kivdrag-tick-pipelined-spec =
     (tie.spec
     clock-in-requires
     step-pipelined-requires
-    put-clock-requires
-    put-answer-requires
+    put-result-requires
     same-length
     same-length-2
     same-length-3

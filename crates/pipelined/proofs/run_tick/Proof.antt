@@ -6,8 +6,8 @@ use Rattle.pipelined.proofs.run_tick.Statement.{statement}
 use Rattle.pipelined.proofs.run_tick.Tie as tie
 
 -- the calls, from the last on, and the start
-abbrev turned : tie.After-hand-out → tie.After-all-turns
-turned c = c .before .before .before .before .before .before .before .before
+abbrev turned : tie.After-hand-out-arg → tie.After-all-turns
+turned c = c .before .before .before .before .before .before .before
 
 abbrev copied : tie.After-all-turns → tie.After-copy-bookings
 copied c = c .before .before .before .before .before .before .before
@@ -15,11 +15,17 @@ copied c = c .before .before .before .before .before .before .before
 abbrev looked : tie.After-copy-bookings → tie.After-look-ahead
 looked c = c .before .before
 
-abbrev start : tie.After-hand-out → tie.Start
-start c = looked (copied (turned c)) .before .before .before .before .before .before
+abbrev start : tie.After-all-turns → tie.Start
+start c = looked (copied c) .before .before .before .before .before .before .before .before .before .before
 
-add-time : tie.Need-add-time
-add-time c = search needs
+add-next : tie.Need-add-next
+add-next c = search needs
+
+cast-ports : tie.Need-cast-ports
+cast-ports c = search needs
+
+cast-time : tie.Need-cast-time
+cast-time c = search needs
 
 cast-look-ahead : tie.Need-cast-look-ahead
 cast-look-ahead c = search needs
@@ -30,23 +36,17 @@ look-ahead-requires c κs = search needs
 copy-bookings-requires : tie.Need-copy-bookings-requires
 copy-bookings-requires c κs = search needs
 
-cast-all-turns : tie.Need-cast-all-turns
-cast-all-turns c = search needs
-
 all-turns-requires : tie.Need-all-turns-requires
 all-turns-requires c κs = search needs
 
 hand-out-requires : tie.Need-hand-out-requires
-hand-out-requires c κs = search needs
-
-cast-clear-row : tie.Need-cast-clear-row
-cast-clear-row c = omega (arith, start c .pre .1 .1 .1 .1)
+hand-out-requires c κs = let p = start (turned c) .pre in omega (arith, p .0, p .1 .0 .ports, p .1 .0 .flight)
 
 add-clear-row : tie.Need-add-clear-row
-add-clear-row c = omega (arith, start c .pre .1 .1 .1 .1)
+add-clear-row c = omega (arith, start (turned (c .before)) .pre .1 .1 .1 .1)
 
 clear-row-requires : tie.Need-clear-row-requires
-clear-row-requires c κs = let p = start (c .before) .pre in omega (arith, p .0, p .1 .0 .ports, p .1 .0 .flight)
+clear-row-requires c κs = let p = start (turned (c .before .before)) .pre in omega (arith, p .0, p .1 .0 .ports, p .1 .0 .flight)
 
 same-length : tie.Need-same-length
 same-length c = search needs
@@ -64,23 +64,23 @@ returns : tie.Need-returns
 returns c =
     let e = c .before .before in
     let h = e .before .before in
-    let t = turned h in
+    let t = turned (h .before) in
     let b = copied t in
     let a = looked b .look-ahead .ensures in
-    ticked-left _ _ _ _ _ _ _ _ _ _ (b .copy-bookings .ensures _ _ (a .place) _ _ _) (t .all-turns .ensures _ a) (h .hand-out .ensures) (e .clear-row .ensures)
+    ticked-left _ _ _ _ _ _ _ _ (b .copy-bookings .ensures _ _ (a .place) _ _ _) (t .all-turns .ensures _ a) (h .hand-out .ensures) (e .clear-row .ensures)
 
 pub run-tick-spec : {M : Type 1} → statement M
 run-tick-spec =
     tie.close
     (tie.spec
-    add-time
+    add-next
+    cast-ports
+    cast-time
     cast-look-ahead
     look-ahead-requires
     copy-bookings-requires
-    cast-all-turns
     all-turns-requires
     hand-out-requires
-    cast-clear-row
     add-clear-row
     clear-row-requires
     same-length

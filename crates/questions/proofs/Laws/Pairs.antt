@@ -5,7 +5,7 @@ use mathlib.Core.List.{List, [], _∷_}
 use mathlib.Core.Logic.{_≢_}
 use Prim.Native.Nat.{ℕ}
 use native.Mathlib.Omega.{arith}
-use lib.Dec.{T, leb→le}
+use lib.Dec.{leb→le}
 use lib.ListN.{length}
 use Rattle.wsgs.specs.declared.Clock.{Clock}
 use Rattle.wsgs.specs.Basics.{between}
@@ -13,19 +13,14 @@ use Rattle.wsgs.specs.Questions.{Question, first-no, long-enough, holds-pairs, 
 use Rattle.wsgs.specs.Claims.{Reached}
 use Rattle.wsgs.proofs.Laws.Tests.{both, in-range, between-port}
 use Rattle.wsgs.proofs.Laws.Questions.{none-left, asked-no, asked-yes, all-yes, rest-decides, some-no}
-use Rattle.questions.specs.Asked.{Sizes, on-sizes, sizes-refusal, pair-refusal}
+use Rattle.questions.specs.Refusals.{SizesInRange, on-sizes, sizes-refusal, pair-refusal}
 
--- sizes in range
-pub sizes-in : (n f : ℕ) → T (between 1 32 n) → T (between 1 10000 f) → Sizes n f
-sizes-in n f p q =
-    let a = in-range 1 32 n p in
-    let b = in-range 1 10000 f q in
-    record { some-port = a .0; few-ports = a .1; some-slot = b .0; few-slots = b .1 }
-
--- accepted ones are
-pub sizes-asked : (n f : ℕ) → 0 ≡ sizes-refusal n f → Sizes n f
+-- sizes that are accepted are in range
+pub sizes-asked : (n f : ℕ) → 0 ≡ sizes-refusal n f → SizesInRange n f
 unfolding sizes-refusal
-sizes-asked n f e = let y = all-yes (on-sizes n f) (omega arith) (sym e) in sizes-in n f (y .0) (y .1 .0)
+sizes-asked n f e =
+    let y = all-yes (on-sizes n f) (omega arith) (sym e) in
+    record { ports = in-range 1 32 n (y .0); frame = in-range 1 10000 f (y .1 .0) }
 
 -- the questions on a pair: sizes that are refused; a run too short; numbers that are no ports; and none of these
 module _ (c : Clock) (m : List ℕ) (i j : ℕ) where

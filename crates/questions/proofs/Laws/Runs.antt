@@ -14,7 +14,7 @@ use Rattle.wsgs.specs.Answers.{direct-runs-of}
 use Rattle.wsgs.specs.Direct
 use Rattle.wsgs.specs.Pipelined
 use Rattle.wsgs.proofs.Laws.Questions.{none-left, asked-no, asked-yes, all-yes, rest-decides, some-no, DirectLong, PipelinedLong, direct-yes, pipelined-yes}
-use Rattle.questions.specs.Asked.{Sizes, on-sizes, sizes-refusal, clock-refusal}
+use Rattle.questions.specs.Refusals.{SizesInRange, on-sizes, sizes-refusal, clock-refusal}
 use Rattle.questions.proofs.Laws.Answers.{said-no, said-yes}
 
 -- DIRECT
@@ -41,11 +41,11 @@ module _ (n f : ℕ) (w : Direct.Runs) where
     direct-long b e h = none-left ∙ asked-yes _ _ (said-yes e h) ∙ after-sizes
 
   -- what has been asked where none refuses
-  pub direct-asked : 0 ≡ Direct.start-refusal n f w → Sizes n f × DirectLong n w
+  pub direct-asked : 0 ≡ Direct.start-refusal n f w → SizesInRange n f × DirectLong n w
   unfolding Direct.start-refusal
   direct-asked e =
       let a = direct-yes n f w [] (all-yes (Direct.questions n f w []) (omega arith) (sym e)) in
-      (record { some-port = a .ports .0; few-ports = a .ports .1; some-slot = a .frame .0; few-slots = a .frame .1 }, a .long)
+      (record { ports = a .ports; frame = a .frame }, a .long)
 
 -- A TICK of it: sizes or runs refuse as at a start, and else the clock decides
 module _ (c : Clock) (w : Direct.Runs) where
@@ -114,14 +114,11 @@ module _ (n f : ℕ) (w : Pipelined.Runs) where
     pipelined-long h b e d = none-left ∙ asked-yes _ _ (said-yes e d) ∙ asked-yes _ _ (le-leb n f h) ∙ later-decides
 
   -- what has been asked where none refuses
-  pub pipelined-asked : 0 ≡ Pipelined.start-refusal n f w → Sizes n f × (n ≤ f) × PipelinedLong n w
+  pub pipelined-asked : 0 ≡ Pipelined.start-refusal n f w → SizesInRange n f × (n ≤ f) × PipelinedLong n w
   unfolding Pipelined.start-refusal
   pipelined-asked e =
-      let a = pipelined-yes n f w [] (all-yes (Pipelined.questions n f w []) (omega arith) (sym e)) in (
-        record { some-port = a .1 .ports .0; few-ports = a .1 .ports .1; some-slot = a .1 .frame .0; few-slots = a .1 .frame .1 },
-        a .0,
-        a .1 .long,
-      )
+      let a = pipelined-yes n f w [] (all-yes (Pipelined.questions n f w []) (omega arith) (sym e)) in
+      (record { ports = a .1 .ports; frame = a .1 .frame }, a .0, a .1 .long)
 
 -- A TICK of it: sizes or runs refuse as at a start, and else the clock decides
 module _ (c : Clock) (w : Pipelined.Runs) where

@@ -1,8 +1,7 @@
 -- `questions::clock_refusal` meets its contract: its test is question 7's. Assumes nothing.
-use mathlib.Core.Path.{_∙_}
 use native.Mathlib.Omega.{arith}
 use Rattle.wsgs.proofs.Laws.Questions.{clock-stands, clock-advances}
-use Rattle.questions.specs.Asked.{clock-refusal}
+use Rattle.questions.specs.Refusals.{clock-refusal}
 use Rattle.questions.proofs.clock_refusal.Statement.{statement}
 use Rattle.questions.proofs.clock_refusal.Tie as tie
 

@@ -1,22 +1,21 @@
 -- `questions::direct_tick_refusal` meets its contract: sizes and runs refuse, or else the clock decides. Assumes nothing.
 use mathlib.Core.Path.{sym, _∙_}
-use native.Mathlib.Omega.{arith}
 use borrow.Author.Needs.{needs}
 use Rattle.questions.proofs.Laws.Runs.{direct-tick-sized, direct-tick-clock}
 use Rattle.questions.proofs.direct_tick_refusal.Statement.{statement}
 use Rattle.questions.proofs.direct_tick_refusal.Tie as tie
 
-cast-direct-refusal : tie.Need-cast-direct-refusal
-cast-direct-refusal c = search needs
+cast-ports : tie.Need-cast-ports
+cast-ports c = search needs
 
-cast-direct-refusal-2 : tie.Need-cast-direct-refusal-2
-cast-direct-refusal-2 c = search needs
+cast-frame : tie.Need-cast-frame
+cast-frame c = search needs
 
-direct-refusal-requires : tie.Need-direct-refusal-requires
-direct-refusal-requires c κs = search needs
+direct-start-refusal-requires : tie.Need-direct-start-refusal-requires
+direct-start-refusal-requires c κs = search needs
 
 returns : tie.Need-returns
-returns c = direct-tick-sized _ _ _ (c .before .direct-refusal .ensures) (c .if1 .taken)
+returns c = direct-tick-sized _ _ _ (c .before .direct-start-refusal .ensures) (c .if1 .taken)
 
 clock-refusal-requires : tie.Need-clock-refusal-requires
 clock-refusal-requires c κs = search needs
@@ -24,15 +23,15 @@ clock-refusal-requires c κs = search needs
 returns-2 : tie.Need-returns-2
 returns-2 c =
     let e = c .before in
-    c .clock-refusal .ensures ∙ direct-tick-clock _ _ (sym (e .if1 .left) ∙ e .before .direct-refusal .ensures)
+    c .clock-refusal .ensures ∙ direct-tick-clock _ _ (sym (e .if1 .left) ∙ e .before .direct-start-refusal .ensures)
 
 pub direct-tick-refusal-spec : {M : Type 1} → statement M
 direct-tick-refusal-spec =
     tie.close
     (tie.spec
-    cast-direct-refusal
-    cast-direct-refusal-2
-    direct-refusal-requires
+    cast-ports
+    cast-frame
+    direct-start-refusal-requires
     returns
     clock-refusal-requires
     returns-2)

@@ -19,29 +19,29 @@ returns : tie.Need-returns
 returns c = pair-sized _ _ _ _ _ (c .before .sizes-refusal .ensures) (c .if1 .taken)
 
 holds-pairs-requires : tie.Need-holds-pairs-requires
-holds-pairs-requires c κs = sizes-asked _ _ (sym (c .if1 .left) ∙ c .before .sizes-refusal .ensures) .few-ports
+holds-pairs-requires c κs = sizes-asked _ _ (sym (c .if1 .left) ∙ c .before .sizes-refusal .ensures) .ports .1
 
 returns-2 : tie.Need-returns-2
 returns-2 c =
     let s = c .before .before in
     pair-short _ _ _ _ (sym (s .if1 .left) ∙ s .before .sizes-refusal .ensures) (said-no (c .before .holds-pairs .ensures) (c .if2 .taken))
 
-are-ports-requires : tie.Need-are-ports-requires
-are-ports-requires c κs = search needs
+pair-in-range-requires : tie.Need-pair-in-range-requires
+pair-in-range-requires c κs = search needs
 
 returns-3 : tie.Need-returns-3
 returns-3 c =
     let h = c .before .before in
     let s = h .before .before in
     pair-outside _ _ _ _ (sym (s .if1 .left) ∙ s .before .sizes-refusal .ensures)
-    (said-yes (h .before .holds-pairs .ensures) (h .if2 .left)) (said-no (c .before .are-ports .ensures) (c .if3 .taken))
+    (said-yes (h .before .holds-pairs .ensures) (h .if2 .left)) (said-no (c .before .pair-in-range .ensures) (c .if3 .taken))
 
 returns-4 : tie.Need-returns-4
 returns-4 c =
     let h = c .before .before in
     let s = h .before .before in
     pair-inside _ _ _ _ (sym (s .if1 .left) ∙ s .before .sizes-refusal .ensures)
-    (said-yes (h .before .holds-pairs .ensures) (h .if2 .left)) (said-yes (c .before .are-ports .ensures) (c .if3 .left))
+    (said-yes (h .before .holds-pairs .ensures) (h .if2 .left)) (said-yes (c .before .pair-in-range .ensures) (c .if3 .left))
 
 pub pair-refusal-spec : {M : Type 1} → statement M
 pair-refusal-spec =
@@ -53,6 +53,6 @@ pair-refusal-spec =
     returns
     holds-pairs-requires
     returns-2
-    are-ports-requires
+    pair-in-range-requires
     returns-3
     returns-4)

@@ -3,7 +3,7 @@ use mathlib.Core.Path.{_≡_}
 use mathlib.Core.Bool.{false}
 use borrow.Author.Needs.{needs}
 use Rattle.wsgs.specs.Basics.{between}
-use Rattle.questions.specs.Asked.{sizes-refusal}
+use Rattle.questions.specs.Refusals.{sizes-refusal}
 use Rattle.questions.proofs.Laws.Answers.{said-no, said-yes}
 use Rattle.questions.proofs.sizes_refusal.Statement.{statement}
 use Rattle.questions.proofs.sizes_refusal.Tie as tie

@@ -3,13 +3,13 @@ use mathlib.Core.Path.{_≡_, sym, _∙_}
 use borrow.Author.Needs.{needs}
 use Rattle.wsgs.specs.Answers.{direct-runs-of}
 use Rattle.wsgs.specs.Direct
-use Rattle.questions.specs.Asked.{Sizes}
+use Rattle.questions.specs.Refusals.{SizesInRange}
 use Rattle.questions.proofs.Laws.Runs.{direct-asked}
 use Rattle.starts.proofs.Laws.{direct-stays, direct-clears}
 use Rattle.starts.proofs.start_direct.Statement.{statement}
 use Rattle.starts.proofs.start_direct.Tie as tie
 
-abbrev start : tie.After-direct-refusal → tie.Start
+abbrev start : tie.After-direct-start-refusal → tie.Start
 start c = c .before .before .before .before .before .before .before
 
 abbrev runs : tie.Start → Direct.Runs
@@ -17,17 +17,17 @@ runs s = direct-runs-of (s .args .bookings .now) (s .args .credits .now) (s .arg
 
 -- the start is accepted
 passed : (c : tie.Else1) → let s = start (c .before) in 0 ≡ Direct.start-refusal (s .args .ports) (s .args .frame) (runs s)
-passed c = sym (c .if1 .left) ∙ c .before .direct-refusal .ensures
+passed c = sym (c .if1 .left) ∙ c .before .direct-start-refusal .ensures
 
 -- so its sizes are in range
-sizes : (c : tie.Else1) → let s = start (c .before) in Sizes (s .args .ports) (s .args .frame)
+sizes : (c : tie.Else1) → let s = start (c .before) in SizesInRange (s .args .ports) (s .args .frame)
 sizes c = direct-asked _ _ _ (passed c) .0
 
 abbrev asked : tie.After-clear-matrices → tie.Else1
 asked c = c .before .before .before .before
 
-direct-refusal-requires : tie.Need-direct-refusal-requires
-direct-refusal-requires c κs = search needs
+direct-start-refusal-requires : tie.Need-direct-start-refusal-requires
+direct-start-refusal-requires c κs = search needs
 
 same-length : tie.Need-same-length
 same-length c = search needs
@@ -39,10 +39,10 @@ same-length-3 : tie.Need-same-length-3
 same-length-3 c = search needs
 
 returns : tie.Need-returns
-returns c = direct-stays _ _ (runs (start (c .before))) _ _ (c .before .direct-refusal .ensures) (c .if1 .taken)
+returns c = direct-stays _ _ (runs (start (c .before))) _ _ (c .before .direct-start-refusal .ensures) (c .if1 .taken)
 
 clear-matrices-requires : tie.Need-clear-matrices-requires
-clear-matrices-requires c κs = sizes (c .before .before .before) .few-ports
+clear-matrices-requires c κs = sizes (c .before .before .before) .ports .1
 
 first-clock-requires : tie.Need-first-clock-requires
 first-clock-requires c κs = sizes (asked (c .before .before .before .before .before .before))
@@ -60,15 +60,13 @@ returns-2 : tie.Need-returns-2
 returns-2 c =
     let w = c .before .before .before .before .before .before .before in
     let e = asked w in
-    let l = direct-clears _ _ (runs (start (e .before))) _ (passed e) _ (c .first-clock .ensures) in
-    let k = w .clear-matrices .ensures in
-    (l .0, (k .0 ∙ l .1 .0, (k .1 .0 ∙ l .1 .1 .0, k .1 .1 ∙ l .1 .1 .1)))
+    direct-clears _ _ (runs (start (e .before))) _ (passed e) _ (c .first-clock .ensures) _ _ _ (w .clear-matrices .ensures)
 
 pub start-direct-spec : {M : Type 1} → statement M
 start-direct-spec =
     tie.close
     (tie.spec
-    direct-refusal-requires
+    direct-start-refusal-requires
     same-length
     same-length-2
     same-length-3

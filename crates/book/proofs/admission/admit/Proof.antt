@@ -1,6 +1,5 @@
 -- `book::admission::admit` meets its contract. A booking that the row admits is part of the row's sum, so it fits its word.
 -- Assumes nothing.
-use mathlib.Core.Path.{refl}
 use Prim.Native.Nat.{_+_, _*_, _^_, _≤_, _<_}
 use native.Mathlib.Omega.{arith}
 use borrow.Author.Needs.{needs}
@@ -39,7 +38,7 @@ same-length : tie.Need-same-length
 same-length c = search needs
 
 returns : tie.Need-returns
-returns c = (row-full _ _ _ _ _ (omega (arith, c .before .before .row-sum .ensures .0)), refl)
+returns c = row-full _ _ _ _ _ (omega (arith, c .before .before .row-sum .ensures .0))
 
 column-sum-requires : tie.Need-column-sum-requires
 column-sum-requires c κs = search needs
@@ -56,7 +55,7 @@ same-length-2 c = search needs
 returns-2 : tie.Need-returns-2
 returns-2 c =
     let e = c .before .before .before .before in
-    (column-full _ _ _ _ _ (row-admits e) (omega (arith, c .before .before .column-sum .ensures .0)), refl)
+    column-full _ _ _ _ _ (row-admits e) (omega (arith, c .before .before .column-sum .ensures .0))
 
 booked-requires : tie.Need-booked-requires
 booked-requires c κs = search needs
@@ -71,7 +70,7 @@ set-booked-requires c κs =
     let s = start e in
     let h : b .booked .result .0 + s .args .slots .0 < 2 ^ 32 =
     omega (arith, row-admits e, b .booked .ensures .0, word-in-row _ (s .args .bookings .now) (s .args .input .0) _ (s .pre .0 .output), s .pre .0 .frame) in
-    (search needs, (search needs, (search needs, h)))
+    (search needs, h)
 
 same-length-3 : tie.Need-same-length-3
 same-length-3 c = search needs
@@ -80,10 +79,9 @@ returns-3 : tie.Need-returns-3
 returns-3 c =
     let w = c .before .before in
     let b = w .before .before .before .before in
-    let n = b .before .before in (
-      both-admit _ _ _ _ _ (row-admits (n .before .before .before .before)) (omega (arith, n .before .before .column-sum .ensures .0)),
-      rw (← b .booked .ensures .0) (w .set-booked .ensures),
-    )
+    let n = b .before .before in
+    rw (w .set-booked .ensures, b .booked .ensures .0)
+    (both-admit _ _ _ _ _ (row-admits (n .before .before .before .before)) (omega (arith, n .before .before .column-sum .ensures .0)))
 
 pub admit-spec : {M : Type 1} → statement M
 admit-spec =

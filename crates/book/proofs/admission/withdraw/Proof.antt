@@ -1,8 +1,7 @@
 -- `book::admission::withdraw` meets its contract. Assumes nothing.
-use mathlib.Core.Path.{refl}
 use native.Mathlib.Omega.{arith}
 use borrow.Author.Needs.{needs}
-use Rattle.book.proofs.Laws.Amounts.{held-short, held-enough}
+use Rattle.book.proofs.Laws.Amounts.{too-few-booked, enough-to-withdraw}
 use Rattle.book.proofs.admission.withdraw.Statement.{statement}
 use Rattle.book.proofs.admission.withdraw.Tie as tie
 
@@ -16,7 +15,7 @@ same-length : tie.Need-same-length
 same-length c = search needs
 
 returns : tie.Need-returns
-returns c = (held-short _ _ _ _ _ (omega (arith, c .before .before .before .booked .ensures .0)), refl)
+returns c = too-few-booked _ _ _ _ _ (omega (arith, c .before .before .before .booked .ensures .0))
 
 set-booked-requires : tie.Need-set-booked-requires
 set-booked-requires c κs = search needs
@@ -28,7 +27,7 @@ returns-2 : tie.Need-returns-2
 returns-2 c =
     let w = c .before .before in
     let b = w .before .before .before .before .before .before .before in
-    (held-enough _ _ _ _ _ (omega (arith, b .booked .ensures .0)), rw (← b .booked .ensures .0) (w .set-booked .ensures))
+    rw (w .set-booked .ensures, b .booked .ensures .0) (enough-to-withdraw _ _ _ _ _ (omega (arith, b .booked .ensures .0)))
 
 pub withdraw-spec : {M : Type 1} → statement M
 withdraw-spec =

@@ -12,10 +12,10 @@ place-of-requires : tie.Need-place-of-requires
 place-of-requires c κs = search needs
 
 mul-run : tie.Need-mul-run
-mul-run c = let s = c .before .before in omega (arith, place-inside _ _ _ (s .pre .1 .0) (s .pre .1 .1), square-small _ (s .pre .0 .few))
+mul-run c = let s = c .before .before in omega (arith, place-inside _ _ _ (s .pre .input) (s .pre .output), square-small _ (s .pre .matrix .few))
 
 slice-write-run : tie.Need-slice-write-run
-slice-write-run c = let s = c .before .before in omega (arith, place-inside _ _ _ (s .pre .1 .0) (s .pre .1 .1))
+slice-write-run c = let s = c .before .before in omega (arith, place-inside _ _ _ (s .pre .input) (s .pre .output))
 
 same-length : tie.Need-same-length
 same-length c = search needs

@@ -12,10 +12,10 @@ place-of-requires : tie.Need-place-of-requires
 place-of-requires c κs = search needs
 
 mul-result : tie.Need-mul-result
-mul-result c = let s = c .before .before in omega (arith, place-inside _ _ _ (s .pre .1 .0) (s .pre .1 .1), square-small _ (s .pre .0 .few))
+mul-result c = let s = c .before .before in omega (arith, place-inside _ _ _ (s .pre .input) (s .pre .output), square-small _ (s .pre .matrix .few))
 
 shared-slice-read-result : tie.Need-shared-slice-read-result
-shared-slice-read-result c = let s = c .before .before .before in omega (arith, place-inside _ _ _ (s .pre .1 .0) (s .pre .1 .1))
+shared-slice-read-result c = let s = c .before .before .before in omega (arith, place-inside _ _ _ (s .pre .input) (s .pre .output))
 
 returns : tie.Need-returns
 unfolding word

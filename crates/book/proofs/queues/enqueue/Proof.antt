@@ -1,5 +1,4 @@
 -- `book::queues::enqueue` meets its contract. Assumes nothing.
-use mathlib.Core.Path.{refl}
 use native.Mathlib.Omega.{arith}
 use borrow.Author.Needs.{needs}
 use Rattle.book.proofs.Laws.Amounts.{queue-full, queue-takes}
@@ -22,7 +21,7 @@ same-length : tie.Need-same-length
 same-length c = search needs
 
 returns : tie.Need-returns
-returns c = (queue-full _ _ _ _ _ (omega (arith, c .before .word-of .ensures)), refl)
+returns c = queue-full _ _ _ _ _ (omega (arith, c .before .word-of .ensures))
 
 cast-put-word : tie.Need-cast-put-word
 cast-put-word c = search needs
@@ -37,7 +36,7 @@ returns-2 : tie.Need-returns-2
 returns-2 c =
     let w = c .before .before in
     let b = w .before .before .before in
-    (queue-takes _ _ _ _ _ (omega (arith, b .word-of .ensures)), rw (← b .word-of .ensures) (w .put-word .ensures))
+    rw (w .put-word .ensures, b .word-of .ensures) (queue-takes _ _ _ _ _ (omega (arith, b .word-of .ensures)))
 
 pub enqueue-spec : {M : Type 1} → statement M
 enqueue-spec =

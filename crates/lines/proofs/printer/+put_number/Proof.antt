@@ -31,7 +31,7 @@ module _ (t : ℕ) where
   add c = search needs
 
   put-byte-requires : lts.Need-put-byte-requires (byte.Asked, byte.Learnt, below t, number.Post) (given t) number.Post
-  put-byte-requires c κs = omega (arith, decimal-some (c .before .before .before .args .n))
+  put-byte-requires c κs = omega (arith, decimal-some (c .before .before .before .args .number))
 
   same-length : lts.Need-same-length (byte.Asked, byte.Learnt, below t, number.Post) (given t) number.Post
   same-length c = search needs
@@ -40,7 +40,7 @@ module _ (t : ℕ) where
   returns c = wrote-is (c .before .before .put-byte .ensures) (decimal-one _ (omega arith))
 
   put-number-requires : lts.Need-put-number-requires (byte.Asked, byte.Learnt, below t, number.Post) (given t) number.Post
-  put-number-requires c κs = (omega arith, omega (arith, decimal-long (c .before .before .before .args .n) (omega arith) (omega arith)))
+  put-number-requires c κs = (omega arith, omega (arith, decimal-long (c .before .before .before .args .number) (omega arith) (omega arith)))
 
   cast-2 : lts.Need-cast-put-byte-2 (byte.Asked, byte.Learnt, below t, number.Post) (given t) number.Post
   cast-2 c = search needs
@@ -54,7 +54,7 @@ module _ (t : ℕ) where
       omega (
         arith,
         wrote-long (before .put-number .ensures),
-        decimal-long (before .before .before .before .before .args .n) (omega arith) (omega arith),
+        decimal-long (before .before .before .before .before .args .number) (omega arith) (omega arith),
       )
 
   same-length-2 : lts.Need-same-length-2 (byte.Asked, byte.Learnt, below t, number.Post) (given t) number.Post

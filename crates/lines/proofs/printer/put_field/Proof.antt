@@ -10,7 +10,7 @@ put-byte-requires : tie.Need-put-byte-requires
 put-byte-requires c κs = search needs
 
 put-number-requires : tie.Need-put-number-requires
-put-number-requires c κs = omega (arith, decimal-short (c .before .before .before .before .before .before .args .n))
+put-number-requires c κs = omega (arith, decimal-short (c .before .before .before .before .before .before .args .number))
 
 same-length : tie.Need-same-length
 same-length c = search needs

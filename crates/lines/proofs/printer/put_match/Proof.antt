@@ -16,7 +16,7 @@ shr-pass : tie.Need-shr-pass
 shr-pass c = search needs
 
 sub-pass : tie.Need-sub-pass
-sub-pass c = let a = c .before .before .args in bit-small (a .passes / 2 ^ a .i)
+sub-pass c = let a = c .before .before .args in omega (arith, bit-small (a .first-pass / 2 ^ a .i))
 
 slice-aggregate-put-line : tie.Need-slice-aggregate-put-line
 slice-aggregate-put-line c = search needs
@@ -37,7 +37,7 @@ returns-2 : tie.Need-returns-2
 unfolding bytes
 returns-2 c =
     let a = c .before .before .before .before .before .before .before .args in
-    wrote-is (rw pass-of at (c .before .before .put-line .ensures)) (the-line _ _ _ (is-set (a .passes) (a .i)) (c .before .before .before .before .before .if1 .left))
+    wrote-is (rw pass-of at (c .before .before .put-line .ensures)) (the-line _ _ _ (is-set (a .first-pass) (a .i)) (c .before .before .before .before .before .if1 .left))
 
 pub put-match-spec : {M : Type 1} → statement M
 put-match-spec =

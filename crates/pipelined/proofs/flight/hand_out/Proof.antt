@@ -10,13 +10,16 @@ use Rattle.pipelined.proofs.flight.hand_out.Statement.{statement}
 use Rattle.pipelined.proofs.flight.hand_out.Tie as tie
 
 abbrev Inv-loop : tie.InvT-loop
-Inv-loop ports time flight highest row outputs₀ first-pass₀ column₀ outputs first-pass column = (column ≤ ports) × Handed ports (time + 1) flight column outputs first-pass
+Inv-loop clock flight highest ports row outputs₀ first-pass₀ column₀ outputs first-pass column = (column ≤ ports) × Handed ports (clock .slot + 1) flight column outputs first-pass
 
 abbrev μ-loop : tie.MeasureT-loop
-μ-loop ports time flight highest row outputs₀ first-pass₀ column₀ outputs first-pass column = ports - column
+μ-loop clock flight highest ports row outputs₀ first-pass₀ column₀ outputs first-pass column = ports - column
 
-cast-highest : tie.Need-cast-highest Inv-loop μ-loop
-cast-highest c = search needs
+cast-ports : tie.Need-cast-ports Inv-loop μ-loop
+cast-ports c = search needs
+
+cast-row-of : tie.Need-cast-row-of Inv-loop μ-loop
+cast-row-of c = search needs
 
 add-row-of : tie.Need-add-row-of Inv-loop μ-loop
 add-row-of c = search needs
@@ -85,7 +88,8 @@ hand-out-spec =
     (tie.spec
     Inv-loop
     μ-loop
-    cast-highest
+    cast-ports
+    cast-row-of
     add-row-of
     row-of-requires
     loop-holds

@@ -1,0 +1,2 @@
+-- What the theorems of this crate say.
+pub mod Says
