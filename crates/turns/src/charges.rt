@@ -13,10 +13,10 @@ use wsgs::Output;
 
 // The pair's queue falls by 1.
 pub fn take_packet(queues: &mut [u32], ports: usize, input: Input, output: Output)
-    requires { ⌜ ports ≤ 32 ⌝ }
-    requires { ⌜ Port ports (input .0) ⌝ }
-    requires { ⌜ Port ports (output .0) ⌝ }
-    requires { ⌜ ports * ports ≤ length (now queues) ⌝ }
+    requires ports { ⌜ ports ≤ 32 ⌝ }
+    requires input { ⌜ Port ports (input .0) ⌝ }
+    requires output { ⌜ Port ports (output .0) ⌝ }
+    requires queues_fit { ⌜ ports * ports ≤ length (now queues) ⌝ }
     ensures less { λ _. ⌜ now (queues .exit) ≡ less-one ports (now (queues .entry)) (input .0) (output .0) ⌝ }
 {
     let at = place_of(ports, input, output);
@@ -27,10 +27,10 @@ pub fn take_packet(queues: &mut [u32], ports: usize, input: Input, output: Outpu
 
 // The pair's credits fall by 1.
 pub fn spend_credit(credits: &mut [u32], ports: usize, input: Input, output: Output)
-    requires { ⌜ ports ≤ 32 ⌝ }
-    requires { ⌜ Port ports (input .0) ⌝ }
-    requires { ⌜ Port ports (output .0) ⌝ }
-    requires { ⌜ ports * ports ≤ length (now credits) ⌝ }
+    requires ports { ⌜ ports ≤ 32 ⌝ }
+    requires input { ⌜ Port ports (input .0) ⌝ }
+    requires output { ⌜ Port ports (output .0) ⌝ }
+    requires credits_fit { ⌜ ports * ports ≤ length (now credits) ⌝ }
     ensures less { λ _. ⌜ now (credits .exit) ≡ less-one ports (now (credits .entry)) (input .0) (output .0) ⌝ }
 {
     let at = place_of(ports, input, output);

@@ -8,7 +8,7 @@ use wsgs::Credits;
 
 // The credits at a place of their run.
 pub fn credits_at(credits: &[u32], at: usize) -> Credits
-    requires { ⌜ at < length (now credits) ⌝ }
+    requires inside { ⌜ at < length (now credits) ⌝ }
     ensures read { λ r. ⌜ r .0 ≡ getD (now (credits .entry)) at 0 ⌝ }
 {
     Credits(credits[at])
@@ -16,7 +16,7 @@ pub fn credits_at(credits: &[u32], at: usize) -> Credits
 
 // Writes the credits at a place of their run.
 pub fn put_credits(credits: &mut [u32], at: usize, left: Credits)
-    requires { ⌜ at < length (now credits) ⌝ }
+    requires inside { ⌜ at < length (now credits) ⌝ }
     ensures written { λ _. ⌜ now (credits .exit) ≡ set (now (credits .entry)) at (left .0) ⌝ }
 {
     credits[at] = left.0;
@@ -32,7 +32,7 @@ pub fn spend(left: Credits) -> Credits
 
 // The booked slots at a place of their run.
 fn booked_at(booked: &[u32], at: usize) -> BookedSlots
-    requires { ⌜ at < length (now booked) ⌝ }
+    requires inside { ⌜ at < length (now booked) ⌝ }
     ensures read { λ r. ⌜ r .0 ≡ getD (now (booked .entry)) at 0 ⌝ }
     ensures fits { λ r. ⌜ r .0 < 2 ^ 32 ⌝ }
 {
@@ -41,7 +41,7 @@ fn booked_at(booked: &[u32], at: usize) -> BookedSlots
 
 // A credit for each booked slot.
 fn credits_for(booked: BookedSlots) -> Credits
-    requires { ⌜ booked .0 < 2 ^ 32 ⌝ }
+    requires fits { ⌜ booked .0 < 2 ^ 32 ⌝ }
     ensures same { λ r. ⌜ r .0 ≡ booked .0 ⌝ }
 {
     Credits(booked.0 as u32)
@@ -49,8 +49,8 @@ fn credits_for(booked: BookedSlots) -> Credits
 
 // The credits at the first count places are those for the booked slots there, where both runs have as many.
 pub fn load_first(booked: &[u32], credits: &mut [u32], count: usize)
-    requires { ⌜ count ≤ length (now booked) ⌝ }
-    requires { ⌜ count ≤ length (now credits) ⌝ }
+    requires booked_long { ⌜ count ≤ length (now booked) ⌝ }
+    requires credits_long { ⌜ count ≤ length (now credits) ⌝ }
     ensures loaded { λ _. ⌜ now (credits .exit) ≡ copied count (now (booked .entry)) (now (credits .entry)) ⌝ }
 {
     for at in 0..count {

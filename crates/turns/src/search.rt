@@ -42,9 +42,9 @@ pub fn requests_of(
     credits: &[u32],
     queues: &[u32],
 ) -> Requests
-    requires { ⌜ ports ≤ 32 ⌝ }
-    requires { ⌜ row + ports ≤ length (now credits) ⌝ }
-    requires { ⌜ row + ports ≤ length (now queues) ⌝ }
+    requires ports { ⌜ ports ≤ 32 ⌝ }
+    requires credits_fit { ⌜ row + ports ≤ length (now credits) ⌝ }
+    requires queues_fit { ⌜ row + ports ≤ length (now queues) ⌝ }
     ensures ready { λ r. ⌜ r .ready
         ≡ gathered (now (bits .entry)) (both-above (now (credits .entry)) (now (queues .entry)) row) ports ⌝ }
     ensures waiting { λ r. ⌜ r .waiting
@@ -64,8 +64,8 @@ pub fn requests_of(
 
 // The outputs for which packets wait in the row that begins at a place, read in the same way.
 pub fn waiting_outputs(bits: &[u32; 32], ports: usize, row: usize, queues: &[u32]) -> u32
-    requires { ⌜ ports ≤ 32 ⌝ }
-    requires { ⌜ row + ports ≤ length (now queues) ⌝ }
+    requires ports { ⌜ ports ≤ 32 ⌝ }
+    requires queues_fit { ⌜ row + ports ≤ length (now queues) ⌝ }
     ensures waiting { λ r. ⌜ r ≡ gathered (now (bits .entry)) (both-above (now (queues .entry)) (now (queues .entry)) row) ports ⌝ }
 {
     let mut waiting = 0u32;
@@ -77,7 +77,7 @@ pub fn waiting_outputs(bits: &[u32; 32], ports: usize, row: usize, queues: &[u32
 
 // The lowest output that is free and requested, or output 0.
 pub fn lowest_open(free: u32, requested: u32, ports: usize) -> Output
-    requires { ⌜ ports ≤ 32 ⌝ }
+    requires ports { ⌜ ports ≤ 32 ⌝ }
     ensures lowest { λ r. ⌜ r .0 ≡ lowest-common free requested ports ⌝ }
 {
     let column = u32::trailing_zeros(free & requested) as usize;
