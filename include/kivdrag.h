@@ -1,5 +1,6 @@
 /*
- * Kivdrag: a slot scheduler for a packet switch with bookings (weighted sequential greedy scheduling, WSGS).
+ * Kivdrag: a slot scheduler for a packet switch with bookings (weighted sequential greedy scheduling, WSGS). The rules
+ * that it follows are in docs/RULES.md, with the paper that they are from.
  *
  * A switch has N inputs and N outputs, each numbered from 1 to N, and runs in slots numbered from 1. In each slot an
  * input sends at most one packet and an output takes at most one. F slots make a frame; slot k is the first of a
