@@ -40,8 +40,8 @@ none-bounded = record { output = λ i h. refl; first = λ i h. refl }
 
 -- Such a one is told whole by 32 outputs and a word.
 module _ (m : Matching) (b : Bounded m) where
-  abbrev told : Matching
-  told = matching-of (outputs-of m) (pass-word-of m)
+  abbrev rebuilt : Matching
+  rebuilt = matching-of (outputs-of m) (pass-word-of m)
 
   -- at input x + 1
   listed-tells : (x : ℕ) → Dec (x < 32) → getD (outputs-of m) x 0 ≡ m .output (suc x)
@@ -65,20 +65,20 @@ module _ (m : Matching) (b : Bounded m) where
   before : (x : ℕ) → suc x - 1 ≡ x
   before x = omega arith
 
-  outputs-tell : (i : ℕ) → told .output i ≡ m .output i
+  outputs-tell : (i : ℕ) → rebuilt .output i ≡ m .output i
   outputs-tell zero = sym (b .output 0 (λ p. omega arith))
   outputs-tell (suc x) = rw (lt-ltb 0 (suc x) (omega arith), before x) (listed-tells x (decLt x 32))
 
-  word-tells : (i : ℕ) → told .first i ≡ m .first i
+  word-tells : (i : ℕ) → rebuilt .first i ≡ m .first i
   word-tells zero = sym (b .first 0 (λ p. omega arith))
   word-tells (suc x) = rw (lt-ltb 0 (suc x) (omega arith), before x) (bit-tells x (decLt x 32))
 
-  told-whole : told ≡ m
-  told-whole = ap₂ (λ o f. record { output = o; first = f }) (fun-ext outputs-tell) (fun-ext word-tells)
+  rebuilt-same : rebuilt ≡ m
+  rebuilt-same = ap₂ (λ o f. record { output = o; first = f }) (fun-ext outputs-tell) (fun-ext word-tells)
 
 -- So a tick whose matching is one comes back from its effect.
 tick-back : {Runs : Type 0} (o : Outcome Runs) → Bounded (o .matching) → tick-outcome (tick-effect o) ≡ o
-tick-back o b = ap (λ m. record { refusal = o .refusal; matching = m; clock = o .clock; runs = o .runs }) (told-whole (o .matching) b)
+tick-back o b = ap (λ m. record { refusal = o .refusal; matching = m; clock = o .clock; runs = o .runs }) (rebuilt-same (o .matching) b)
 
 -- THE MATCHINGS OF TICKS are such: outside its ports a switch has no pairs.
 module _ (n : ℕ) (few : n ≤ 32) where

@@ -12,7 +12,7 @@ place-of-requires : tie.Need-place-of-requires
 place-of-requires c κs = search needs
 
 mul-run : tie.Need-mul-run
-mul-run c = let s = c .before .before in omega (arith, place-inside _ _ _ (s .pre .input) (s .pre .output), square-small _ (s .pre .matrix .few))
+mul-run c = let s = c .before .before in omega (arith, place-inside _ _ _ (s .pre .input) (s .pre .output), square-small _ (s .pre .matrix .ports))
 
 slice-write-run : tie.Need-slice-write-run
 slice-write-run c = let s = c .before .before in omega (arith, place-inside _ _ _ (s .pre .input) (s .pre .output))

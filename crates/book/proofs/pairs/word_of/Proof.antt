@@ -12,7 +12,7 @@ place-of-requires : tie.Need-place-of-requires
 place-of-requires c κs = search needs
 
 mul-result : tie.Need-mul-result
-mul-result c = let s = c .before .before in omega (arith, place-inside _ _ _ (s .pre .input) (s .pre .output), square-small _ (s .pre .matrix .few))
+mul-result c = let s = c .before .before in omega (arith, place-inside _ _ _ (s .pre .input) (s .pre .output), square-small _ (s .pre .matrix .ports))
 
 shared-slice-read-result : tie.Need-shared-slice-read-result
 shared-slice-read-result c = let s = c .before .before .before in omega (arith, place-inside _ _ _ (s .pre .input) (s .pre .output))
