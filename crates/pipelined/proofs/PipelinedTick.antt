@@ -19,7 +19,7 @@ use Rattle.wsgs.specs.Pipelined.{Runs, turn-runs, questions, tick-refusal, copi
 use Rattle.wsgs.proofs.Laws.Questions.{all-yes, pipelined-yes}
 use Rattle.wsgs.proofs.Laws.Listed.{listed-none}
 use Rattle.wsgs.proofs.Laws.Marked.{marked-none}
-use Rattle.pipelined.specs.Turnings.{turn-runs-of, Lent, answering}
+use Rattle.pipelined.specs.Turnings.{turn-runs-of, RunsFit, answering}
 
 -- THE FRAME COPY at time k
 module _ (n f k : ℕ) (w : Runs) (u : ℕ) (e : u ≡ into-frame f (k + 2 * n)) where
@@ -34,7 +34,7 @@ module _ (n f k : ℕ) (w : Runs) (u : ℕ) (e : u ≡ into-frame f (k + 2 * n))
 -- WHAT AN ACCEPTED TICK FOUND
 pub record Accepted (c : Clock) (w : Runs) : Type 0 where
   pub some-port : 1 ≤ c .ports
-  pub lent : Lent (c .ports) (w .copy) (w .credits) (w .queues) (w .flight)
+  pub lent : RunsFit (c .ports) (w .copy) (w .credits) (w .queues) (w .flight)
   pub bookings : c .ports * c .ports ≤ length (w .bookings)
   pub covers : c .ports ≤ c .frame
   pub slots-left : c .slot < 4000000000

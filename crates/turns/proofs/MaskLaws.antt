@@ -7,12 +7,12 @@ use Prim.Native.Nat.{ℕ, zero, suc, _-_, _*_, _/_, _%_, _^_, _≤_, _<_}
 use native.Mathlib.Nat.{min-eq-left, min-eq-right}
 use native.Mathlib.Decide.{ℕ-discrete, decLe}
 use native.Mathlib.Omega.{arith}
-use borrow.Author.Tests.{ne-eqb, eqb-true, le-leb, lt-leb, not-true, not-false}
+use borrow.Author.Tests.{ne-eqb, eqb-true, lt-leb}
 use lib.Bits.{bitAnd, bitXor, and-mask, xor-add-and}
 use lib.Dec.{eqb, leb, eqb·suc-suc}
 use lib.Pow.{pow-lt}
 use Rattle.wsgs.specs.Basics.{pick, between, Port}
-use Rattle.wsgs.proofs.Laws.Tests.{between-port, range-in}
+use Rattle.wsgs.proofs.Laws.Tests.{range-in}
 use Rattle.turns.specs.Masks.{in-mask, all-free, is-free, without}
 use Rattle.turns.proofs.BitLaws.{bits, mask-bit, low-set, one-shl, alone, and-others, bit-cleared}
 
@@ -37,29 +37,18 @@ unfolding all-free
 free-first n w few e k p = ap (λ v. in-mask v k) e ∙ rw (min-eq-left few) (mask-full n k p)
 
 -- an output past 32 has no bit, nor has output 0
-pub no-bit : (j : ℕ) → (j < 1) ⊎ (32 < j) → between 1 32 j ≡ false
+no-bit : (j : ℕ) → (j < 1) ⊎ (32 < j) → between 1 32 j ≡ false
 no-bit j (inl h) = rw (lt-leb 1 j h)
 no-bit j (inr h) = rw (lt-leb j 32 h, and-false (leb 1 j))
-
--- else the highest decides
-pub high-decides : (j : ℕ) → 1 ≤ j → leb j 32 ≡ between 1 32 j
-high-decides j h = rw (le-leb 1 j h)
-
--- what is known of an output where the question for its bit is answered yes, and where no
-pub with-bit : (j : ℕ) {answer : Bool} → answer ≡ between 1 32 j → not answer ≡ false → Port 32 j
-with-bit j e h = between-port 32 j (rw (sym e ∙ not-false _ h) tt)
-
-pub without-bit : (j : ℕ) {answer : Bool} → answer ≡ between 1 32 j → not answer ≡ true → between 1 32 j ≡ false
-without-bit j e h = sym e ∙ not-true _ h
 
 -- AN OUTPUT j of the set w
 module _ (w j : ℕ) where
   -- it has no bit
-  pub not-free : between 1 32 j ≡ false → false ≡ is-free w j
+  pub not-free : (j < 1) ⊎ (32 < j) → false ≡ is-free w j
   unfolding is-free
-  not-free h = rw h
+  not-free h = rw (no-bit j h)
 
-  pub stays : between 1 32 j ≡ false → w ≡ without w j
+  pub stays : (j < 1) ⊎ (32 < j) → w ≡ without w j
   unfolding without
   stays h = rw (← not-free h)
 
@@ -129,12 +118,12 @@ taken w j zero p = absurd (omega arith)
 taken w j (suc k) p = go j (decLe 1 j) (decLe j 32)
   where
     -- an output without a bit is none of them
-    none : (j : ℕ) → between 1 32 j ≡ false → suc k ≢ j → in-mask (without w j) (suc k) ≡ (in-mask w (suc k) && not (eqb (suc k) j))
+    none : (j : ℕ) → (j < 1) ⊎ (32 < j) → suc k ≢ j → in-mask (without w j) (suc k) ≡ (in-mask w (suc k) && not (eqb (suc k) j))
     none j h d = rw (← stays w j h, ne-eqb (suc k) j d) (sym (and-true (in-mask w (suc k))))
 
     go : (j : ℕ) → Dec (1 ≤ j) → Dec (j ≤ 32) → in-mask (without w j) (suc k) ≡ (in-mask w (suc k) && not (eqb (suc k) j))
-    go j (no l) d = none j (no-bit j (inl (omega arith))) (λ e. omega arith)
-    go j (yes l) (no h) = none j (no-bit j (inr (omega arith))) (λ e. omega arith)
+    go j (no l) d = none j (inl (omega arith)) (λ e. omega arith)
+    go j (yes l) (no h) = none j (inr (omega arith)) (λ e. omega arith)
     go zero (yes l) (yes h) = absurd (omega arith)
     go (suc j) (yes l) (yes h) =
         rw (mask-bit (without w (suc j)) k, mask-bit w k, eqb·suc-suc k j) (taken-bit w j (omega arith) k)

@@ -3,14 +3,14 @@
 use mathlib.Core.Path.{_≡_, refl, sym, _∙_, ap}
 use mathlib.Core.Bool.{Bool, true, false, not, _&&_, and-false}
 use mathlib.Core.List.{List}
-use Prim.Native.Nat.{ℕ, _+_, _-_, _*_, _≤_}
+use Prim.Native.Nat.{ℕ, _-_, _*_, _≤_}
 use borrow.Author.Tests.{le-leb, not-true, not-false}
 use lib.Dec.{leb, leb→le}
 use lib.ListN.{length}
 use Rattle.wsgs.specs.Basics.{pick, lowest}
 use Rattle.wsgs.proofs.Laws.Tests.{both, holds}
 use Rattle.words.specs.Places.{is-port, row-of}
-use Rattle.words.proofs.PlaceLaws.{known, port-passes, row-is, row-inside}
+use Rattle.words.proofs.PlaceLaws.{known, port-passes, row-is}
 use Rattle.turns.specs.Masks.{powers, is-open, ready-mask}
 use Rattle.turns.specs.Requests.{has-turn, Turn, both-above, gathered, requested, first-output, first-waiting, waiting-output, second-output}
 use Rattle.turns.proofs.Ready.{requested-ready, lowest-requested}
@@ -48,9 +48,6 @@ module _ (n i : ℕ) (run : List ℕ) where
   -- the input's row
   pub row-there : Turn n i run → (row : ℕ) → row ≡ row-of n i → row ≡ (i - 1) * n
   row-there t row e = e ∙ row-is n i (t .few) (t .port)
-
-  pub row-fits : Turn n i run → (row : ℕ) → row ≡ row-of n i → row + n ≤ n * n
-  row-fits t row e = rw e (row-inside n i (t .few) (t .port))
 
 -- an answer where there is a turn, and where there is none
 pub with-turn : {a : Bool} {r x : ℕ} → a ≡ true → r ≡ x → r ≡ pick a x 0

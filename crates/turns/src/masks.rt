@@ -1,6 +1,5 @@
 // The set of free outputs as one word, bit j - 1 for output j.
 ghost use mathlib.Core.Path.{_≡_};
-ghost use Rattle.wsgs.specs.Basics.{between};
 ghost use Rattle.turns.specs.Masks.{all-free, is-free, without};
 use wsgs::MAX_PORTS;
 use wsgs::Output;
@@ -18,21 +17,14 @@ pub fn all_free(ports: usize) -> u32
     (1 << ports) - 1
 }
 
-// Whether a word has a bit for an output: for those from 1 to 32.
-fn has_bit(output: Output) -> bool
-    ensures tested { λ r. ⌜ r ≡ between 1 32 (output .0) ⌝ }
-{
-    if output.0 < 1 {
-        return false;
-    }
-    output.0 <= MAX_PORTS
-}
-
 // Whether an output is free: its bit is set. An output past 32 has none, nor has output 0.
 pub fn is_free(free: u32, output: Output) -> bool
     ensures tested { λ r. ⌜ r ≡ is-free free (output .0) ⌝ }
 {
-    if !has_bit(output) {
+    if output.0 < 1 {
+        return false;
+    }
+    if output.0 > MAX_PORTS {
         return false;
     }
     (free >> (output.0 - 1)) & 1 == 1
@@ -42,7 +34,10 @@ pub fn is_free(free: u32, output: Output) -> bool
 pub fn take(free: u32, output: Output) -> u32
     ensures cleared { λ r. ⌜ r ≡ without free (output .0) ⌝ }
 {
-    if !has_bit(output) {
+    if output.0 < 1 {
+        return free;
+    }
+    if output.0 > MAX_PORTS {
         return free;
     }
     free & !(1 << (output.0 - 1))

@@ -1,7 +1,7 @@
 -- Where a row begins and where the word of a pair stands: what the code's tests say of a port, and what both are for ports. Assumes nothing.
 use mathlib.Core.Path.{_≡_, refl, sym, _∙_}
 use mathlib.Core.Bool.{Bool, true, false, not, _&&_, and-false}
-use Prim.Native.Nat.{ℕ, _+_, _-_, _*_, _^_, _≤_, _<_}
+use Prim.Native.Nat.{ℕ, zero, suc, _+_, _-_, _*_, _^_, _≤_, _<_}
 use native.Mathlib.Nat.{mul-le-mul-right}
 use native.Mathlib.Omega.{arith}
 use borrow.Author.Tests.{le-leb, lt-leb, not-true, not-false}
@@ -9,12 +9,19 @@ use lib.Dec.{leb, leb→le}
 use Rattle.wsgs.specs.Basics.{pick, between, Port}
 use Rattle.wsgs.specs.Words.{place}
 use Rattle.wsgs.proofs.Laws.Tests.{both, between-port, range-in}
-use Rattle.wsgs.proofs.Laws.Words.{row-within, square-small}
+use Rattle.wsgs.proofs.Laws.Words.{row-within}
 use Rattle.words.specs.Places.{is-port, row-of, place-of}
 
 -- a product of ports fits a word of 64 bits
 pub product-fits : (x n : ℕ) → x ≤ 32 → n ≤ 32 → x * n < 2 ^ 64
 product-fits x n h few = omega (arith, mul-le-mul-right n h)
+
+-- a number is at most its square
+squared : (n : ℕ) → 0 + n ≤ n * n
+squared zero = omega arith
+squared (suc n) =
+    let some : 1 ≤ suc n = omega arith in
+    omega (arith, mul-le-mul-right (suc n) some)
 
 -- A NUMBER x, by the tests of the code
 module _ (n x : ℕ) where
@@ -64,23 +71,18 @@ module _ (n i : ℕ) where
   unfolding row-of
   row-there e = rw e
 
-  -- of a port, and that it lies within the matrix
+  -- of a port
   pub row-is : n ≤ 32 → Port n i → row-of n i ≡ (i - 1) * n
   row-is few p = sym (row-there (port-passes n i few p))
 
-  pub row-inside : n ≤ 32 → Port n i → row-of n i + n ≤ n * n
-  row-inside few p = rw (row-is few p) (row-within n i p)
-
-  -- and whatever the numbers are, it is one of few words
-  pub row-small : row-of n i ≤ 1024
+  -- whatever the numbers are, it lies within the matrix
+  pub row-inside : row-of n i + n ≤ n * n
   unfolding row-of
-  row-small = go (is-port n i) refl
+  row-inside = go (is-port n i) refl
     where
-      go : (b : Bool) → is-port n i ≡ b → pick b ((i - 1) * n) 0 ≤ 1024
-      go true e =
-          let k = known n i {answer = true} (sym e) refl in
-          omega (arith, row-within n i (k .port), square-small n (k .few))
-      go false e = omega arith
+      go : (b : Bool) → is-port n i ≡ b → pick b ((i - 1) * n) 0 + n ≤ n * n
+      go true e = row-within n i (known n i {answer = true} (sym e) refl .port)
+      go false e = squared n
 
 -- THE PLACE of the pair (i, j)
 module _ (n i j : ℕ) where

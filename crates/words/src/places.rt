@@ -1,5 +1,6 @@
 // Where words stand in a lent run of N × N words: row i for input i, column j for output j.
 ghost use mathlib.Core.Path.{_≡_};
+ghost use Prim.Native.Nat.{_+_, _*_, _≤_};
 ghost use Rattle.words.specs.Places.{is-port, row-of, place-of};
 use wsgs::Input;
 use wsgs::MAX_PORTS;
@@ -21,6 +22,7 @@ pub fn is_port(ports: usize, number: u64) -> bool
 // Where the row of an input begins; 0 where it is no port.
 pub fn row_of(ports: usize, input: Input) -> usize
     ensures row { λ r. ⌜ r ≡ row-of ports (input .0) ⌝ }
+    ensures within { λ r. ⌜ r + ports ≤ ports * ports ⌝ }
 {
     if !is_port(ports, input.0) {
         return 0;

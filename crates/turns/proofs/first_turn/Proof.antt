@@ -10,7 +10,7 @@ use Rattle.wsgs.specs.Basics.{Port}
 use Rattle.wsgs.proofs.Laws.Lowest.{lowest-some}
 use Rattle.turns.specs.Requests.{has-turn, Turn, lowest-common, first-output, first-waiting}
 use Rattle.turns.proofs.Choice.{charged-some, charged-none}
-use Rattle.turns.proofs.TurnLaws.{due, is-due, not-due, row-there, row-fits, with-turn, without-turn, both-yes, first-no, second-no, requested-at, first-takes, first-tells}
+use Rattle.turns.proofs.TurnLaws.{due, is-due, not-due, row-there, with-turn, without-turn, both-yes, first-no, second-no, requested-at, first-takes, first-tells}
 use Rattle.turns.proofs.first_turn.Statement.{statement}
 use Rattle.turns.proofs.first_turn.Tie as tie
 
@@ -42,7 +42,7 @@ found o =
     with-turn (both-yes (is-due _ _ _ (by-credits e)) (is-due _ _ _ (by-queues e)))
     (o .lowest-open .ensures
     ∙ ap (λ asked. lowest-common (a .free) asked (a .ports))
-    (requested-at _ _ _ _ (a .input .0) _ _ (row-there _ _ _ (by-queues e) _ (w .row-of .ensures)) (q .requests-of .ensures .0)))
+    (requested-at _ _ _ _ (a .input .0) _ _ (row-there _ _ _ (by-queues e) _ (w .row-of .ensures .0)) (q .requests-of .ensures .0)))
 
 taken : (c : tie.Then3) → let o = c .before .before in Port (start (placed (swept o) .before) .args .ports) (o .lowest-open .result .0)
 taken c = lowest-some _ _ _ (c .before .before .lowest-open .ensures) (c .if3 .taken) .0
@@ -54,7 +54,7 @@ known q =
     let w = placed q in
     let e = w .before in
     with-turn (both-yes (is-due _ _ _ (by-credits e)) (is-due _ _ _ (by-queues e)))
-    (requested-at _ _ _ _ (start e .args .input .0) _ _ (row-there _ _ _ (by-queues e) _ (w .row-of .ensures)) (q .requests-of .ensures .1))
+    (requested-at _ _ _ _ (start e .args .input .0) _ _ (row-there _ _ _ (by-queues e) _ (w .row-of .ensures .0)) (q .requests-of .ensures .1))
 
 has-turn-requires : tie.Need-has-turn-requires
 has-turn-requires c κs = search needs
@@ -96,7 +96,7 @@ requests-of-requires : tie.Need-requests-of-requires
 requests-of-requires c κs =
     let w = c .before .before in
     let d = by-queues (w .before) in
-    let inside = row-fits _ _ _ d _ (w .row-of .ensures) in
+    let inside = w .row-of .ensures .1 in
     (d .few, (omega (arith, inside, by-credits (w .before) .long), omega (arith, inside, d .long)))
 
 lowest-open-requires : tie.Need-lowest-open-requires

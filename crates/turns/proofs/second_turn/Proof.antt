@@ -4,7 +4,7 @@ use native.Mathlib.Omega.{arith}
 use borrow.Author.Needs.{needs}
 use Rattle.turns.specs.Requests.{Turn, waiting-output, second-output}
 use Rattle.turns.proofs.Choice.{charged-none}
-use Rattle.turns.proofs.TurnLaws.{due, not-due, row-there, row-fits, without-turn, requested-at, second-takes}
+use Rattle.turns.proofs.TurnLaws.{due, not-due, row-there, without-turn, requested-at, second-takes}
 use Rattle.turns.proofs.second_turn.Statement.{statement}
 use Rattle.turns.proofs.second_turn.Tie as tie
 
@@ -24,7 +24,7 @@ found t =
     let a = start r .args in
     t .waiting-turn .ensures .0
     ∙ ap (λ asked. waiting-output (a .free) asked (a .ports) (a .input .0) (a .queues .now))
-    (requested-at (a .bits .now) (a .queues .now) (a .queues .now) _ (a .input .0) _ _ (row-there _ _ _ (allowed (r .before)) _ (r .row-of .ensures))
+    (requested-at (a .bits .now) (a .queues .now) (a .queues .now) _ (a .input .0) _ _ (row-there _ _ _ (allowed (r .before)) _ (r .row-of .ensures .0))
     (w .waiting-outputs .ensures))
 
 has-turn-requires : tie.Need-has-turn-requires
@@ -42,7 +42,7 @@ waiting-outputs-requires : tie.Need-waiting-outputs-requires
 waiting-outputs-requires c κs =
     let r = c .before in
     let d = allowed (r .before) in
-    (d .few, omega (arith, row-fits _ _ _ d _ (r .row-of .ensures), d .long))
+    (d .few, omega (arith, r .row-of .ensures .1, d .long))
 
 waiting-turn-requires : tie.Need-waiting-turn-requires
 waiting-turn-requires c κs = search needs

@@ -1,9 +1,10 @@
 -- `places::place_of` meets its contract: the place lies within the matrix, which is few words. Assumes nothing.
 use mathlib.Core.Path.{_∙_, ap}
-use Prim.Native.Nat.{_+_, _-_, _≤_}
+use Prim.Native.Nat.{_+_, _-_}
 use native.Mathlib.Omega.{arith}
 use borrow.Author.Needs.{needs}
-use Rattle.words.proofs.PlaceLaws.{Known, known, unknown, row-is, row-small, no-input, no-output, place-there}
+use Rattle.wsgs.proofs.Laws.Words.{square-small}
+use Rattle.words.proofs.PlaceLaws.{Known, known, unknown, row-is, no-input, no-output, place-there}
 use Rattle.words.proofs.places.place_of.Statement.{statement}
 use Rattle.words.proofs.places.place_of.Tie as tie
 
@@ -39,14 +40,13 @@ add-result : tie.Need-add-result
 add-result c =
     let e = c .before .before in
     let o = output e in
-    let row : c .before .row-of .result ≤ 1024 = rw (c .before .row-of .ensures) (row-small _ _) in
-    omega (arith, o .few, o .port)
+    omega (arith, c .before .row-of .ensures .1, square-small (start e .args .ports) (o .few), o .port)
 
 returns-3 : tie.Need-returns-3
 returns-3 c =
     let e = c .before .before in
     let p = input e in
-    ap (λ row. row + (start e .args .output .0 - 1)) (c .before .row-of .ensures ∙ row-is _ _ (p .few) (p .port))
+    ap (λ row. row + (start e .args .output .0 - 1)) (c .before .row-of .ensures .0 ∙ row-is _ _ (p .few) (p .port))
     ∙ place-there _ _ _ (p .yes) (output e .yes)
 
 pub place-of-spec : {M : Type 1} → statement M
