@@ -1,11 +1,11 @@
--- `turns::all_free` meets its contract: from 32 ports on all bits are set, and below them one bit for each. Assumes nothing.
+-- `masks::all_free` meets its contract: from 32 ports on all bits are set, and below them one bit for each. Assumes nothing.
 use native.Mathlib.Omega.{arith}
 use borrow.Author.Needs.{needs}
 use lib.Pow.{pow-pos}
 use Rattle.turns.proofs.BitLaws.{one-shl}
 use Rattle.turns.proofs.MaskLaws.{all-set, lowest-set}
-use Rattle.turns.proofs.all_free.Statement.{statement}
-use Rattle.turns.proofs.all_free.Tie as tie
+use Rattle.turns.proofs.masks.all_free.Statement.{statement}
+use Rattle.turns.proofs.masks.all_free.Tie as tie
 
 returns : tie.Need-returns
 returns c = all-set _ (c .if1 .taken)

@@ -16,8 +16,9 @@ use Rattle.wsgs.specs.Steps.{given}
 use Rattle.wsgs.proofs.Laws.Tests.{updated-at, updated-other, eqb-sym}
 use Rattle.wsgs.proofs.Laws.Lowest.{some-ext, some-short}
 use Rattle.wsgs.proofs.Laws.Listed.{listed-set, listed-none}
-use Rattle.turns.specs.Masks.{in-mask}
-use Rattle.direct.specs.Passes.{Held}
+use Rattle.turns.specs.Masks.{in-mask, without}
+use Rattle.turns.proofs.MaskLaws.{taken}
+use Rattle.direct.specs.Passes.{PassState}
 use Rattle.direct.proofs.Spent.{spent-none, spent-more}
 
 -- a test changed at one number, which did not pass it
@@ -46,7 +47,7 @@ given-short f x n j l h z =
     some-short (λ i. eqb (f i) j) (λ i. eqb (f i) j) x n l (λ i p. refl) (λ i p u. rw (z i u) (ne-eqb 0 j (omega arith)))
 
 -- at first none
-pub held-none : (n free : ℕ) (queues : List ℕ) → ((j : ℕ) → Port n j → in-mask free j ≡ true) → Held n queues (λ i. 0) free (replicate 32 0) queues
+pub held-none : (n free : ℕ) (queues : List ℕ) → ((j : ℕ) → Port n j → in-mask free j ≡ true) → PassState n queues (λ i. 0) free (replicate 32 0) queues
 unfolding some-of
 held-none n free queues h =
     record {
@@ -56,15 +57,14 @@ held-none n free queues h =
       cost = sym (spent-none n queues n);
     }
 
-module _ (n : ℕ) (few : n ≤ 32) (start : List ℕ) (f : ℕ → ℕ) (free : ℕ) (outputs queues : List ℕ) (h : Held n start f free outputs queues) where
+module _ (n : ℕ) (few : n ≤ 32) (start : List ℕ) (f : ℕ → ℕ) (free : ℕ) (outputs queues : List ℕ) (h : PassState n start f free outputs queues) where
   -- input x + 1 gets output v
-  pub held-more : (x v free′ : ℕ) → x < n → f (suc x) ≡ 0 → Port n v
-      → ((k : ℕ) → Port 32 k → in-mask free′ k ≡ (in-mask free k && not (eqb k v)))
-      → Held n start (updated f (suc x) v) free′ (set outputs x v) (less-one n queues (suc x) v)
-  held-more x v free′ l e p m =
+  pub held-more : (x v : ℕ) → x < n → f (suc x) ≡ 0 → Port n v
+      → PassState n start (updated f (suc x) v) (without free v) (set outputs x v) (less-one n queues (suc x) v)
+  held-more x v l e p =
       record {
         bound = λ i. at i (eqb i (suc x));
-        mask = λ j q. m j (omega arith) ∙ rw (h .mask j q, given-more f n (suc x) v j (omega arith) e (q .low)) (go (given f n j) j (eqb-sym j v));
+        mask = λ j q. taken free v j (omega arith) ∙ rw (h .mask j q, given-more f n (suc x) v j (omega arith) e (q .low)) (go (given f n j) j (eqb-sym j v));
         list = rw (h .list) (listed-set 32 f x v (omega arith));
         cost = rw (h .cost) (sym (spent-more n start f (suc x) v n (omega arith) e (p .low)));
       }
