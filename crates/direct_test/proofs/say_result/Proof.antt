@@ -1,8 +1,8 @@
--- `say_answer` is safe: every place is below 32. Assumes nothing.
+-- `say_result` is safe: every place is below 32. Assumes nothing.
 use Prim.Native.Nat.{_-_, _≤_}
 use borrow.Author.Needs.{needs}
-use Rattle.direct_test.proofs.say_answer.Statement.{statement}
-use Rattle.direct_test.proofs.say_answer.Tie as tie
+use Rattle.direct_test.proofs.say_result.Statement.{statement}
+use Rattle.direct_test.proofs.say_result.Tie as tie
 
 abbrev Inv-loop : tie.InvT-loop
 Inv-loop outputs first-pass place₀ t8 place = place ≤ 32
@@ -64,8 +64,8 @@ say-number-requires-3 c κs = search needs
 returns : tie.Need-returns Inv-loop μ-loop
 returns c = search needs
 
-pub say-answer-spec : {M : Type 1} → statement M
-say-answer-spec =
+pub say-result-spec : {M : Type 1} → statement M
+say-result-spec =
     tie.close
     (tie.spec
     Inv-loop
