@@ -13,10 +13,11 @@ use Rattle.wsgs.specs.Steps.{Matching, empty-matching, nine-steps}
 use Rattle.wsgs.specs.Switch.{Switch, Form, direct, pipelined, Call, final}
 use Rattle.wsgs.specs.Ledger.{Ledger, ledger-of, answered, has-turns, tick-two}
 use Rattle.wsgs.specs.Seen.{Seen, seen, steps-answer, early-answer}
-use Rattle.wsgs.specs.Claims.{all-of-form, opens, Same, PipelinedBegins, NoOutputTwice, MatchingMaximal}
+use Rattle.wsgs.specs.Claims.{all-of-form, opens, Same, PipelinedBegins, NoOutputTwice, MatchingMaximal, PacketsConserved}
 use Rattle.wsgs.proofs.Steps.{once, maximal}
 use Rattle.wsgs.proofs.Share.{Fair}
 use Rattle.wsgs.proofs.Trace.{trace-of}
+use Rattle.wsgs.proofs.Packets
 use Rattle.wsgs.proofs.Direct.FollowsSteps as DirectForm
 use Rattle.wsgs.proofs.Pipelined.FollowsSteps as PipelinedForm
 
@@ -75,3 +76,7 @@ maximal-answered m cs s o t k i j a b pi pj e d =
     let l = ledger-of cs s in
     let same : (x : ℕ) → Port (l .ports) x → Same x (l .answer k) (steps-answer l (seen cs s) k) = λ x px. fair m cs s o t .follows k x a b px in
     maximal (l .ports) _ _ _ i j pi pj (sym (same i pi .output) ∙ e) (λ x px z. d x px (same x px .output ∙ z))
+
+-- and packets are conserved
+pub conserved : PacketsConserved
+conserved m cs s o t = Packets.conserved m (ledger-of cs s) (seen cs s) (final cs s) (trace-of m cs s o t)

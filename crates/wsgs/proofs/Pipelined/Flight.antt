@@ -84,7 +84,7 @@ module _ (n : ℕ) (flight : List ℕ) (holds : 2 * n * n ≤ length flight) (i 
       ∙ rows-from n flight i j k
 
   -- a row that is cleared
-  clear-row : (s : ℕ) → 1 ≤ s → 1 ≤ j → rows-with n (row-cleared n flight s) i j + stands n flight i j s ≡ rows-with n flight i j
+  pub clear-row : (s : ℕ) → 1 ≤ s → 1 ≤ j → rows-with n (row-cleared n flight s) i j + stands n flight i j s ≡ rows-with n flight i j
   clear-row s a b =
       let new = row-cleared n flight s in
       rw (← rows-from n new i j s, ← rows-from n flight i j s)
