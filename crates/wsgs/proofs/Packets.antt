@@ -2,13 +2,13 @@
 -- pair's. So what has arrived is queued, in flight or answered. Assumes nothing.
 use mathlib.Core.Path.{_≡_, refl, _∙_, ap, subst}
 use mathlib.Core.Logic.{inl}
-use Prim.Native.Nat.{ℕ, zero, suc, _+_, _-_, _*_, _≤_, _<_}
+use Prim.Native.Nat.{ℕ, zero, suc, _+_, _*_, _≤_, _<_}
 use native.Mathlib.Omega.{arith}
 use native.Mathlib.Numerals.{add-one}
 use lib.Dec.{eqb}
 use Rattle.wsgs.specs.Basics.{bit, Port, sum}
 use Rattle.wsgs.specs.Words.{word}
-use Rattle.wsgs.specs.Steps.{Matching, empty-matching}
+use Rattle.wsgs.specs.Steps.{Matching}
 use Rattle.wsgs.specs.Direct
 use Rattle.wsgs.specs.Pipelined.{output-in, reserved}
 use Rattle.wsgs.specs.Switch.{Switch, Form, direct, pipelined, tick, apply, direct-runs, pipelined-runs}
@@ -17,7 +17,7 @@ use Rattle.wsgs.specs.Seen.{Seen}
 use Rattle.wsgs.specs.Packets.{flying, answers}
 use Rattle.wsgs.proofs.Laws.Tests.{bit-split, bit-ne}
 use Rattle.wsgs.proofs.Laws.Sums.{sum-zero, sum-last}
-use Rattle.wsgs.proofs.Refusals.{Sizes, ticked, direct-asked, pipelined-asked}
+use Rattle.wsgs.proofs.Refusals.{ticked, direct-asked, pipelined-asked}
 use Rattle.wsgs.proofs.Trace.{Trace, Between, Cleared, left, left-after}
 use Rattle.wsgs.proofs.Direct.Tick as DirectTick
 use Rattle.wsgs.proofs.Pipelined.Tick as PipelinedTick

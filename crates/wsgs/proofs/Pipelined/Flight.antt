@@ -93,7 +93,7 @@ module _ (n : ℕ) (flight : List ℕ) (holds : 2 * n * n ≤ length flight) (i 
         sum-last (λ v. stands n new i j (s + v)) (2 * n - 1) (2 * n) (omega arith),
         sum-last (λ v. stands n flight i j (s + v)) (2 * n - 1) (2 * n) (omega arith),
         sum-ext (λ v. stands n new i j (s + v)) (λ v. stands n flight i j (s + v)) (2 * n - 1)
-        (λ v p. ap (λ z. bit (eqb (output-in n z) j)) (emptied-rest n flight holds s (s + v) i pi a (omega arith) (omega arith))),
+            (λ v p. ap (λ z. bit (eqb (output-in n z) j)) (emptied-rest n flight holds s (s + v) i pi a (omega arith) (omega arith))),
         ap (λ z. bit (eqb (output-in n z) j)) (emptied-row n flight holds s i pi),
         bit-ne 0 j (λ e. omega arith),
         returns n flight i j s,
