@@ -13,7 +13,7 @@ use Rattle.wsgs.specs.Steps.{Matching, empty-matching, nine-steps}
 use Rattle.wsgs.specs.Switch.{Switch, Form, direct, pipelined, Call, final}
 use Rattle.wsgs.specs.Ledger.{Ledger, ledger-of, answered, has-turns, tick-two}
 use Rattle.wsgs.specs.Seen.{Seen, seen, steps-answer, early-answer}
-use Rattle.wsgs.specs.Claims.{all-of-form, opens, Same, PipelinedBegins, NoOutputTwice, MatchingMaximal, PacketsConserved}
+use Rattle.wsgs.specs.Claims.{all-of-form, opens, Same, PipelinedBegins, NoOutputTwice, MatchingMaximal, PacketsConserved, QueuesSeen}
 use Rattle.wsgs.proofs.Steps.{once, maximal}
 use Rattle.wsgs.proofs.Share.{Fair}
 use Rattle.wsgs.proofs.Trace.{trace-of}
@@ -25,6 +25,11 @@ use Rattle.wsgs.proofs.Pipelined.FollowsSteps as PipelinedForm
 pub fair : (m : Form) (cs : List Call) (s : Switch) → T (all-of-form m cs) → T (opens cs s) → Fair (ledger-of cs s) (seen cs s)
 fair direct cs s o t = DirectForm.fair (ledger-of cs s) (seen cs s) (final cs s) (trace-of direct cs s o t)
 fair pipelined cs s o t = PipelinedForm.fair (ledger-of cs s) (seen cs s) (final cs s) (trace-of pipelined cs s o t)
+
+-- of the queues seen
+pub queued : QueuesSeen
+queued direct cs s o t = DirectForm.queued (ledger-of cs s) (seen cs s) (final cs s) (trace-of direct cs s o t)
+queued pipelined cs s o t = PipelinedForm.queued (ledger-of cs s) (seen cs s) (final cs s) (trace-of pipelined cs s o t)
 
 -- the first 2n slots of the pipelined form
 pub begins : PipelinedBegins

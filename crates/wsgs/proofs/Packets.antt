@@ -23,7 +23,7 @@ use Rattle.wsgs.proofs.Direct.Tick as DirectTick
 use Rattle.wsgs.proofs.Pipelined.Tick as PipelinedTick
 
 -- the packets of a pair that a switch has, queued and in flight
-unfoldable packets : Form → ℕ → Switch → ℕ → ℕ → ℕ
+unfoldable pub packets : Form → ℕ → Switch → ℕ → ℕ → ℕ
 packets m n s i j = word n (s .queues) i j + flying m n s i j
 
 -- A TICK answers one of them or none
@@ -67,7 +67,7 @@ module _ (m : Form) (l : Ledger) (h : Seen) (now : Switch) (t : Trace m l h now)
   n = l .ports
 
   -- what the first k ticks answered
-  abbrev answered-by : ℕ → ℕ
+  abbrev pub answered-by : ℕ → ℕ
   answered-by k = count-one l i j (slot-of-tick (l .form) k) + count-two l i j (slot-of-tick (l .form) k)
 
   -- a pair's answers are by one pass or by the other
@@ -130,6 +130,10 @@ module _ (m : Form) (l : Ledger) (h : Seen) (now : Switch) (t : Trace m l h now)
   account : (k : ℕ) → k ≤ l .ticks → Account k
   account zero g = account-first
   account (suc k) g = rw (add-one k) at (account-next k g (account k (omega arith)))
+
+  -- and before it
+  pub found : (k : ℕ) → k < l .ticks → packets m n (t .at (k + 1)) i j + answered-by k ≡ l .arrived-before (k + 1) i j
+  found k g = omega (arith, account k (omega arith), packets-between m n _ _ _ _ (t .past k g .follows) i j pi pj)
 
   -- and now
   pub conserved : l .arrived i j ≡ word n (now .queues) i j + flying m n now i j + answers l i j
