@@ -36,7 +36,7 @@ module _ (n : ℕ) (flight : List ℕ) (i j : ℕ) where
   returns u = rw (add-mod-right u (2 * n))
 
   -- so the rows can be told from any slot on
-  rows-from : (k : ℕ) → sum (λ v. stands n flight i j (k + v)) (2 * n) ≡ rows-with n flight i j
+  pub rows-from : (k : ℕ) → sum (λ v. stands n flight i j (k + v)) (2 * n) ≡ rows-with n flight i j
   rows-from = sum-round (stands n flight i j) (2 * n) returns
 
 module _ (n : ℕ) (flight : List ℕ) (holds : 2 * n * n ≤ length flight) (i j : ℕ) (pi : Port n i) where
