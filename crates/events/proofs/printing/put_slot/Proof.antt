@@ -2,17 +2,17 @@
 use borrow.Author.Tests.{eq-eqb, ne-eqb}
 use Rattle.lines.proofs.Writing.{wrote-is}
 use borrow.Author.Needs.{needs}
-use Rattle.events.proofs.printing.put_ran.Statement.{statement}
-use Rattle.events.proofs.printing.put_ran.Tie as tie
+use Rattle.events.proofs.printing.put_slot.Statement.{statement}
+use Rattle.events.proofs.printing.put_slot.Tie as tie
 
-put-refused-requires : tie.Need-put-refused-requires
-put-refused-requires c κs = search needs
+put-refusal-requires : tie.Need-put-refusal-requires
+put-refusal-requires c κs = search needs
 
 same-length : tie.Need-same-length
 same-length c = search needs
 
 returns : tie.Need-returns
-returns c = wrote-is (c .before .before .put-refused .ensures) (rw (ne-eqb _ _ (c .before .before .before .before .if1 .taken)))
+returns c = wrote-is (c .before .before .put-refusal .ensures) (rw (ne-eqb _ _ (c .before .before .before .before .if1 .taken)))
 
 put-pairs-requires : tie.Need-put-pairs-requires
 put-pairs-requires c κs = search needs
@@ -23,7 +23,7 @@ same-length-2 c = search needs
 returns-2 : tie.Need-returns-2
 returns-2 c = wrote-is (c .before .before .put-pairs .ensures) (rw (eq-eqb _ _ (c .before .before .before .before .before .before .before .if1 .left)))
 
-pub put-ran-spec : {M : Type 1} → statement M
-put-ran-spec =
+pub put-slot-spec : {M : Type 1} → statement M
+put-slot-spec =
     tie.close
-    (tie.spec put-refused-requires same-length returns put-pairs-requires same-length-2 returns-2)
+    (tie.spec put-refusal-requires same-length returns put-pairs-requires same-length-2 returns-2)

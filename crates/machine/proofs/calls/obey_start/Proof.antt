@@ -1,8 +1,8 @@
--- A record that starts a direct switch.
-use Rattle.machine.proofs.Effects.{start-obeys}
+-- A direct start, by what the call gives back.
+use Rattle.machine.proofs.RecordLaws.{start-obeyed}
 use borrow.Author.Needs.{needs}
-use Rattle.machine.proofs.calls.start_record.Statement.{statement}
-use Rattle.machine.proofs.calls.start_record.Tie as tie
+use Rattle.machine.proofs.calls.obey_start.Statement.{statement}
+use Rattle.machine.proofs.calls.obey_start.Tie as tie
 
 start-direct-requires : tie.Need-start-direct-requires
 start-direct-requires c κs = search needs
@@ -25,14 +25,13 @@ same-length-3 c = search needs
 returns : tie.Need-returns
 returns c =
     let call = c .before .before .before .before .before .before .before .before in
-    let s = call .before .before .before .before .before .before .before .before .args in
-    let e = call .start-direct .ensures in
+    let a = call .before .before .before .before .before .before .before .before .args in
     λ z p f.
-    start-obeys _ _ _ _ p f _ _ z _ _ _ (c .refusal .ensures (s .bookings .now) (s .credits .now) (s .queues .now) p f) _ _ _ (e .0) (e .1 .0)
-    (e .1 .1 .0) (e .1 .1 .1) (c .before .after-start .ensures)
+    start-obeyed (a .machine) (a .bookings .now) (a .credits .now) (a .queues .now) p f _ _ z (call .start-direct .result) _ _ (c .refusal .ensures) _ _ _ (c .before .after-start .ensures)
+    (call .start-direct .ensures)
 
-pub start-record-spec : {M : Type 1} → statement M
-start-record-spec =
+pub obey-start-spec : {M : Type 1} → statement M
+obey-start-spec =
     tie.close
     (tie.spec
     start-direct-requires

@@ -1,8 +1,8 @@
--- A record that starts a pipelined switch.
-use Rattle.machine.proofs.Effects.{pipe-obeys}
+-- A pipelined start, by what the call gives back.
+use Rattle.machine.proofs.RecordLaws.{pipe-obeyed}
 use borrow.Author.Needs.{needs}
-use Rattle.machine.proofs.calls.pipe_record.Statement.{statement}
-use Rattle.machine.proofs.calls.pipe_record.Tie as tie
+use Rattle.machine.proofs.calls.obey_pipe.Statement.{statement}
+use Rattle.machine.proofs.calls.obey_pipe.Tie as tie
 
 start-pipelined-requires : tie.Need-start-pipelined-requires
 start-pipelined-requires c κs = search needs
@@ -31,15 +31,13 @@ same-length-5 c = search needs
 returns : tie.Need-returns
 returns c =
     let call = c .before .before .before .before .before .before .before .before .before .before .before .before in
-    let s = call .before .before .before .before .before .before .before .before .before .before .before .before .args in
-    let e = call .start-pipelined .ensures in
-    let et = c .refusal .ensures (s .bookings .now) (s .credits .now) (s .queues .now) (s .copy .now) (s .flight .now) in
+    let a = call .before .before .before .before .before .before .before .before .before .before .before .before .args in
     λ z.
-    pipe-obeys _ _ _ _ _ _ _ _ z _ _ _ et _ _ _ _ _ (e .0) (e .1 .0) (e .1 .1 .0) (e .1 .1 .1 .0) (e .1 .1 .1 .1 .0) (e .1 .1 .1 .1 .1)
-    (c .before .after-start .ensures)
+    pipe-obeyed (a .machine) (a .bookings .now) (a .credits .now) (a .queues .now) (a .copy .now) (a .flight .now) _ _ z (call .start-pipelined .result) _ _ (c .refusal .ensures) _ _ _ _ _
+    (c .before .after-start .ensures) (call .start-pipelined .ensures)
 
-pub pipe-record-spec : {M : Type 1} → statement M
-pipe-record-spec =
+pub obey-pipe-spec : {M : Type 1} → statement M
+obey-pipe-spec =
     tie.close
     (tie.spec
     start-pipelined-requires
