@@ -14,7 +14,7 @@ use Rattle.wsgs.specs.Steps.{given}
 use Rattle.wsgs.specs.Pipelined.{output-in, flight-place, in-flight, standing}
 use Rattle.wsgs.proofs.Laws.Tests.{eqb-sym}
 use Rattle.turns.specs.Masks.{in-mask, all-free, without}
-use Rattle.turns.proofs.MaskLaws.{free-first, taken}
+use Rattle.turns.proofs.MaskLaws.{free-first, in-without}
 
 -- the output of input i, by the row that begins at a place
 abbrev read-in : ℕ → List ℕ → ℕ → ℕ → ℕ
@@ -38,7 +38,7 @@ module _ (n : ℕ) (few : n ≤ 32) (flight : List ℕ) (row : ℕ) where
   free-more column w v w′ some none e h =
       record {
         free = λ j p.
-            rw (e, add-one column, taken w (v + 1) j (omega arith), h .free j p, place)
+            rw (e, add-one column, in-without w (v + 1) j (omega arith), h .free j p, place)
             (both (given (read-in n flight row) column j) _ _ (same j p (decLt v n)));
       }
     where

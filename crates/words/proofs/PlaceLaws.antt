@@ -45,12 +45,12 @@ module _ (n x : ℕ) where
   port-passes few p = rw (le-leb n 32 few, range-in 1 n x (p .low) (p .high))
 
   -- what is known where the question is answered yes
-  pub record Known : Type 0 where
+  pub record IsPort : Type 0 where
     pub yes : is-port n x ≡ true
     pub few : n ≤ 32
     pub port : Port n x
 
-  pub known : {answer : Bool} → answer ≡ is-port n x → not answer ≡ false → Known
+  pub known : {answer : Bool} → answer ≡ is-port n x → not answer ≡ false → IsPort
   unfolding is-port
   known e h =
       let yes : is-port n x ≡ true = sym e ∙ not-false _ h in
