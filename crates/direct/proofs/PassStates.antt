@@ -17,7 +17,7 @@ use Rattle.wsgs.proofs.Laws.Tests.{updated-at, updated-other, eqb-sym}
 use Rattle.wsgs.proofs.Laws.Lowest.{some-ext, some-short}
 use Rattle.wsgs.proofs.Laws.Listed.{listed-set, listed-none}
 use Rattle.turns.specs.Masks.{in-mask, without}
-use Rattle.turns.proofs.MaskLaws.{taken}
+use Rattle.turns.proofs.MaskLaws.{in-without}
 use Rattle.direct.specs.Passes.{PassState}
 use Rattle.direct.proofs.Spent.{spent-none, spent-more}
 
@@ -64,7 +64,7 @@ module _ (n : ℕ) (few : n ≤ 32) (start : List ℕ) (f : ℕ → ℕ) (free :
   held-more x v l e p =
       record {
         bound = λ i. at i (eqb i (suc x));
-        mask = λ j q. taken free v j (omega arith) ∙ rw (h .mask j q, given-more f n (suc x) v j (omega arith) e (q .low)) (go (given f n j) j (eqb-sym j v));
+        mask = λ j q. in-without free v j (omega arith) ∙ rw (h .mask j q, given-more f n (suc x) v j (omega arith) e (q .low)) (go (given f n j) j (eqb-sym j v));
         list = rw (h .list) (listed-set 32 f x v (omega arith));
         cost = rw (h .cost) (sym (spent-more n start f (suc x) v n (omega arith) e (p .low)));
       }

@@ -1,5 +1,5 @@
 -- The outputs that are free for a slot, as each word of its row takes the output that it stands for: bit j - 1 for output j. Assumes nothing.
-use mathlib.Core.Path.{_≡_, refl, sym, ap, _∙_}
+use mathlib.Core.Path.{_≡_, sym, ap, _∙_}
 use mathlib.Core.Bool.{Bool, true, false, not, _&&_, _||_, or-true, or-false}
 use mathlib.Core.List.{List}
 use Prim.Native.Nat.{ℕ, suc, _+_, _-_, _*_, _%_, _≤_, _<_}
@@ -14,7 +14,7 @@ use Rattle.wsgs.specs.Steps.{given}
 use Rattle.wsgs.specs.Pipelined.{output-in, flight-place, in-flight, standing}
 use Rattle.wsgs.proofs.Laws.Tests.{eqb-sym}
 use Rattle.turns.specs.Masks.{in-mask, all-free, without}
-use Rattle.turns.proofs.MaskLaws.{free-first, taken}
+use Rattle.turns.proofs.MaskLaws.{free-first, in-without}
 
 -- the output of input i, by the row that begins at a place
 abbrev read-in : ℕ → List ℕ → ℕ → ℕ → ℕ
@@ -38,7 +38,7 @@ module _ (n : ℕ) (few : n ≤ 32) (flight : List ℕ) (row : ℕ) where
   free-more column w v w′ some none e h =
       record {
         free = λ j p.
-            rw (e, add-one column, taken w (v + 1) j (omega arith), h .free j p, place)
+            rw (e, add-one column, in-without w (v + 1) j (omega arith), h .free j p, place)
             (both (given (read-in n flight row) column j) _ _ (same j p (decLt v n)));
       }
     where

@@ -27,11 +27,11 @@ pub one-shl : (m j : ℕ) → j < m → (1 * 2 ^ j) % 2 ^ m ≡ 2 ^ j
 one-shl m j h = shl-exact 1 j m (omega arith) (omega arith) ∙ one-mul (2 ^ j)
 
 -- 2 ^ j has bit j
-pub pow-here : (j : ℕ) → 2 ^ j / 2 ^ j % 2 ≡ 1
+pow-here : (j : ℕ) → 2 ^ j / 2 ^ j % 2 ≡ 1
 pow-here j = rw (div-self (pow-pos j))
 
 -- and no other
-pub pow-other : (j k : ℕ) → k ≢ j → 2 ^ j / 2 ^ k % 2 ≡ 0
+pow-other : (j k : ℕ) → k ≢ j → 2 ^ j / 2 ^ k % 2 ≡ 0
 pow-other j k ne = elim (decLt k j) [ yes l ↦ above l | no g ↦ below (omega arith) ]
   where
     below : j < k → 2 ^ j / 2 ^ k % 2 ≡ 0

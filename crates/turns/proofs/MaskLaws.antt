@@ -113,9 +113,9 @@ module _ (w k : ℕ) (small : k < 32) where
       go false h = other h (ℕ-discrete x k)
 
 -- so of the outputs 1..32 all but the one that is taken are free that were
-pub taken : (w j k : ℕ) → Port 32 k → in-mask (without w j) k ≡ (in-mask w k && not (eqb k j))
-taken w j zero p = absurd (omega arith)
-taken w j (suc k) p = go j (decLe 1 j) (decLe j 32)
+pub in-without : (w j k : ℕ) → Port 32 k → in-mask (without w j) k ≡ (in-mask w k && not (eqb k j))
+in-without w j zero p = absurd (omega arith)
+in-without w j (suc k) p = go j (decLe 1 j) (decLe j 32)
   where
     -- an output without a bit is none of them
     none : (j : ℕ) → (j < 1) ⊎ (32 < j) → suc k ≢ j → in-mask (without w j) (suc k) ≡ (in-mask w (suc k) && not (eqb (suc k) j))

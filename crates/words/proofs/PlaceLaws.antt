@@ -9,7 +9,7 @@ use lib.Dec.{leb, leb→le}
 use Rattle.wsgs.specs.Basics.{pick, between, Port}
 use Rattle.wsgs.specs.Words.{place}
 use Rattle.wsgs.proofs.Laws.Tests.{both, between-port, range-in}
-use Rattle.wsgs.proofs.Laws.Words.{row-within}
+use Rattle.wsgs.proofs.Laws.Words.{row-within, place-inside}
 use Rattle.words.specs.Places.{is-port, row-of, place-of}
 
 -- a product of ports fits a word of 64 bits
@@ -45,12 +45,12 @@ module _ (n x : ℕ) where
   port-passes few p = rw (le-leb n 32 few, range-in 1 n x (p .low) (p .high))
 
   -- what is known where the question is answered yes
-  pub record Known : Type 0 where
+  pub record IsPort : Type 0 where
     pub yes : is-port n x ≡ true
     pub few : n ≤ 32
     pub port : Port n x
 
-  pub known : {answer : Bool} → answer ≡ is-port n x → not answer ≡ false → Known
+  pub known : {answer : Bool} → answer ≡ is-port n x → not answer ≡ false → IsPort
   unfolding is-port
   known e h =
       let yes : is-port n x ≡ true = sym e ∙ not-false _ h in
@@ -98,7 +98,11 @@ module _ (n i j : ℕ) where
   unfolding place-of
   place-there a b = rw (a, b)
 
-  -- of two ports
-  pub place-is : n ≤ 32 → Port n i → Port n j → place-of n i j ≡ place n i j
-  unfolding place-of
-  place-is few p q = rw (port-passes n i few p, port-passes n j few q)
+  -- of two ports, and that it lies inside the matrix
+  module _ (at : ℕ) (e : at ≡ place-of n i j) (few : n ≤ 32) (p : Port n i) (q : Port n j) where
+    pub at-place : at ≡ place n i j
+    unfolding place-of
+    at-place = e ∙ rw (port-passes n i few p, port-passes n j few q)
+
+    pub at-inside : at < n * n
+    at-inside = rw at-place (place-inside n i j p q)

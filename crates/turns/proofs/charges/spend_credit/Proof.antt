@@ -3,7 +3,8 @@ use mathlib.Core.Path.{_∙_, ap}
 use Prim.Native.Nat.{_-_, _*_, _<_}
 use native.Mathlib.Omega.{arith}
 use borrow.Author.Needs.{needs}
-use Rattle.turns.proofs.Places.{at-inside, at-less}
+use Rattle.words.proofs.PlaceLaws.{at-place, at-inside}
+use Rattle.turns.proofs.Falls.{at-less}
 use Rattle.turns.proofs.charges.spend_credit.Statement.{statement}
 use Rattle.turns.proofs.charges.spend_credit.Tie as tie
 
@@ -34,7 +35,7 @@ returns c =
     let o = k .before .before in
     let p = o .before .before .pre in
     w .put-credits .ensures
-    ∙ at-less _ _ _ _ (o .place-of .ensures) (p .0) (p .1 .0) (p .1 .1 .0) _ _ (s .spend .ensures ∙ ap (λ left. left - 1) (k .credits-at .ensures))
+    ∙ at-less _ _ _ _ (at-place _ _ _ _ (o .place-of .ensures) (p .0) (p .1 .0) (p .1 .1 .0)) _ _ (s .spend .ensures ∙ ap (λ left. left - 1) (k .credits-at .ensures))
 
 pub spend-credit-spec : {M : Type 1} → statement M
 spend-credit-spec =

@@ -3,7 +3,8 @@ use Prim.Native.Nat.{_*_, _<_}
 use native.Mathlib.Omega.{arith}
 use borrow.Author.Needs.{needs}
 use lib.ListN.{getD}
-use Rattle.turns.proofs.Places.{taken-fits, falls, at-inside, at-less}
+use Rattle.words.proofs.PlaceLaws.{at-place, at-inside}
+use Rattle.turns.proofs.Falls.{taken-fits, falls, at-less}
 use Rattle.turns.proofs.charges.take_packet.Statement.{statement}
 use Rattle.turns.proofs.charges.take_packet.Tie as tie
 
@@ -39,7 +40,7 @@ returns : tie.Need-returns
 returns c =
     let o = c .before in
     let p = o .before .before .pre in
-    at-less _ _ _ _ (o .place-of .ensures) (p .0) (p .1 .0) (p .1 .1 .0) _ _ (falls _)
+    at-less _ _ _ _ (at-place _ _ _ _ (o .place-of .ensures) (p .0) (p .1 .0) (p .1 .1 .0)) _ _ (falls _)
 
 pub take-packet-spec : {M : Type 1} → statement M
 take-packet-spec =

@@ -1,7 +1,7 @@
 -- `credits::spend` meets its contract: a credit falls where there is one. Assumes nothing.
 use native.Mathlib.Omega.{arith}
 use borrow.Author.Needs.{needs}
-use Rattle.turns.proofs.Places.{taken-fits, falls}
+use Rattle.turns.proofs.Falls.{taken-fits, falls}
 use Rattle.turns.proofs.credits.spend.Statement.{statement}
 use Rattle.turns.proofs.credits.spend.Tie as tie
 

@@ -4,7 +4,7 @@ use Prim.Native.Nat.{_+_, _-_}
 use native.Mathlib.Omega.{arith}
 use borrow.Author.Needs.{needs}
 use Rattle.wsgs.proofs.Laws.Words.{square-small}
-use Rattle.words.proofs.PlaceLaws.{Known, known, unknown, row-is, no-input, no-output, place-there}
+use Rattle.words.proofs.PlaceLaws.{IsPort, known, unknown, row-is, no-input, no-output, place-there}
 use Rattle.words.proofs.places.place_of.Statement.{statement}
 use Rattle.words.proofs.places.place_of.Tie as tie
 
@@ -12,10 +12,10 @@ abbrev start : tie.Else2 → tie.Start
 start c = c .before .before .before .before
 
 -- what is known where both are ports
-input : (c : tie.Else2) → let a = start c .args in Known (a .ports) (a .input .0)
+input : (c : tie.Else2) → let a = start c .args in IsPort (a .ports) (a .input .0)
 input c = let e = c .before .before in known _ _ (e .before .is-port .ensures) (e .if1 .left)
 
-output : (c : tie.Else2) → let a = start c .args in Known (a .ports) (a .output .0)
+output : (c : tie.Else2) → let a = start c .args in IsPort (a .ports) (a .output .0)
 output c = known _ _ (c .before .is-port2 .ensures) (c .if2 .left)
 
 is-port-requires : tie.Need-is-port-requires

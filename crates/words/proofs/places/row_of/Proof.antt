@@ -1,12 +1,12 @@
 -- `places::row_of` meets its contract: the row lies within the matrix, which is few words. Assumes nothing.
 use native.Mathlib.Omega.{arith}
 use borrow.Author.Needs.{needs}
-use Rattle.words.proofs.PlaceLaws.{Known, known, unknown, no-row, row-there, row-inside, product-fits}
+use Rattle.words.proofs.PlaceLaws.{IsPort, known, unknown, no-row, row-there, row-inside, product-fits}
 use Rattle.words.proofs.places.row_of.Statement.{statement}
 use Rattle.words.proofs.places.row_of.Tie as tie
 
 -- what is known where the input is a port
-port : (c : tie.Else1) → let s = c .before .before in Known (s .args .ports) (s .args .input .0)
+port : (c : tie.Else1) → let s = c .before .before in IsPort (s .args .ports) (s .args .input .0)
 port c = known _ _ (c .before .is-port .ensures) (c .if1 .left)
 
 is-port-requires : tie.Need-is-port-requires
