@@ -1,9 +1,9 @@
 """Generated antt text, as rt fmt lays it out."""
 
 
-def column(items):
+def column(items, indent=4):
     """A list with an item to a line."""
-    return "\n    ∷ ".join(items + ["[]"])
+    return ("\n" + " " * indent + "∷ ").join(items + ["[]"])
 
 
 def row(items):

@@ -46,7 +46,13 @@ first-difference k [] (d ∷ ds) = k
 first-difference k (c ∷ cs) [] = k
 first-difference k (c ∷ cs) (d ∷ ds) = elim (same-claim c d) [ true ↦ first-difference (suc k) cs ds | false ↦ k ]
 
--- the number of the first claim that is not as the ledger of the calls on the switch has it; 0 where all are
-unfoldable pub first-wrong : Switch → List Call → List Claim → ℕ
+-- a list of calls on a switch, and the claims that another hand has of it
+pub record Case : Type 0 where
+  pub switch : Switch
+  pub calls : List Call
+  pub expected : List Claim
+
+-- the number of the first claim that is not as the ledger of the calls has it; 0 where all are
+unfoldable pub first-wrong : Case → ℕ
 unfolding ledger-of claims first-difference
-first-wrong s cs ds = first-difference 1 (claims (ledger-of cs s)) ds
+first-wrong c = first-difference 1 (claims (ledger-of (c .calls) (c .switch))) (c .expected)
