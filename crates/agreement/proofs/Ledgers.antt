@@ -1,5 +1,6 @@
--- The definition of the ledger says what the second program's ledger says, after random lists of calls. Where it does not, the refusal to check
--- a list names the number of the first claim that differs. Written by tools/ledgers: do not edit. Assumes nothing.
+-- The definition of the ledger says what the second program's ledger says, after random lists of calls. A theorem that is refused tells the
+-- list, and where the checker prints what it computed, the number of the first claim that differs. Written by tools/ledgers: do not edit.
+-- Assumes nothing.
 use mathlib.Core.Path.{_≡_, refl}
 use mathlib.Core.List.{List, [], _∷_}
 use Rattle.wsgs.specs.Clocks.{clock-of}
