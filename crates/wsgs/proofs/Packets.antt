@@ -36,6 +36,7 @@ abbrev Answers : Form → ℕ → Switch → Type 0
 Answers m n s =
     (i j : ℕ) → Port n i → Port n j → packets m n s i j ≡ packets m n (ticked m s .after) i j + bit (eqb (ticked m s .matching .output i) j)
 
+-- in both forms
 tick-answers : (m : Form) (s : Switch) → apply (tick m) s .refusal ≡ 0 → s .clock .ports ≤ 32 → Answers m (s .clock .ports) s
 unfolding packets flying Direct.ticked Pipelined.ticked
 tick-answers direct s ok few i j pi pj =
@@ -114,6 +115,7 @@ module _ (m : Form) (l : Ledger) (h : Seen) (now : Switch) (t : Trace m l h now)
   none-before : (s : ℕ) → s < slot-of-tick (l .form) 1 → bit (by-one l s i j) + bit (by-two l s i j) ≡ 0
   none-before s g = passes s ∙ ap (λ (a : Matching). bit (eqb (a .output i) j)) (t .unanswered s (inl g)) ∙ bit-ne 0 j (λ e. omega (arith, pj .low))
 
+  -- so before tick 1 nothing was answered
   none-answered : answered-by 0 ≡ 0
   unfolding count-one count-two
   none-answered =
@@ -123,7 +125,7 @@ module _ (m : Form) (l : Ledger) (h : Seen) (now : Switch) (t : Trace m l h now)
         sum-zero (λ s. bit (by-two l s i j)) (slot-of-tick (l .form) 0) (λ s p. omega (arith, none-before s (omega arith))),
       )
 
-  -- one tick on
+  -- and each tick adds its own
   answered-next : (k : ℕ) → answered-by (k + 1) ≡ answered-by k + bit (eqb (l .answer (slot-of-tick (l .form) (k + 1)) .output i) j)
   unfolding count-one count-two
   answered-next k =
@@ -140,11 +142,13 @@ module _ (m : Form) (l : Ledger) (h : Seen) (now : Switch) (t : Trace m l h now)
   abbrev Account : ℕ → Type 0
   Account k = packets m n (left m (base m l (t .before)) (t .at) k) i j + answered-by k ≡ l .arrived-before k i j
 
+  -- after the start
   account-first : Account 0
   unfolding left
   account-first =
       omega (arith, start-leaves m n (l .frame) (t .before) i j pi pj, none-answered, t .none-arrived i j)
 
+  -- and one tick on
   account-next : (k : ℕ) → k < l .ticks → Account k → Account (k + 1)
   account-next k g r =
       let p = t .past k g in
@@ -161,12 +165,12 @@ module _ (m : Form) (l : Ledger) (h : Seen) (now : Switch) (t : Trace m l h now)
         ap (λ (a : Matching). bit (eqb (a .output i) j)) (p .answer),
       ))
 
-  -- so after every tick
+  -- so it stands after every tick
   account : (k : ℕ) → k ≤ l .ticks → Account k
   account zero g = account-first
   account (suc k) g = rw (add-one k) at (account-next k g (account k (omega arith)))
 
-  -- and before it
+  -- before every tick, with what arrived since
   pub found : (k : ℕ) → k < l .ticks → packets m n (t .at (k + 1)) i j + answered-by k ≡ l .arrived-before (k + 1) i j
   found k g = omega (arith, account k (omega arith), packets-between m n _ _ _ _ (t .past k g .follows) i j pi pj)
 
