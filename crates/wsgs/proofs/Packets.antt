@@ -1,26 +1,32 @@
 -- Packets are conserved, in both forms: a start leaves none, the calls between two ticks add what arrives, and a tick answers one or none of a
 -- pair's. So what has arrived is queued, in flight or answered. Assumes nothing.
 use mathlib.Core.Path.{_≡_, refl, _∙_, ap, subst}
+use mathlib.Core.List.{List}
 use mathlib.Core.Logic.{inl}
 use Prim.Native.Nat.{ℕ, zero, suc, _+_, _*_, _≤_, _<_}
 use native.Mathlib.Omega.{arith}
 use native.Mathlib.Numerals.{add-one}
 use lib.Dec.{eqb}
-use Rattle.wsgs.specs.Basics.{bit, Port, sum}
+use Rattle.wsgs.specs.Clocks.{clock-of}
+use Rattle.wsgs.specs.Basics.{pick, bit, Port, sum}
 use Rattle.wsgs.specs.Words.{word}
+use Rattle.wsgs.specs.Book.{arrive-words}
 use Rattle.wsgs.specs.Steps.{Matching}
 use Rattle.wsgs.specs.Direct
-use Rattle.wsgs.specs.Pipelined.{output-in, reserved}
+use Rattle.wsgs.specs.Pipelined
+use Rattle.wsgs.specs.Pipelined.{turn-runs, copied-at, output-in, reserved}
 use Rattle.wsgs.specs.Switch.{Switch, Form, direct, pipelined, tick, apply, direct-runs, pipelined-runs}
 use Rattle.wsgs.specs.Ledger.{Ledger, slot-of-tick, by-one, by-two, count-one, count-two}
 use Rattle.wsgs.specs.Seen.{Seen}
 use Rattle.wsgs.specs.Packets.{flying, answers}
-use Rattle.wsgs.proofs.Laws.Tests.{bit-split, bit-ne}
+use Rattle.wsgs.proofs.Laws.Tests.{range-in, bit-split, bit-ne, at-pair}
+use Rattle.wsgs.proofs.Laws.Words.{word-put, word-cleared}
 use Rattle.wsgs.proofs.Laws.Sums.{sum-zero, sum-last}
-use Rattle.wsgs.proofs.Refusals.{ticked, direct-asked, pipelined-asked}
-use Rattle.wsgs.proofs.Trace.{Trace, Between, Cleared, left, left-after}
+use Rattle.wsgs.proofs.Refusals.{arrive-asked, started, ticked, direct-asked, pipelined-asked}
+use Rattle.wsgs.proofs.Trace.{Trace, Arrivals, none, more, Between, base, started-empty, left, left-after}
 use Rattle.wsgs.proofs.Direct.Tick as DirectTick
-use Rattle.wsgs.proofs.Pipelined.Tick as PipelinedTick
+use Rattle.wsgs.proofs.Pipelined.Tick.{copy-length, after-inputs, sized-after}
+use Rattle.wsgs.proofs.Pipelined.Flight.{clear-row, all-hold}
 
 -- the packets of a pair that a switch has, queued and in flight
 unfoldable pub packets : Form → ℕ → Switch → ℕ → ℕ → ℕ
@@ -31,8 +37,9 @@ abbrev Answers : Form → ℕ → Switch → Type 0
 Answers m n s =
     (i j : ℕ) → Port n i → Port n j → packets m n s i j ≡ packets m n (ticked m s .after) i j + bit (eqb (ticked m s .matching .output i) j)
 
+-- in both forms
 tick-answers : (m : Form) (s : Switch) → apply (tick m) s .refusal ≡ 0 → s .clock .ports ≤ 32 → Answers m (s .clock .ports) s
-unfolding packets flying Direct.ticked
+unfolding packets flying Direct.ticked Pipelined.ticked
 tick-answers direct s ok few i j pi pj =
     let n = s .clock .ports in
     let f = s .clock .frame in
@@ -40,14 +47,44 @@ tick-answers direct s ok few i j pi pj =
     let long = direct-asked s ok in
     omega (arith, DirectTick.queue-after n f k (direct-runs s) long i j pi pj, DirectTick.packet n f k (direct-runs s) long i j pi pj)
 tick-answers pipelined s ok few i j pi pj =
-    PipelinedTick.packets-of (s .clock .ports) (s .clock .frame) (s .clock .slot) (pipelined-runs s) (pipelined-asked s ok) few i j pi pj
+    let n = s .clock .ports in
+    let f = s .clock .frame in
+    let k = s .clock .slot in
+    let w = pipelined-runs s in
+    let long = pipelined-asked s ok in
+    let flight = after-inputs n f k w long n .flight in
+    let handed : ticked pipelined s .matching .output i ≡ reserved n flight (k + 1 + 1) i = rw (range-in 1 n i (pi .low) (pi .high)) in
+    omega (
+      arith,
+      all-hold n few i j pi pj f (copied-at n f (k + 1) w) (copy-length n f k w long) (k + 1) (turn-runs w) (long .sized) n (omega arith),
+      clear-row n flight (sized-after n f k w long n (omega arith) .flight) i j pi (k + 1 + 1) (omega arith) (pj .low),
+      ap (λ o. bit (eqb o j)) handed,
+    )
 
--- A START leaves none in flight
-none-flying : (m : Form) (n : ℕ) (s : Switch) → Cleared m n s → (i j : ℕ) → Port n i → Port n j → flying m n s i j ≡ 0
-unfolding flying
-none-flying direct n s c i j pi pj = refl
-none-flying pipelined n s c i j pi pj =
-    sum-zero _ (2 * n) (λ u p. ap (λ v. bit (eqb (output-in n v) j)) (c .flight u i pi) ∙ bit-ne 0 j (λ e. omega (arith, pj .low)))
+-- A START leaves none
+start-leaves : (m : Form) (n f : ℕ) (s : Switch) (i j : ℕ) → Port n i → Port n j → packets m n (started m n f s .after) i j ≡ 0
+unfolding packets flying Direct.started Pipelined.started
+start-leaves direct n f s i j pi pj = omega (arith, word-cleared n (s .queues) i j pi pj)
+start-leaves pipelined n f s i j pi pj =
+    omega (
+      arith,
+      word-cleared n (s .queues) i j pi pj,
+      sum-zero (λ u. bit (eqb (reserved n (started pipelined n f s .after .flight) u i) j)) (2 * n)
+          (λ u p. ap (λ v. bit (eqb (output-in n v) j)) (started-empty n f s .flight u i pi) ∙ bit-ne 0 j (λ e. omega (arith, pj .low))),
+    )
+
+-- ARRIVALS add to the queues what the ledger notes
+arrivals-add : (n : ℕ) (q : List ℕ) (a : ℕ → ℕ → ℕ) {q′ : List ℕ} {a′ : ℕ → ℕ → ℕ} → Arrivals n q a q′ a′
+    → (x y : ℕ) → Port n x → Port n y → word n q′ x y + a x y ≡ word n q x y + a′ x y
+unfolding arrive-words
+arrivals-add n q a none x y px py = refl
+arrivals-add n q a (more {q′ = r} {a′ = b} f k i j d e v) x y px py =
+    let c = clock-of n f k in
+    let g = arrive-asked c r i j d e in
+    let before = arrivals-add n q a v x y px py in
+    rw (e, word-put n r (g .long) i j (g .input) (g .output) (word n r i j + d) x y px py)
+    (at-pair (λ z. pick z (word n r i j + d) (word n r x y) + a x y ≡ word n q x y + pick z (b i j + d) (b x y)) i j x y
+    (λ e u. rw (e, u) (omega (arith, rw (e, u) at before))) (λ u. before))
 
 -- CALLS BETWEEN TICKS leave the flight
 same-flying : (m : Form) (n : ℕ) (r s : Switch) → s .flight ≡ r .flight → (i j : ℕ) → flying m n s i j ≡ flying m n r i j
@@ -59,7 +96,7 @@ same-flying pipelined n r s e i j = ap (λ w. sum (λ u. bit (eqb (reserved n w 
 packets-between : (m : Form) (n : ℕ) (a a′ : ℕ → ℕ → ℕ) (r s : Switch) → Between n a a′ r s → (i j : ℕ) → Port n i → Port n j
     → packets m n s i j + a i j ≡ packets m n r i j + a′ i j
 unfolding packets
-packets-between m n a a′ r s v i j pi pj = omega (arith, v .queues i j pi pj, same-flying m n r s (v .flight) i j)
+packets-between m n a a′ r s v i j pi pj = omega (arith, arrivals-add n (r .queues) a (v .queues) i j pi pj, same-flying m n r s (v .flight) i j)
 
 -- ALL CALLS
 module _ (m : Form) (l : Ledger) (h : Seen) (now : Switch) (t : Trace m l h now) (i j : ℕ) (pi : Port (l .ports) i) (pj : Port (l .ports) j) where
@@ -79,6 +116,7 @@ module _ (m : Form) (l : Ledger) (h : Seen) (now : Switch) (t : Trace m l h now)
   none-before : (s : ℕ) → s < slot-of-tick (l .form) 1 → bit (by-one l s i j) + bit (by-two l s i j) ≡ 0
   none-before s g = passes s ∙ ap (λ (a : Matching). bit (eqb (a .output i) j)) (t .unanswered s (inl g)) ∙ bit-ne 0 j (λ e. omega (arith, pj .low))
 
+  -- so before tick 1 nothing was answered
   none-answered : answered-by 0 ≡ 0
   unfolding count-one count-two
   none-answered =
@@ -88,7 +126,7 @@ module _ (m : Form) (l : Ledger) (h : Seen) (now : Switch) (t : Trace m l h now)
         sum-zero (λ s. bit (by-two l s i j)) (slot-of-tick (l .form) 0) (λ s p. omega (arith, none-before s (omega arith))),
       )
 
-  -- one tick on
+  -- and each tick adds its own
   answered-next : (k : ℕ) → answered-by (k + 1) ≡ answered-by k + bit (eqb (l .answer (slot-of-tick (l .form) (k + 1)) .output i) j)
   unfolding count-one count-two
   answered-next k =
@@ -103,20 +141,22 @@ module _ (m : Form) (l : Ledger) (h : Seen) (now : Switch) (t : Trace m l h now)
 
   -- what tick k left and what was answered by then are what had arrived just before it
   abbrev Account : ℕ → Type 0
-  Account k = packets m n (left m (t .base) (t .at) k) i j + answered-by k ≡ l .arrived-before k i j
+  Account k = packets m n (left m (base m l (t .before)) (t .at) k) i j + answered-by k ≡ l .arrived-before k i j
 
+  -- after the start
   account-first : Account 0
-  unfolding packets left
+  unfolding left
   account-first =
-      omega (arith, t .no-packets i j pi pj, none-flying m n (t .base) (t .cleared) i j pi pj, none-answered, t .none-arrived i j)
+      omega (arith, start-leaves m n (l .frame) (t .before) i j pi pj, none-answered, t .none-arrived i j)
 
+  -- and one tick on
   account-next : (k : ℕ) → k < l .ticks → Account k → Account (k + 1)
   account-next k g r =
       let p = t .past k g in
       let ports : t .at (k + 1) .clock .ports ≡ n = ap (λ c. c .ports) (p .clock) in
       let answers : Answers m n (t .at (k + 1)) =
       subst (λ n. Answers m n (t .at (k + 1))) ports (tick-answers m (t .at (k + 1)) (p .accepted) (rw ports (t .sizes .few-ports))) in
-      rw (left-after m (t .base) (t .at) k)
+      rw (left-after m (base m l (t .before)) (t .at) k)
       (omega (
         arith,
         r,
@@ -126,12 +166,12 @@ module _ (m : Form) (l : Ledger) (h : Seen) (now : Switch) (t : Trace m l h now)
         ap (λ (a : Matching). bit (eqb (a .output i) j)) (p .answer),
       ))
 
-  -- so after every tick
+  -- so it stands after every tick
   account : (k : ℕ) → k ≤ l .ticks → Account k
   account zero g = account-first
   account (suc k) g = rw (add-one k) at (account-next k g (account k (omega arith)))
 
-  -- and before it
+  -- before every tick, with what arrived since
   pub found : (k : ℕ) → k < l .ticks → packets m n (t .at (k + 1)) i j + answered-by k ≡ l .arrived-before (k + 1) i j
   found k g = omega (arith, account k (omega arith), packets-between m n _ _ _ _ (t .past k g .follows) i j pi pj)
 
