@@ -18,7 +18,7 @@ use Rattle.wsgs.specs.Pipelined.{turn-runs, copied-at, output-in, reserv
 use Rattle.wsgs.specs.Switch.{Switch, Form, direct, pipelined, tick, apply, direct-runs, pipelined-runs}
 use Rattle.wsgs.specs.Ledger.{Ledger, slot-of-tick, by-one, by-two, count-one, count-two}
 use Rattle.wsgs.specs.Seen.{Seen}
-use Rattle.wsgs.specs.Packets.{flying, answers}
+use Rattle.wsgs.specs.Packets.{packets-in-flight, answers}
 use Rattle.wsgs.proofs.Laws.Tests.{range-in, bit-split, bit-ne, at-pair}
 use Rattle.wsgs.proofs.Laws.Words.{word-put, word-cleared}
 use Rattle.wsgs.proofs.Laws.Sums.{sum-zero, sum-last}
@@ -30,7 +30,7 @@ use Rattle.wsgs.proofs.Pipelined.Flight.{clear-row, all-hold}
 
 -- the packets of a pair that a switch has, queued and in flight
 unfoldable pub packets : Form → ℕ → Switch → ℕ → ℕ → ℕ
-packets m n s i j = word n (s .queues) i j + flying m n s i j
+packets m n s i j = word n (s .queues) i j + packets-in-flight m n s i j
 
 -- A TICK answers one of them or none
 abbrev Answers : Form → ℕ → Switch → Type 0
@@ -39,7 +39,7 @@ Answers m n s =
 
 -- in both forms
 tick-answers : (m : Form) (s : Switch) → apply (tick m) s .refusal ≡ 0 → s .clock .ports ≤ 32 → Answers m (s .clock .ports) s
-unfolding packets flying Direct.ticked Pipelined.ticked
+unfolding packets packets-in-flight Direct.ticked Pipelined.ticked
 tick-answers direct s ok few i j pi pj =
     let n = s .clock .ports in
     let f = s .clock .frame in
@@ -63,7 +63,7 @@ tick-answers pipelined s ok few i j pi pj =
 
 -- A START leaves none
 start-leaves : (m : Form) (n f : ℕ) (s : Switch) (i j : ℕ) → Port n i → Port n j → packets m n (started m n f s .after) i j ≡ 0
-unfolding packets flying Direct.started Pipelined.started
+unfolding packets packets-in-flight Direct.started Pipelined.started
 start-leaves direct n f s i j pi pj = omega (arith, word-cleared n (s .queues) i j pi pj)
 start-leaves pipelined n f s i j pi pj =
     omega (
@@ -87,8 +87,8 @@ arrivals-add n q a (more {q′ = r} {a′ = b} f k i j d e v) x y px py =
     (λ e u. rw (e, u) (omega (arith, rw (e, u) at before))) (λ u. before))
 
 -- CALLS BETWEEN TICKS leave the flight
-same-flying : (m : Form) (n : ℕ) (r s : Switch) → s .flight ≡ r .flight → (i j : ℕ) → flying m n s i j ≡ flying m n r i j
-unfolding flying
+same-flying : (m : Form) (n : ℕ) (r s : Switch) → s .flight ≡ r .flight → (i j : ℕ) → packets-in-flight m n s i j ≡ packets-in-flight m n r i j
+unfolding packets-in-flight
 same-flying direct n r s e i j = refl
 same-flying pipelined n r s e i j = ap (λ w. sum (λ u. bit (eqb (reserved n w u i) j)) (2 * n)) e
 
@@ -176,6 +176,6 @@ module _ (m : Form) (l : Ledger) (h : Seen) (now : Switch) (t : Trace m l h now)
   found k g = omega (arith, account k (omega arith), packets-between m n _ _ _ _ (t .past k g .follows) i j pi pj)
 
   -- and now
-  pub conserved : l .arrived i j ≡ word n (now .queues) i j + flying m n now i j + answers l i j
+  pub conserved : l .arrived i j ≡ word n (now .queues) i j + packets-in-flight m n now i j + answers l i j
   unfolding packets answers
   conserved = omega (arith, account (l .ticks) (omega arith), packets-between m n _ _ _ _ (t .current) i j pi pj)

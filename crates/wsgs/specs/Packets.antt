@@ -8,10 +8,10 @@ use Rattle.wsgs.specs.Ledger.{Ledger, slot-of-tick, count-one, count-two
 
 -- the words in flight of the pair (i, j): of the 2n rows, which are those of the slots 1..2n, the ones in which the word of input i stands for
 -- output j, by either pass; a direct switch has none
-unfoldable pub flying : Form → ℕ → Switch → ℕ → ℕ → ℕ
+unfoldable pub packets-in-flight : Form → ℕ → Switch → ℕ → ℕ → ℕ
 unfolding sum in-flight
-flying direct n s i j = 0
-flying pipelined n s i j = sum (λ u. bit (eqb (reserved n (s .flight) u i) j)) (2 * n)
+packets-in-flight direct n s i j = 0
+packets-in-flight pipelined n s i j = sum (λ u. bit (eqb (reserved n (s .flight) u i) j)) (2 * n)
 
 -- the answers of the pair so far: the answered slots whose answer has it, by either pass
 unfoldable pub answers : Ledger → ℕ → ℕ → ℕ
