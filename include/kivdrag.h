@@ -166,9 +166,9 @@ uint32_t kivdrag_tick_direct(uint32_t clock[3], const uint32_t *bookings, size_t
                              uint8_t outputs[32], uint32_t *first_pass);
 
 /*
- * Runs the next tick of a pipelined switch. Every input has its turns for slots ahead, and the pairs of the next slot are handed out: at time k, where
- * clock[2] is k - 1 before the call and k after it, those of slot k + 1. Slots up to N are idle, and slots N + 1 to
- * 2N know only pass two.
+ * Runs the next tick of a pipelined switch: every input has its turns for slots ahead, and the pairs of the next slot
+ * are handed out. That is slot k + 1, where clock[2] is k - 1 before the call and k after it. Slots up to N are idle,
+ * and slots N + 1 to 2N know only pass two.
  *
  * bookings, credits, queues and copy have N * N words or more, flight 2 * N * N.
  * Advances clock[2], and writes credits, queues, copy and flight: where slot k + 2N is the first of a frame, copy
