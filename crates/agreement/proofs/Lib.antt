@@ -1,3 +1,3 @@
 -- One computed theorem for each seed.
-pub mod Ledgers
 pub mod Seeds
+pub mod Ledgers
