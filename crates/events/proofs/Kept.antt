@@ -10,7 +10,7 @@ use lib.Seq.{take-all, take-take, take-append-le, take-suc-set, length-take-le}
 use lib.Dec.{ltb}
 use Rattle.wsgs.specs.Basics.{pick}
 use Rattle.wsgs.specs.Text.{drop-last, reversed, read-record}
-use Rattle.events.specs.Feeding.{State, appended, kept-record}
+use Rattle.events.specs.Feeding.{kept-bytes, State, appended, kept-record}
 use Rattle.records.proofs.Fields.{over-64}
 
 -- a text read back to front
@@ -41,7 +41,7 @@ first-65 r = go (decLe (length r) 65)
 pub record Holds (s : State) (begun : List ℕ) : Type 0 where
   pub count : s .count ≡ min (length begun) 66
   pub kept : take (min (length begun) 65) (s .buffer) ≡ take 65 (reversed begun [])
-  pub long : 65 ≤ length (s .buffer)
+  pub long : kept-bytes ≤ length (s .buffer)
 
 -- a bound on the bytes taken may be the length
 take-min : (k : ℕ) (r : List ℕ) → take (min (length r) k) r ≡ take k r
@@ -111,6 +111,6 @@ module _ (s : State) (begun : List ℕ) (x : ℕ) (h : Holds s begun) where
           }
 
 -- no byte yet
-pub holds-none : (s : State) → s .count ≡ 0 → 65 ≤ length (s .buffer) → Holds s []
+pub holds-none : (s : State) → s .count ≡ 0 → kept-bytes ≤ length (s .buffer) → Holds s []
 unfolding reversed
 holds-none s e l = record { count = e; kept = refl; long = l }

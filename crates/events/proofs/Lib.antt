@@ -1,6 +1,5 @@
 pub mod Feeding
 pub mod Kept
 pub mod Whole
-pub mod Ticks
-pub mod Leaving
 pub mod Rounds
+pub mod StepLaws

@@ -1,17 +1,18 @@
--- The declared types beside the lent runs, as the definitions have them. Assumes nothing.
+-- The declared types beside the lent slices, as the definitions have them. Assumes nothing.
 use mathlib.Core.Path.{_≡_}
 use mathlib.Core.Bool.{true, false}
-use mathlib.Core.List.{List}
-use Prim.Native.Nat.{ℕ, _-_}
-use lib.Dec.{eqb}
-use Rattle.wsgs.specs.Basics.{pick}
-use Rattle.wsgs.specs.Program.{match-lines}
-use Rattle.lines.specs.Lines.{Wrote, matching-of}
+use mathlib.Core.List.{List, []}
+use Prim.Native.Nat.{ℕ}
+use lib.ListN.{length}
+use Rattle.wsgs.specs.Clocks.{first-clock}
+use Rattle.wsgs.specs.Program.{slot-text}
+use Rattle.lines.specs.Lines.{with-text, TextWritten}
 use Rattle.machine.specs.declared.Machine.{Machine}
-use Rattle.machine.specs.declared.Ran.{Ran}
-use Rattle.machine.specs.View.{machine-of, refused-text}
+use Rattle.machine.specs.declared.SlotResult.{SlotResult}
+use Rattle.machine.specs.View.{machine-of, slot-outcome-of}
 use Rattle.events.specs.declared.Progress.{Progress}
-use Rattle.events.specs.Feeding.{State, Out}
+use Rattle.events.specs.declared.FeedResult.{FeedResult}
+use Rattle.events.specs.Feeding.{State, StepOutcome, FeedOutcome}
 
 -- what is kept, with the buffer of the record so far and the runs
 abbrev pub state-of : Progress → (buffer bookings credits queues copy flight : List ℕ) → State
@@ -25,16 +26,25 @@ state-of k b a c q p f =
       slots-left = k .«slots_left»;
     }
 
--- the text of a slot as the machine hands it out: the line of its refusal, or the lines of its pairs
-abbrev pub ran-text : Ran → List ℕ
-ran-text r =
-    pick (eqb (r .refused .number) 0)
-    (match-lines (r .slot) (matching-of (r .outputs) (r .«first_pass»)) (r .machine .clock .ports))
-    (refused-text (r .refused))
+-- A CALL OF `feed` leaves a state, has taken and written so many bytes, and leaves an output
+pub record FeedEffect : Type 0 where
+  pub state : State
+  pub taken : ℕ
+  pub written : ℕ
+  pub out : List ℕ
 
--- of n slots to run, those that are left after one with this refusal
-abbrev pub slots-left : ℕ → ℕ → ℕ
-slots-left n refusal = pick (eqb refusal 0) (n - 1) 0
+-- as the code has it, and as the definition's outcome has it on an output
+abbrev pub feed-effect-of : FeedResult → (out buffer bookings credits queues copy flight : List ℕ) → FeedEffect
+feed-effect-of r out b a c q p f =
+    record { state = state-of (r .progress) b a c q p f; taken = r .taken; written = r .written; out = out }
+
+abbrev pub feed-effect : FeedOutcome → List ℕ → FeedEffect
+feed-effect o out =
+    record { state = o .state; taken = o .taken; written = length (o .text); out = with-text 0 (o .text) out }
+
+-- what a slot prints, which looks at no run
+abbrev pub slot-result-text : SlotResult → List ℕ
+slot-result-text r = slot-text (slot-outcome-of r [] [] [] [] [])
 
 -- what is kept after a record has ended, and with another machine and other slots to run
 abbrev pub ended-progress : Machine → ℕ → Progress
@@ -48,14 +58,14 @@ moved-progress k m slots =
 abbrev pub first-progress : Progress
 first-progress =
     record {
-      machine = record { running = false; pipelined = false; clock = record { ports = 0; frame = 0; slot = 0 } };
+      machine = record { running = false; pipelined = false; clock = first-clock 0 0 };
       «past_heading» = false;
       «after_cr» = false;
       count = 0;
       «slots_left» = 0;
     }
 
--- the state is the one that an outcome leaves, and what it prints is written
-pub record Leaves (o : Out) (s : State) (out : List ℕ) (at next : ℕ) (out′ : List ℕ) : Type 0 where
+-- the state is the one that a step leaves, and what the step prints is written
+pub record StepWritten (o : StepOutcome) (s : State) (out : List ℕ) (at next : ℕ) (out′ : List ℕ) : Type 0 where
   pub state : s ≡ o .state
-  pub wrote : Wrote out at (o .printed) next out′
+  pub text : TextWritten out at (o .printed) next out′

@@ -1,7 +1,9 @@
 // A byte of the input: one more of the record so far, or the end of the record.
+use crate::ByteResult;
+use crate::KEPT_BYTES;
+use crate::MAX_COUNT;
 use crate::Progress;
-use crate::TakenByte;
-use crate::printing::put_refused;
+use crate::printing::put_refusal;
 use machine::Machine;
 use machine::obey;
 use records::read_record;
@@ -12,13 +14,15 @@ ghost use Prim.Native.Nat.{ℕ, _+_, _-_, _≤_, min};
 ghost use lib.Dec.{eqb, ltb};
 ghost use lib.ListN.{length, set};
 ghost use Rattle.wsgs.specs.Basics.{pick};
-ghost use Rattle.events.specs.Feeding.{appended, record-end, take-byte};
-ghost use Rattle.events.specs.View.{state-of, ended-progress, Leaves};
+ghost use Rattle.wsgs.specs.Text.{LF};
+ghost use Rattle.lines.specs.Lines.{refusal-room};
+ghost use Rattle.events.specs.Feeding.{kept-bytes, most-counted, appended, record-end, byte-step};
+ghost use Rattle.events.specs.View.{state-of, ended-progress, StepWritten};
 
 // What is left where a record has ended.
-fn ended(machine: Machine, slots: u64, next: usize) -> TakenByte
-    ensures { λ r. ⌜ r .progress ≡ ended-progress machine slots ⌝ }
-    ensures { λ r. ⌜ r .next ≡ next ⌝ }
+fn ended(machine: Machine, slots: u64, next: usize) -> ByteResult
+    ensures progress { λ r. ⌜ r .progress ≡ ended-progress machine slots ⌝ }
+    ensures place { λ r. ⌜ r .next ≡ next ⌝ }
 {
     let progress = Progress {
         machine,
@@ -27,18 +31,18 @@ fn ended(machine: Machine, slots: u64, next: usize) -> TakenByte
         count: 0,
         slots_left: slots,
     };
-    TakenByte { progress, next }
+    ByteResult { progress, next }
 }
 
 // How many bytes are kept of the record without its CR.
 fn kept_length(count: usize) -> usize
-    ensures { λ r. ⌜ r ≡ min (count - 1) 65 ⌝ }
+    ensures length { λ r. ⌜ r ≡ min (count - 1) kept-bytes ⌝ }
 {
     if count == 0 {
         return 0;
     }
-    if count > 66 {
-        return 65;
+    if count > KEPT_BYTES {
+        return KEPT_BYTES;
     }
     count - 1
 }
@@ -54,10 +58,14 @@ fn end_record(
     queues: &mut [u32],
     copy: &mut [u32],
     flight: &mut [u32],
-) -> TakenByte
-    requires { ⌜ 65 ≤ length (now buffer) ⌝ }
-    requires { ⌜ at + 93 ≤ length (now out) ⌝ }
-    ensures { λ r. ⌜ Leaves (record-end (state-of progress (now (buffer .entry)) (now (bookings .entry)) (now (credits .entry)) (now (queues .entry)) (now (copy .entry)) (now (flight .entry)))) (state-of (r .progress) (now (buffer .entry)) (now (bookings .exit)) (now (credits .exit)) (now (queues .exit)) (now (copy .exit)) (now (flight .exit))) (now (out .entry)) at (r .next) (now (out .exit)) ⌝ }
+) -> ByteResult
+    requires buffer { ⌜ kept-bytes ≤ length (now buffer) ⌝ }
+    requires room { ⌜ at + refusal-room ≤ length (now out) ⌝ }
+    ensures outcome { λ r. ⌜ StepWritten (record-end (state-of progress (now (buffer .entry))
+        (now (bookings .entry)) (now (credits .entry)) (now (queues .entry)) (now (copy .entry)) (now (flight .entry))))
+        (state-of (r .progress) (now (buffer .entry))
+        (now (bookings .exit)) (now (credits .exit)) (now (queues .exit)) (now (copy .exit)) (now (flight .exit)))
+        (now (out .entry)) at (r .next) (now (out .exit)) ⌝ }
 {
     let machine = progress.machine;
     if !progress.past_heading {
@@ -66,27 +74,28 @@ fn end_record(
     let length = kept_length(progress.count);
     let reading = read_record(&buffer[..length]);
     let obeyed = obey(machine, reading, bookings, credits, queues, copy, flight);
-    let refused = obeyed.refused;
-    let next = put_refused(out, at, refused);
+    let refusal = obeyed.refusal;
+    let next = put_refusal(out, at, refusal);
     let after = obeyed.machine;
     ended(after, obeyed.slots, next)
 }
 
 // Keeps a byte of the record so far, if it is one of the first 65.
 fn keep(buffer: &mut [u8], count: usize, byte: u8)
-    requires { ⌜ 65 ≤ length (now buffer) ⌝ }
-    ensures { λ _. ⌜ now (buffer .exit) ≡ pick (ltb count 65) (set (now (buffer .entry)) count byte) (now (buffer .entry)) ⌝ }
+    requires buffer { ⌜ kept-bytes ≤ length (now buffer) ⌝ }
+    ensures buffer_exit { λ _. ⌜ now (buffer .exit)
+        ≡ pick (ltb count kept-bytes) (set (now (buffer .entry)) count byte) (now (buffer .entry)) ⌝ }
 {
-    if count < 65 {
+    if count < KEPT_BYTES {
         buffer[count] = byte;
     }
 }
 
 // Counts a byte more, up to 66.
 fn counted(count: usize) -> usize
-    ensures { λ r. ⌜ r ≡ pick (ltb count 66) (count + 1) count ⌝ }
+    ensures count { λ r. ⌜ r ≡ pick (ltb count most-counted) (count + 1) count ⌝ }
 {
-    if count < 66 {
+    if count < MAX_COUNT {
         return count + 1;
     }
     count
@@ -94,22 +103,23 @@ fn counted(count: usize) -> usize
 
 // A byte more of the record so far.
 fn append(mut progress: Progress, byte: u8, buffer: &mut [u8]) -> Progress
-    requires { ⌜ 65 ≤ length (now buffer) ⌝ }
-    ensures { λ r. ⌜ ((a c q p f : List ℕ) → state-of r (now (buffer .exit)) a c q p f ≡ appended (state-of progress (now (buffer .entry)) a c q p f) byte) ⌝ }
+    requires buffer { ⌜ kept-bytes ≤ length (now buffer) ⌝ }
+    ensures state { λ r. ⌜ ((a c q p f : List ℕ)
+        → state-of r (now (buffer .exit)) a c q p f ≡ appended (state-of progress (now (buffer .entry)) a c q p f) byte) ⌝ }
 {
     let count = progress.count;
     keep(buffer, count, byte);
     let more = counted(count);
     progress.count = more;
-    progress.after_cr = byte == 13;
+    progress.after_cr = byte == b'\r';
     progress
 }
 
 // Whether a byte ends the record: LF after CR.
 fn is_end(after_cr: bool, byte: u8) -> bool
-    ensures { λ r. ⌜ r ≡ («after_cr» && eqb byte 10) ⌝ }
+    ensures answer { λ r. ⌜ r ≡ («after_cr» && eqb byte LF) ⌝ }
 {
-    after_cr && byte == 10
+    after_cr && byte == b'\n'
 }
 
 // A byte.
@@ -124,10 +134,14 @@ pub fn take_byte(
     queues: &mut [u32],
     copy: &mut [u32],
     flight: &mut [u32],
-) -> TakenByte
-    requires { ⌜ 65 ≤ length (now buffer) ⌝ }
-    requires { ⌜ at + 93 ≤ length (now out) ⌝ }
-    ensures { λ r. ⌜ Leaves (take-byte (state-of progress (now (buffer .entry)) (now (bookings .entry)) (now (credits .entry)) (now (queues .entry)) (now (copy .entry)) (now (flight .entry))) byte) (state-of (r .progress) (now (buffer .exit)) (now (bookings .exit)) (now (credits .exit)) (now (queues .exit)) (now (copy .exit)) (now (flight .exit))) (now (out .entry)) at (r .next) (now (out .exit)) ⌝ }
+) -> ByteResult
+    requires buffer { ⌜ kept-bytes ≤ length (now buffer) ⌝ }
+    requires room { ⌜ at + refusal-room ≤ length (now out) ⌝ }
+    ensures outcome { λ r. ⌜ StepWritten (byte-step (state-of progress (now (buffer .entry))
+        (now (bookings .entry)) (now (credits .entry)) (now (queues .entry)) (now (copy .entry)) (now (flight .entry))) byte)
+        (state-of (r .progress) (now (buffer .exit))
+        (now (bookings .exit)) (now (credits .exit)) (now (queues .exit)) (now (copy .exit)) (now (flight .exit)))
+        (now (out .entry)) at (r .next) (now (out .exit)) ⌝ }
 {
     if is_end(progress.after_cr, byte) {
         return end_record(
@@ -143,5 +157,5 @@ pub fn take_byte(
         );
     }
     let progress = append(progress, byte, buffer);
-    TakenByte { progress, next: at }
+    ByteResult { progress, next: at }
 }

@@ -1,2 +1,2 @@
-pub mod Effects
-pub mod Ticks
+pub mod SlotLaws
+pub mod RecordLaws

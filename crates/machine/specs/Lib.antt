@@ -1,3 +1,2 @@
--- What the functions of this crate say beyond the definitions of the event program.
-pub mod Effects
+-- The declared types of this crate as the definitions of the event program have them.
 pub mod View

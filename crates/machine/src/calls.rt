@@ -1,10 +1,12 @@
-// What a record does at once to the machine, by its operation.
+// What a request does at once to the machine, by its operation.
 use crate::Machine;
-use crate::Obeyed;
+use crate::RecordResult;
 use crate::refusals::refusal;
 use crate::refusals::unread;
+use questions::is_between;
 use wsgs::BookedSlots;
 use wsgs::Input;
+use wsgs::Operation;
 use wsgs::Output;
 use wsgs::StartResult;
 ghost use mathlib.Core.Path.{_≡_};
@@ -12,12 +14,15 @@ ghost use mathlib.Core.List.{List};
 ghost use Prim.Native.Nat.{ℕ};
 ghost use Rattle.wsgs.specs.declared.Operation.the-variants.{Start, Pipe, Book, Release, Arrive, Tick};
 ghost use Rattle.wsgs.specs.declared.Reading.the-variants.{Request};
-ghost use Rattle.machine.specs.View.{machine-of, started-machine, Obeys};
-ghost use Rattle.wsgs.specs.Basics.{between};
+ghost use Rattle.wsgs.specs.Program.{obey};
+ghost use Rattle.machine.specs.View.{machine-of, record-outcome-of, started-machine};
+
+// The most slots that a tick record asks for.
+const MAX_TICK_SLOTS: u64 = 10_000;
 
 // The machine after a start or pipe.
 fn after_start(machine: Machine, pipelined: bool, started: StartResult) -> Machine
-    ensures { λ r. ⌜ r ≡ started-machine machine pipelined started ⌝ }
+    ensures machine { λ r. ⌜ r ≡ started-machine machine pipelined started ⌝ }
 {
     if started.refusal == 0 {
         let clock = started.clock;
@@ -30,28 +35,30 @@ fn after_start(machine: Machine, pipelined: bool, started: StartResult) -> Machi
     machine
 }
 
-// A record that starts a direct switch.
-pub fn start_record(
+// Starts a direct switch.
+fn obey_start(
     machine: Machine,
     ports: u64,
     frame: u64,
     bookings: &mut [u32],
     credits: &mut [u32],
     queues: &mut [u32],
-) -> Obeyed
-    ensures { λ r. ⌜ ((z : ℕ) (p f : List ℕ) → Obeys (machine-of machine (now (bookings .entry)) (now (credits .entry)) (now (queues .entry)) p f) (Request Start ports frame z) r (machine-of (r .machine) (now (bookings .exit)) (now (credits .exit)) (now (queues .exit)) p f)) ⌝ }
+) -> RecordResult
+    ensures outcome { λ r. ⌜ ((z : ℕ) (p f : List ℕ)
+        → record-outcome-of r (now (bookings .exit)) (now (credits .exit)) (now (queues .exit)) p f
+        ≡ obey (machine-of machine (now (bookings .entry)) (now (credits .entry)) (now (queues .entry)) p f) (Request Start ports frame z)) ⌝ }
 {
     let clock = machine.clock;
     let started = starts::start_direct(ports, frame, clock, bookings, credits, queues);
-    Obeyed {
+    RecordResult {
         machine: after_start(machine, false, started),
         slots: 0,
-        refused: refusal(machine, ports, frame, started.refusal),
+        refusal: refusal(machine, ports, frame, started.refusal),
     }
 }
 
-// A record that starts a pipelined switch.
-pub fn pipe_record(
+// Starts a pipelined switch.
+fn obey_pipe(
     machine: Machine,
     ports: u64,
     frame: u64,
@@ -60,8 +67,12 @@ pub fn pipe_record(
     queues: &mut [u32],
     copy: &mut [u32],
     flight: &mut [u32],
-) -> Obeyed
-    ensures { λ r. ⌜ ((z : ℕ) → Obeys (machine-of machine (now (bookings .entry)) (now (credits .entry)) (now (queues .entry)) (now (copy .entry)) (now (flight .entry))) (Request Pipe ports frame z) r (machine-of (r .machine) (now (bookings .exit)) (now (credits .exit)) (now (queues .exit)) (now (copy .exit)) (now (flight .exit)))) ⌝ }
+) -> RecordResult
+    ensures outcome { λ r. ⌜ ((z : ℕ) → record-outcome-of r
+        (now (bookings .exit)) (now (credits .exit)) (now (queues .exit)) (now (copy .exit)) (now (flight .exit))
+        ≡ obey (machine-of machine
+        (now (bookings .entry)) (now (credits .entry)) (now (queues .entry)) (now (copy .entry)) (now (flight .entry)))
+        (Request Pipe ports frame z)) ⌝ }
 {
     let clock = machine.clock;
     let started = starts::start_pipelined(
@@ -74,105 +85,140 @@ pub fn pipe_record(
         copy,
         flight,
     );
-    Obeyed {
+    RecordResult {
         machine: after_start(machine, true, started),
         slots: 0,
-        refused: refusal(machine, ports, frame, started.refusal),
+        refusal: refusal(machine, ports, frame, started.refusal),
     }
 }
 
-// A record that books.
-pub fn book_record(
+// Books slots.
+fn obey_book(
     machine: Machine,
     input: u64,
     output: u64,
     slots: u64,
     bookings: &mut [u32],
-) -> Obeyed
-    ensures { λ r. ⌜ ((c q p f : List ℕ) → Obeys (machine-of machine (now (bookings .entry)) c q p f) (Request Book input output slots) r (machine-of (r .machine) (now (bookings .exit)) c q p f)) ⌝ }
+) -> RecordResult
+    ensures outcome { λ r. ⌜ ((c q p f : List ℕ) → record-outcome-of r (now (bookings .exit)) c q p f
+        ≡ obey (machine-of machine (now (bookings .entry)) c q p f) (Request Book input output slots)) ⌝ }
 {
     if !machine.running {
-        return unread(machine);
+        return unread(machine, 12);
     }
     let clock = machine.clock;
     let slots = BookedSlots(slots);
     let number = book::book(clock, bookings, Input(input), Output(output), slots);
-    Obeyed {
+    RecordResult {
         machine,
         slots: 0,
-        refused: refusal(machine, input, output, number),
+        refusal: refusal(machine, input, output, number),
     }
 }
 
-// A record that releases.
-pub fn release_record(
+// Releases slots.
+fn obey_release(
     machine: Machine,
     input: u64,
     output: u64,
     slots: u64,
     bookings: &mut [u32],
-) -> Obeyed
-    ensures { λ r. ⌜ ((c q p f : List ℕ) → Obeys (machine-of machine (now (bookings .entry)) c q p f) (Request Release input output slots) r (machine-of (r .machine) (now (bookings .exit)) c q p f)) ⌝ }
+) -> RecordResult
+    ensures outcome { λ r. ⌜ ((c q p f : List ℕ) → record-outcome-of r (now (bookings .exit)) c q p f
+        ≡ obey (machine-of machine (now (bookings .entry)) c q p f) (Request Release input output slots)) ⌝ }
 {
     if !machine.running {
-        return unread(machine);
+        return unread(machine, 12);
     }
     let clock = machine.clock;
     let slots = BookedSlots(slots);
     let number = book::release(clock, bookings, Input(input), Output(output), slots);
-    Obeyed {
+    RecordResult {
         machine,
         slots: 0,
-        refused: refusal(machine, input, output, number),
+        refusal: refusal(machine, input, output, number),
     }
 }
 
-// A record of packets that arrive.
-pub fn arrive_record(
+// Packets arrive.
+fn obey_arrive(
     machine: Machine,
     input: u64,
     output: u64,
     packets: u64,
     queues: &mut [u32],
-) -> Obeyed
-    ensures { λ r. ⌜ ((a c p f : List ℕ) → Obeys (machine-of machine a c (now (queues .entry)) p f) (Request Arrive input output packets) r (machine-of (r .machine) a c (now (queues .exit)) p f)) ⌝ }
+) -> RecordResult
+    ensures outcome { λ r. ⌜ ((a c p f : List ℕ) → record-outcome-of r a c (now (queues .exit)) p f
+        ≡ obey (machine-of machine a c (now (queues .entry)) p f) (Request Arrive input output packets)) ⌝ }
 {
     if !machine.running {
-        return unread(machine);
+        return unread(machine, 12);
     }
     let clock = machine.clock;
     let number = book::arrive(clock, queues, Input(input), Output(output), packets);
-    Obeyed {
+    RecordResult {
         machine,
         slots: 0,
-        refused: refusal(machine, input, output, number),
+        refusal: refusal(machine, input, output, number),
     }
 }
 
-// Whether a tick record asks for 1 to 10,000 slots.
-fn in_range(slots: u64) -> bool
-    ensures { λ r. ⌜ r ≡ between 1 10000 slots ⌝ }
-{
-    slots >= 1 && slots <= 10_000
-}
-
-// A tick record: its slots are left to run.
-pub fn tick_record(machine: Machine, second: u64, third: u64, slots: u64) -> Obeyed
-    ensures { λ r. ⌜ ((a c q p f : List ℕ) → Obeys (machine-of machine a c q p f) (Request Tick second third slots) r (machine-of (r .machine) a c q p f)) ⌝ }
+// Asks for slots, which are left to run.
+fn obey_tick(machine: Machine, input: u64, output: u64, slots: u64) -> RecordResult
+    ensures outcome { λ r. ⌜ ((a c q p f : List ℕ) → record-outcome-of r a c q p f
+        ≡ obey (machine-of machine a c q p f) (Request Tick input output slots)) ⌝ }
 {
     if !machine.running {
-        return unread(machine);
+        return unread(machine, 12);
     }
-    if in_range(slots) {
-        return Obeyed {
+    if is_between(1, MAX_TICK_SLOTS, slots) {
+        return RecordResult {
             machine,
             slots,
-            refused: refusal(machine, second, third, 0),
+            refusal: refusal(machine, input, output, 0),
         };
     }
-    Obeyed {
+    RecordResult {
         machine,
         slots: 0,
-        refused: refusal(machine, second, third, 6),
+        refusal: refusal(machine, input, output, 6),
+    }
+}
+
+// A request: what it does at once.
+pub fn obey_request(
+    machine: Machine,
+    operation: Operation,
+    input: u64,
+    output: u64,
+    amount: u64,
+    bookings: &mut [u32],
+    credits: &mut [u32],
+    queues: &mut [u32],
+    copy: &mut [u32],
+    flight: &mut [u32],
+) -> RecordResult
+    ensures outcome { λ r. ⌜ record-outcome-of r
+        (now (bookings .exit)) (now (credits .exit)) (now (queues .exit)) (now (copy .exit)) (now (flight .exit))
+        ≡ obey (machine-of machine
+        (now (bookings .entry)) (now (credits .entry)) (now (queues .entry)) (now (copy .entry)) (now (flight .entry)))
+        (Request operation input output amount) ⌝ }
+{
+    match operation {
+        Operation::Start => obey_start(machine, input, output, bookings, credits, queues),
+        Operation::Pipe => obey_pipe(
+            machine,
+            input,
+            output,
+            bookings,
+            credits,
+            queues,
+            copy,
+            flight,
+        ),
+        Operation::Book => obey_book(machine, input, output, amount, bookings),
+        Operation::Release => obey_release(machine, input, output, amount, bookings),
+        Operation::Arrive => obey_arrive(machine, input, output, amount, queues),
+        Operation::Tick => obey_tick(machine, input, output, amount),
     }
 }

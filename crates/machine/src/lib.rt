@@ -3,23 +3,21 @@ mod calls;
 mod refusals;
 mod slots;
 
-use calls::arrive_record;
-use calls::book_record;
-use calls::pipe_record;
-use calls::release_record;
-use calls::start_record;
-use calls::tick_record;
+use calls::obey_request;
 use refusals::unread;
 use slots::direct_slot;
 use slots::pipelined_slot;
 use wsgs::Clock;
-use wsgs::Operation;
 use wsgs::Reading;
+use wsgs::Refusal;
 ghost use mathlib.Core.Path.{_≡_};
-ghost use Rattle.wsgs.specs.Ledger.{slot-of-tick};
-ghost use Rattle.wsgs.specs.Steps.{outputs-of, pass-word-of};
-ghost use Rattle.machine.specs.Effects.{ticked, slots-of, begun};
-ghost use Rattle.machine.specs.View.{machine-of, with-switch, refused-of, refused-by};
+ghost use Rattle.wsgs.specs.Program.{obey, run-slot};
+ghost use Rattle.machine.specs.View.{machine-of, record-outcome-of, slot-outcome-of};
+
+// The words of a run that holds a word for each pair of 32 ports, and of one that holds the rows in flight.
+pub const PAIR_WORDS: usize = 1_024;
+
+pub const FLIGHT_WORDS: usize = 2_048;
 
 // The machine beside its lent runs: whether a start or pipe has been accepted, the form of the last one, and the clock.
 pub struct Machine {
@@ -28,31 +26,23 @@ pub struct Machine {
     pub clock: Clock,
 }
 
-// A refusal as its line has it: the last slot run, the record's second and third field, and the number. All are 0 where there is none.
-pub struct Refused {
-    pub slot: u64,
-    pub input: u64,
-    pub output: u64,
-    pub number: u32,
-}
-
 // What a record leaves: the machine, the slots still to run, and its refusal.
-pub struct Obeyed {
+pub struct RecordResult {
     pub machine: Machine,
     pub slots: u64,
-    pub refused: Refused,
+    pub refusal: Refusal,
 }
 
-// What a slot leaves: the machine and its refusal; and what its tick answers: the slot whose pairs it hands out, and the pairs.
-pub struct Ran {
+// What a slot leaves: the machine; the slot whose pairs its tick hands out, and the pairs; and its refusal.
+pub struct SlotResult {
     pub machine: Machine,
-    pub refused: Refused,
     pub slot: u64,
     pub outputs: [u8; 32],
     pub first_pass: u32,
+    pub refusal: Refusal,
 }
 
-// A record: it is obeyed, or its slots are left to run.
+// A record: what it does at once. Slots that it asks for are left to run.
 pub fn obey(
     machine: Machine,
     reading: Reading,
@@ -61,30 +51,26 @@ pub fn obey(
     queues: &mut [u32],
     copy: &mut [u32],
     flight: &mut [u32],
-) -> Obeyed
-    ensures { λ r. ⌜ machine-of (r .machine) (now (bookings .exit)) (now (credits .exit)) (now (queues .exit)) (now (copy .exit)) (now (flight .exit)) ≡ begun (machine-of machine (now (bookings .entry)) (now (credits .entry)) (now (queues .entry)) (now (copy .entry)) (now (flight .entry))) reading .machine ⌝ }
-    ensures { λ r. ⌜ r .slots ≡ slots-of (machine-of machine (now (bookings .entry)) (now (credits .entry)) (now (queues .entry)) (now (copy .entry)) (now (flight .entry))) reading ⌝ }
-    ensures { λ r. ⌜ r .refused ≡ refused-by (machine-of machine (now (bookings .entry)) (now (credits .entry)) (now (queues .entry)) (now (copy .entry)) (now (flight .entry))) reading ⌝ }
+) -> RecordResult
+    ensures outcome { λ r. ⌜ record-outcome-of r
+        (now (bookings .exit)) (now (credits .exit)) (now (queues .exit)) (now (copy .exit)) (now (flight .exit))
+        ≡ obey (machine-of machine
+        (now (bookings .entry)) (now (credits .entry)) (now (queues .entry)) (now (copy .entry)) (now (flight .entry))) reading ⌝ }
 {
-    let Reading::Request(operation, second, third, fourth) = reading else {
-        return unread(machine);
-    };
-    match operation {
-        Operation::Start => start_record(machine, second, third, bookings, credits, queues),
-        Operation::Pipe => pipe_record(
+    match reading {
+        Reading::Request(operation, input, output, amount) => obey_request(
             machine,
-            second,
-            third,
+            operation,
+            input,
+            output,
+            amount,
             bookings,
             credits,
             queues,
             copy,
             flight,
         ),
-        Operation::Book => book_record(machine, second, third, fourth, bookings),
-        Operation::Release => release_record(machine, second, third, fourth, bookings),
-        Operation::Arrive => arrive_record(machine, second, third, fourth, queues),
-        Operation::Tick => tick_record(machine, second, third, fourth),
+        Reading::Refused(number) => unread(machine, number),
     }
 }
 
@@ -96,12 +82,11 @@ pub fn run_slot(
     queues: &mut [u32],
     copy: &mut [u32],
     flight: &mut [u32],
-) -> Ran
-    ensures { λ r. ⌜ machine-of (r .machine) (now (bookings .entry)) (now (credits .exit)) (now (queues .exit)) (now (copy .exit)) (now (flight .exit)) ≡ with-switch (machine-of machine (now (bookings .entry)) (now (credits .entry)) (now (queues .entry)) (now (copy .entry)) (now (flight .entry))) (ticked (machine-of machine (now (bookings .entry)) (now (credits .entry)) (now (queues .entry)) (now (copy .entry)) (now (flight .entry))) .after) ⌝ }
-    ensures { λ r. ⌜ r .refused ≡ refused-of (machine-of machine (now (bookings .entry)) (now (credits .entry)) (now (queues .entry)) (now (copy .entry)) (now (flight .entry))) 0 0 (ticked (machine-of machine (now (bookings .entry)) (now (credits .entry)) (now (queues .entry)) (now (copy .entry)) (now (flight .entry))) .refusal) ⌝ }
-    ensures { λ r. ⌜ r .slot ≡ slot-of-tick (machine-of machine (now (bookings .entry)) (now (credits .entry)) (now (queues .entry)) (now (copy .entry)) (now (flight .entry)) .form) (ticked (machine-of machine (now (bookings .entry)) (now (credits .entry)) (now (queues .entry)) (now (copy .entry)) (now (flight .entry))) .after .clock .slot) ⌝ }
-    ensures { λ r. ⌜ r .outputs ≡ outputs-of (ticked (machine-of machine (now (bookings .entry)) (now (credits .entry)) (now (queues .entry)) (now (copy .entry)) (now (flight .entry))) .matching) ⌝ }
-    ensures { λ r. ⌜ r .«first_pass» ≡ pass-word-of (ticked (machine-of machine (now (bookings .entry)) (now (credits .entry)) (now (queues .entry)) (now (copy .entry)) (now (flight .entry))) .matching) ⌝ }
+) -> SlotResult
+    ensures outcome { λ r. ⌜ slot-outcome-of r
+        (now (bookings .entry)) (now (credits .exit)) (now (queues .exit)) (now (copy .exit)) (now (flight .exit))
+        ≡ run-slot (machine-of machine
+        (now (bookings .entry)) (now (credits .entry)) (now (queues .entry)) (now (copy .entry)) (now (flight .entry))) ⌝ }
 {
     if machine.pipelined {
         return pipelined_slot(machine, bookings, credits, queues, copy, flight);

@@ -1,28 +1,16 @@
 // Refusals, as their lines have them.
 use crate::Machine;
-use crate::Obeyed;
-use crate::Refused;
+use crate::RecordResult;
+use wsgs::Refusal;
 ghost use mathlib.Core.Path.{_≡_};
-ghost use mathlib.Core.List.{List};
-ghost use Prim.Native.Nat.{ℕ};
-ghost use Rattle.machine.specs.View.{machine-of, refused-of, unread-record};
+ghost use Rattle.wsgs.specs.Program.{number-alone};
+ghost use Rattle.machine.specs.View.{machine-refusal, unread-result};
 
-// A call's refusal, number 0 for none. Before any accepted start or pipe it has its number alone.
-pub fn refusal(machine: Machine, input: u64, output: u64, number: u32) -> Refused
-    ensures { λ r. ⌜ ((a c q p f : List ℕ) → r ≡ refused-of (machine-of machine a c q p f) input output number) ⌝ }
+// A refusal that has its number alone.
+fn number_alone(number: u32) -> Refusal
+    ensures refusal { λ r. ⌜ r ≡ number-alone number ⌝ }
 {
-    let clock = machine.clock;
-    if machine.running {
-        if number > 0 {
-            return Refused {
-                slot: clock.slot as u64,
-                input,
-                output,
-                number,
-            };
-        }
-    }
-    Refused {
+    Refusal {
         slot: 0,
         input: 0,
         output: 0,
@@ -30,19 +18,32 @@ pub fn refusal(machine: Machine, input: u64, output: u64, number: u32) -> Refuse
     }
 }
 
-// An unreadable record, or one that is neither start nor pipe before any of these has been accepted.
-pub fn unread(machine: Machine) -> Obeyed
-    ensures { λ r. ⌜ r ≡ unread-record machine ⌝ }
+// A call's refusal, number 0 for none. Before any accepted start or pipe it has its number alone.
+pub fn refusal(machine: Machine, input: u64, output: u64, number: u32) -> Refusal
+    ensures refusal { λ r. ⌜ r ≡ machine-refusal machine input output number ⌝ }
 {
-    let refused = Refused {
-        slot: 0,
-        input: 0,
-        output: 0,
-        number: 12,
-    };
-    Obeyed {
+    if !machine.running {
+        return number_alone(number);
+    }
+    if number == 0 {
+        return number_alone(number);
+    }
+    let clock = machine.clock;
+    Refusal {
+        slot: clock.slot as u64,
+        input,
+        output,
+        number,
+    }
+}
+
+// A record that cannot be read.
+pub fn unread(machine: Machine, number: u32) -> RecordResult
+    ensures result { λ r. ⌜ r ≡ unread-result machine number ⌝ }
+{
+    RecordResult {
         machine,
         slots: 0,
-        refused,
+        refusal: number_alone(number),
     }
 }

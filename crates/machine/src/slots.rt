@@ -1,19 +1,20 @@
 // A slot of a tick record: the tick of one form, and what it leaves.
 use crate::Machine;
-use crate::Ran;
+use crate::SlotResult;
 use crate::refusals::refusal;
-use clock::Stepped;
 use wsgs::Clock;
+use wsgs::TickResult;
 ghost use mathlib.Core.Path.{_≡_};
 ghost use mathlib.Core.Bool.{true, false};
 ghost use mathlib.Core.List.{List};
 ghost use Prim.Native.Nat.{ℕ};
 ghost use Rattle.wsgs.specs.Ledger.{slot-of-tick};
-ghost use Rattle.machine.specs.View.{form-of, machine-of, with-clock, Answers, Runs};
+ghost use Rattle.wsgs.specs.Program.{run-slot};
+ghost use Rattle.machine.specs.View.{form-of, machine-of, slot-outcome-of, with-clock, tick-slot-result};
 
-// The slot that a tick hands out.
+// The slot whose pairs a tick hands out.
 fn shown_slot(pipelined: bool, slot: u32) -> u64
-    ensures { λ r. ⌜ r ≡ slot-of-tick (form-of pipelined) slot ⌝ }
+    ensures slot { λ r. ⌜ r ≡ slot-of-tick (form-of pipelined) slot ⌝ }
 {
     if pipelined {
         return slot as u64 + 1;
@@ -23,25 +24,24 @@ fn shown_slot(pipelined: bool, slot: u32) -> u64
 
 // The machine with another clock.
 fn with_clock(mut machine: Machine, clock: Clock) -> Machine
-    ensures { λ r. ⌜ r ≡ with-clock machine clock ⌝ }
+    ensures machine { λ r. ⌜ r ≡ with-clock machine clock ⌝ }
 {
     machine.clock = clock;
     machine
 }
 
-// What a tick leaves and answers.
-fn answered(machine: Machine, stepped: Stepped) -> Ran
-    ensures { λ r. ⌜ ((a c q p f : List ℕ) → Answers machine a c q p f stepped r) ⌝ }
+// What a slot leaves, by what its tick gave back.
+fn slot_result(machine: Machine, tick: TickResult) -> SlotResult
+    ensures result { λ r. ⌜ r ≡ tick-slot-result machine tick ⌝ }
 {
-    let clock = stepped.clock;
-    let answer = stepped.answer;
-    let outputs = answer.outputs;
-    Ran {
+    let clock = tick.clock;
+    let outputs = tick.outputs;
+    SlotResult {
         machine: with_clock(machine, clock),
-        refused: refusal(machine, 0, 0, answer.refusal),
         slot: shown_slot(machine.pipelined, clock.slot),
         outputs,
-        first_pass: answer.first_pass,
+        first_pass: tick.first_pass,
+        refusal: refusal(machine, 0, 0, tick.refusal),
     }
 }
 
@@ -51,13 +51,14 @@ pub fn direct_slot(
     bookings: &[u32],
     credits: &mut [u32],
     queues: &mut [u32],
-) -> Ran
-    requires { ⌜ machine .pipelined ≡ false ⌝ }
-    ensures { λ r. ⌜ ((p f : List ℕ) → Runs (machine-of machine (now (bookings .entry)) (now (credits .entry)) (now (queues .entry)) p f) r (machine-of (r .machine) (now (bookings .entry)) (now (credits .exit)) (now (queues .exit)) p f)) ⌝ }
+) -> SlotResult
+    requires form { ⌜ machine .pipelined ≡ false ⌝ }
+    ensures outcome { λ r. ⌜ ((p f : List ℕ) → slot-outcome-of r (now (bookings .entry)) (now (credits .exit)) (now (queues .exit)) p f
+        ≡ run-slot (machine-of machine (now (bookings .entry)) (now (credits .entry)) (now (queues .entry)) p f)) ⌝ }
 {
     let clock = machine.clock;
-    let stepped = clock::step_direct(clock, bookings, credits, queues);
-    answered(machine, stepped)
+    let tick = clock::step_direct(clock, bookings, credits, queues);
+    slot_result(machine, tick)
 }
 
 // A slot of the pipelined form.
@@ -68,11 +69,14 @@ pub fn pipelined_slot(
     queues: &mut [u32],
     copy: &mut [u32],
     flight: &mut [u32],
-) -> Ran
-    requires { ⌜ machine .pipelined ≡ true ⌝ }
-    ensures { λ r. ⌜ Runs (machine-of machine (now (bookings .entry)) (now (credits .entry)) (now (queues .entry)) (now (copy .entry)) (now (flight .entry))) r (machine-of (r .machine) (now (bookings .entry)) (now (credits .exit)) (now (queues .exit)) (now (copy .exit)) (now (flight .exit))) ⌝ }
+) -> SlotResult
+    requires form { ⌜ machine .pipelined ≡ true ⌝ }
+    ensures outcome { λ r. ⌜ slot-outcome-of r
+        (now (bookings .entry)) (now (credits .exit)) (now (queues .exit)) (now (copy .exit)) (now (flight .exit))
+        ≡ run-slot (machine-of machine
+        (now (bookings .entry)) (now (credits .entry)) (now (queues .entry)) (now (copy .entry)) (now (flight .entry))) ⌝ }
 {
     let clock = machine.clock;
-    let stepped = clock::step_pipelined(clock, bookings, credits, queues, copy, flight);
-    answered(machine, stepped)
+    let tick = clock::step_pipelined(clock, bookings, credits, queues, copy, flight);
+    slot_result(machine, tick)
 }

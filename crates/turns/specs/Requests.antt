@@ -24,7 +24,7 @@ pub record Turn (n i : ℕ) (run : List ℕ) : Type 0 where
 abbrev pub both-above : (one two : List ℕ) (row k : ℕ) → Bool
 both-above one two row k = ltb 0 (getD one (row + k) 0) && ltb 0 (getD two (row + k) 0)
 
--- the table's words of the columns below n that pass a test, put together by or
+-- the bitwise or of the table's words for the columns below n that pass a test
 unfoldable pub gathered : (table : List ℕ) → (ℕ → Bool) → ℕ → ℕ
 gathered table test zero = 0
 gathered table test (suc k) = bitOr (gathered table test k) (pick (test k) (getD table k 0) 0)

@@ -19,8 +19,8 @@ pub fn has_turn(ports: usize, input: Input, words: usize) -> bool
     ports * ports <= words
 }
 
-// What an input asks for: the table's words of the outputs for which it has a credit and a packet, and of those for which it has a packet, each
-// put together.
+// What an input asks for, as two sets of outputs: those for which it has a credit and a packet, and those for which it has a packet. A set is the
+// bitwise or of the table's words for its outputs.
 pub struct Requests {
     pub ready: u32,
     pub waiting: u32,

@@ -1,17 +1,18 @@
 -- Feeding a block. The loop's invariant: what is written so far, and the rest of the steps from here, are those of the definition.
 use mathlib.Core.Path.{_≡_, refl, sym, _∙_}
-use Prim.Native.Nat.{_+_, _-_, _*_}
-use borrow.Author.Needs.{needs}
+use Prim.Native.Nat.{_-_}
+use native.Mathlib.Omega.{arith}
 use lib.ListN.{length}
+use Rattle.events.specs.Feeding.{most-steps}
 use Rattle.events.specs.View.{state-of}
-use Rattle.events.proofs.Rounds.{Feeds, feeds-none, feeds-ready, feeds-room, feeds-less, feeds-more, feeds-state, feeds-taken, feeds-count, feeds-out}
+use Rattle.events.proofs.Rounds.{SoFar, so-far-none, so-far-room, so-far-ready, so-far-less, so-far-more, so-far-all}
 use Rattle.lines.proofs.Writing.{wrote-long}
 use Rattle.events.proofs.feed.Statement.{statement}
 use Rattle.events.proofs.feed.Tie as tie
 
 abbrev Inv-loop : tie.InvT-loop
 Inv-loop block buffer₀ out₀ bookings₀ credits₀ queues₀ copy₀ flight₀ fed₀ buffer out bookings credits queues copy flight fed =
-    Feeds block (state-of (fed₀ .progress) buffer₀ bookings₀ credits₀ queues₀ copy₀ flight₀) out₀
+    SoFar block (state-of (fed₀ .progress) buffer₀ bookings₀ credits₀ queues₀ copy₀ flight₀) out₀
     (state-of (fed .progress) buffer bookings credits queues copy flight) (fed .taken) (fed .written) out
     × (length buffer ≡ length buffer₀)
     × (length bookings ≡ length bookings₀)
@@ -22,13 +23,13 @@ Inv-loop block buffer₀ out₀ bookings₀ credits₀ queues₀ copy₀ flight�
 
 abbrev μ-loop : tie.MeasureT-loop
 μ-loop block buffer₀ out₀ bookings₀ credits₀ queues₀ copy₀ flight₀ fed₀ buffer out bookings credits queues copy flight fed =
-    fed .progress .«slots_left» + (length block - fed .taken) * 10001
+    most-steps (fed .progress .«slots_left») (length block - fed .taken)
 
 loop-holds : tie.Need-loop-holds Inv-loop μ-loop
-loop-holds c = (feeds-none _ _ _, refl, refl, refl, refl, refl, refl)
+loop-holds c = (so-far-none _ _ _, refl, refl, refl, refl, refl, refl)
 
 goes-on-requires : tie.Need-goes-on-requires Inv-loop μ-loop
-goes-on-requires c κs = search needs
+goes-on-requires c κs = let h = c .loop .inv .0 in (h .within, so-far-room _ _ _ h)
 
 step-requires : tie.Need-step-requires Inv-loop μ-loop
 step-requires c κs =
@@ -36,15 +37,15 @@ step-requires c κs =
     let test = way .before in
     let h = test .before .loop .inv .0 in
     let t = sym (test .goes-on .ensures) ∙ way .if1 .taken in
-    let r = feeds-ready _ _ _ h t in
-    (r .byte, (r .buffer, feeds-room _ _ _ h t))
+    let r = so-far-ready _ _ _ h t in
+    (λ e. omega (arith, r .byte e), (r .long, omega (arith, r .room-left)))
 
 loop-less : tie.Need-loop-less Inv-loop μ-loop
 loop-less c =
     let call = c .before .before .before .before .before .before .before .before .before .before .before .before .before .before in
     let way = call .before .before .before .before .before .before .before .before in
     let test = way .before in
-    feeds-less _ _ _ (test .before .loop .inv .0) (sym (test .goes-on .ensures) ∙ way .if1 .taken) (call .step .ensures .1) (call .step .ensures .0)
+    so-far-less _ _ _ (test .before .loop .inv .0) (sym (test .goes-on .ensures) ∙ way .if1 .taken) (call .step .ensures .1) (call .step .ensures .0)
 
 loop-again : tie.Need-loop-again Inv-loop μ-loop
 loop-again c =
@@ -52,7 +53,7 @@ loop-again c =
     let way = call .before .before .before .before .before .before .before .before in
     let test = way .before in
     let h = test .before .loop .inv in (
-      feeds-more _ _ _ (h .0) (sym (test .goes-on .ensures) ∙ way .if1 .taken) (call .step .ensures .1) (call .step .ensures .0),
+      so-far-more _ _ _ (h .0) (sym (test .goes-on .ensures) ∙ way .if1 .taken) (call .step .ensures .1) (call .step .ensures .0),
       call .step .kept .1 .1 .0 ∙ h .1,
       call .step .kept .1 .1 .1 .1 .0 ∙ h .2,
       call .step .kept .1 .1 .1 .1 .1 .0 ∙ h .3,
@@ -86,7 +87,7 @@ returns : tie.Need-returns Inv-loop μ-loop
 returns c =
     let h = c .before .before .loop .inv .0 in
     let t = sym (c .before .goes-on .ensures) ∙ c .if1 .left in
-    (feeds-state _ _ _ h t, (feeds-taken _ _ _ h t, (feeds-count _ _ _ h t, feeds-out _ _ _ h t)))
+    so-far-all _ _ _ h t
 
 pub feed-spec : {M : Type 1} → statement M
 feed-spec =

@@ -1,5 +1,4 @@
 -- A slot, by the machine's form.
-use Rattle.machine.proofs.Ticks.{runs-all}
 use borrow.Author.Needs.{needs}
 use Rattle.machine.proofs.run_slot.Statement.{statement}
 use Rattle.machine.proofs.run_slot.Tie as tie
@@ -20,7 +19,7 @@ same-length-4 : tie.Need-same-length-4
 same-length-4 c = search needs
 
 returns : tie.Need-returns
-returns c = runs-all (c .before .before .before .before .before .before .before .before .pipelined-slot .ensures)
+returns c = c .before .before .before .before .before .before .before .before .pipelined-slot .ensures
 
 direct-slot-requires : tie.Need-direct-slot-requires
 direct-slot-requires c κs = search needs
@@ -32,7 +31,7 @@ same-length-6 : tie.Need-same-length-6
 same-length-6 c = search needs
 
 returns-2 : tie.Need-returns-2
-returns-2 c = runs-all (c .before .before .before .before .direct-slot .ensures _ _)
+returns-2 c = c .before .before .before .before .direct-slot .ensures _ _
 
 pub run-slot-spec : {M : Type 1} → statement M
 run-slot-spec =

@@ -1,11 +1,9 @@
 -- The end of the heading, or of another record.
-use mathlib.Core.Path.{sym, ap, _∙_}
+use mathlib.Core.Path.{sym}
 use native.Mathlib.Omega.{arith}
 use borrow.Author.Tests.{not-true, not-false}
 use lib.Seq.{length-take-le}
-use Rattle.machine.specs.View.{refused-text}
-use Rattle.machine.proofs.Effects.{refused-printed}
-use Rattle.events.proofs.Leaving.{heading-left, record-left}
+use Rattle.events.proofs.StepLaws.{heading-written, record-written}
 use borrow.Author.Needs.{needs}
 use Rattle.events.proofs.bytes.end_record.Statement.{statement}
 use Rattle.events.proofs.bytes.end_record.Tie as tie
@@ -15,9 +13,9 @@ ended-requires c κs = search needs
 
 returns : tie.Need-returns
 returns c =
-    let s = c .before .before .before .before .before .before .before .before .before .before .before .args in
-    heading-left (s .progress) (s .buffer .now) (s .bookings .now) (s .credits .now) (s .queues .now) (s .copy .now) (s .flight .now) _ _
-    (not-true (s .progress .«past_heading») (c .before .if1 .taken)) (c .ended .ensures .0) (c .ended .ensures .1) (omega arith)
+    let a = c .before .before .before .before .before .before .before .before .before .before .before .args in
+    heading-written (a .progress) (a .buffer .now) (a .bookings .now) (a .credits .now) (a .queues .now) (a .copy .now) (a .flight .now) _ _
+    (not-true (a .progress .«past_heading») (c .before .if1 .taken)) (c .ended .ensures .0) (c .ended .ensures .1) (omega arith)
 
 kept-length-requires : tie.Need-kept-length-requires
 kept-length-requires c κs = search needs
@@ -31,10 +29,9 @@ read-record-requires c κs = search needs
 obey-requires : tie.Need-obey-requires
 obey-requires c κs = search needs
 
-put-refused-requires : tie.Need-put-refused-requires
-put-refused-requires c κs =
-    let call = c .before .before .before .before .before .before .before .before .before .before .before .before in
-    let start = call .before .before .before .before .before .before .before .before .before .before .before .before .before .before .before .before .before .before .before in
+put-refusal-requires : tie.Need-put-refusal-requires
+put-refusal-requires c κs =
+    let start = c .before .before .before .before .before .before .before .before .before .before .before .before .before .before .before .before .before .before .before .before .before .before .before .before .before .before .before .before .before .before .before in
     omega (arith, start .pre .1)
 
 ended-requires-2 : tie.Need-ended-requires-2
@@ -64,11 +61,10 @@ returns-2 c =
     let call = put .before .before .before .before .before .before .before .before .before .before .before .before .before in
     let read = call .before .before .before .before .before .before in
     let length = read .before .before in
-    let s = length .before .before .before .before .before .before .before .before .before .before .before .args in
-    let e = call .obey .ensures in
-    record-left (s .progress) (s .buffer .now) (s .bookings .now) (s .credits .now) (s .queues .now) (s .copy .now) (s .flight .now) _ _ (call .obey .result) _ _ _ _ _ _ _ _
-    (not-false (s .progress .«past_heading») (length .before .if1 .left)) (length .kept-length .ensures) (read .read-record .ensures) (e .0) (e .1 .0)
-    (ap refused-text (e .1 .1) ∙ refused-printed _ _) (put .put-refused .ensures) (c .ended2 .ensures .0) (c .ended2 .ensures .1)
+    let a = length .before .before .before .before .before .before .before .before .before .before .before .args in
+    record-written (a .progress) (a .buffer .now) (a .bookings .now) (a .credits .now) (a .queues .now) (a .copy .now) (a .flight .now) (call .obey .result) _ _ _ _ _ _ _ _ _ _
+    (not-false (a .progress .«past_heading») (length .before .if1 .left)) (length .kept-length .ensures) (read .read-record .ensures) (call .obey .ensures)
+    (put .put-refusal .ensures) (c .ended2 .ensures .0) (c .ended2 .ensures .1)
 
 pub end-record-spec : {M : Type 1} → statement M
 end-record-spec =
@@ -80,7 +76,7 @@ end-record-spec =
     slice-aggregate-read-record
     read-record-requires
     obey-requires
-    put-refused-requires
+    put-refusal-requires
     ended-requires-2
     same-length
     same-length-2

@@ -1,6 +1,6 @@
 -- A byte ends the record, or goes on with it.
 use native.Mathlib.Omega.{arith}
-use Rattle.events.proofs.Leaving.{byte-ended, byte-kept}
+use Rattle.events.proofs.StepLaws.{byte-ended, byte-kept}
 use borrow.Author.Needs.{needs}
 use Rattle.events.proofs.bytes.take_byte.Statement.{statement}
 use Rattle.events.proofs.bytes.take_byte.Tie as tie
@@ -35,9 +35,9 @@ same-length-7 c = search needs
 returns : tie.Need-returns
 returns c =
     let call = c .before .before .before .before .before .before .before .before .before .before .before .before in
-    let test = call .before .before .before .before .before .before .before .before .before in
-    let s = test .before .before .before .before .before .before .before .before .args in
-    byte-ended (s .progress) (s .buffer .now) (s .bookings .now) (s .credits .now) (s .queues .now) (s .copy .now) (s .flight .now) (s .byte) _ (test .is-end .ensures) (call .before .before .before .before .before .before .before .before .if1 .taken) (call .end-record .ensures)
+    let way = call .before .before .before .before .before .before .before .before in
+    let a = way .before .before .before .before .before .before .before .before .before .args in
+    byte-ended (a .progress) (a .buffer .now) (a .bookings .now) (a .credits .now) (a .queues .now) (a .copy .now) (a .flight .now) (a .byte) _ (way .before .is-end .ensures) (way .if1 .taken) (call .end-record .ensures)
 
 append-requires : tie.Need-append-requires
 append-requires c κs = search needs
@@ -47,8 +47,11 @@ same-length-8 c = search needs
 
 returns-2 : tie.Need-returns-2
 returns-2 c =
-    let s = c .before .before .before .before .before .before .before .before .before .before .before .before .before .args in
-    byte-kept (s .progress) (s .buffer .now) (s .bookings .now) (s .credits .now) (s .queues .now) (s .copy .now) (s .flight .now) (s .byte) _ (c .before .before .before .before .before .is-end .ensures) (c .before .before .before .before .if1 .left) (c .before .before .append .ensures _ _ _ _ _) (omega arith)
+    let call = c .before .before in
+    let way = call .before .before in
+    let start = way .before .before .before .before .before .before .before .before .before in
+    let a = start .args in
+    byte-kept (a .progress) (a .buffer .now) (a .bookings .now) (a .credits .now) (a .queues .now) (a .copy .now) (a .flight .now) (a .byte) _ (way .before .is-end .ensures) (way .if1 .left) (call .append .ensures _ _ _ _ _) (omega (arith, start .pre .1))
 
 pub take-byte-spec : {M : Type 1} → statement M
 take-byte-spec =

@@ -1,5 +1,6 @@
--- The lines of a slot's pairs at the front of the rest of the buffer.
+-- The lines of a slot's pairs at the front of the rest of the output.
 use native.Mathlib.Omega.{arith}
+use Rattle.lines.specs.Lines.{slot-room}
 use Rattle.lines.proofs.Printing.{slot-short}
 use Rattle.lines.proofs.Writing.{wrote-rest}
 use borrow.Author.Needs.{needs}
@@ -22,9 +23,9 @@ add-result : tie.Need-add-result
 add-result c =
     let call = c .before .before in
     let start = call .before .before .before in
-    let s = start .args in
-    let short = slot-short (s .slot) (s .outputs) (s .passes) (start .good .1 .1 .1 .1 .0 .1 .0 .1) (s .ports) in
-    let w = wrote-rest 2912 (s .out .now) (s .at) _ (omega arith) short (call .slot-lines .ensures .0) (call .slot-lines .ensures .1) in
+    let a = start .args in
+    let short = slot-short (a .slot) (a .outputs) (a .first-pass) (start .good .1 .1 .1 .1 .0 .1 .0 .1) (a .ports) in
+    let w = wrote-rest slot-room (a .out .now) (a .at) _ (omega arith) short (call .slot-lines .ensures) in
     omega (arith, w .fits, w .next-place)
 
 same-length : tie.Need-same-length
@@ -34,9 +35,9 @@ returns : tie.Need-returns
 returns c =
     let call = c .before .before in
     let start = call .before .before .before in
-    let s = start .args in
-    let short = slot-short (s .slot) (s .outputs) (s .passes) (start .good .1 .1 .1 .1 .0 .1 .0 .1) (s .ports) in
-    wrote-rest 2912 (s .out .now) (s .at) _ (omega arith) short (call .slot-lines .ensures .0) (call .slot-lines .ensures .1)
+    let a = start .args in
+    let short = slot-short (a .slot) (a .outputs) (a .first-pass) (start .good .1 .1 .1 .1 .0 .1 .0 .1) (a .ports) in
+    wrote-rest slot-room (a .out .now) (a .at) _ (omega arith) short (call .slot-lines .ensures)
 
 pub put-pairs-spec : {M : Type 1} → statement M
 put-pairs-spec =

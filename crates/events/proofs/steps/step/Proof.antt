@@ -1,7 +1,7 @@
 -- A step: a slot where one is to run, else a byte.
 use mathlib.Core.Path.{_∙_}
 use native.Mathlib.Omega.{arith}
-use Rattle.events.proofs.Leaving.{slot-taken, byte-taken, step-ran, step-took}
+use Rattle.events.proofs.StepLaws.{slot-taken, byte-taken, step-slot-written, step-byte-written}
 use borrow.Author.Needs.{needs}
 use Rattle.events.proofs.steps.step.Statement.{statement}
 use Rattle.events.proofs.steps.step.Tie as tie
@@ -31,8 +31,11 @@ returns : tie.Need-returns
 returns c =
     let call = c .before .before .before .before .before .before .before .before .before .before in
     let way = call .before .before .before .before .before .before .before in
-    let s = way .before .before .before .before .before .before .before .before .before .before .before .args in
-    (call .step-slot .ensures .0 ∙ slot-taken _ _ (way .if1 .taken), step-ran (s .fed .progress) (s .buffer .now) (s .bookings .now) (s .credits .now) (s .queues .now) (s .copy .now) (s .flight .now) (s .block .now) (s .fed .taken) (way .if1 .taken) (call .step-slot .ensures .1 _))
+    let a = way .before .before .before .before .before .before .before .before .before .before .before .args in (
+      call .step-slot .ensures .0 ∙ slot-taken _ _ (way .if1 .taken),
+      step-slot-written (a .fed .progress) (a .buffer .now) (a .bookings .now) (a .credits .now) (a .queues .now) (a .copy .now) (a .flight .now) (a .block .now) (a .fed .taken) (way .if1 .taken)
+          (call .step-slot .ensures .1 _),
+    )
 
 step-byte-requires : tie.Need-step-byte-requires
 step-byte-requires c κs =
@@ -65,8 +68,11 @@ returns-2 : tie.Need-returns-2
 returns-2 c =
     let call = c .before .before .before .before .before .before .before .before .before .before .before .before .before .before in
     let way = call .before .before .before .before .before .before .before .before in
-    let s = way .before .before .before .before .before .before .before .before .before .before .before .args in
-    (call .step-byte .ensures .0 ∙ byte-taken _ _ (way .if1 .left), step-took (s .fed .progress) (s .buffer .now) (s .bookings .now) (s .credits .now) (s .queues .now) (s .copy .now) (s .flight .now) (s .block .now) (s .fed .taken) (way .if1 .left) (call .step-byte .ensures .1))
+    let a = way .before .before .before .before .before .before .before .before .before .before .before .args in (
+      call .step-byte .ensures .0 ∙ byte-taken _ _ (way .if1 .left),
+      step-byte-written (a .fed .progress) (a .buffer .now) (a .bookings .now) (a .credits .now) (a .queues .now) (a .copy .now) (a .flight .now) (a .block .now) (a .fed .taken) (way .if1 .left)
+          (call .step-byte .ensures .1),
+    )
 
 pub step-spec : {M : Type 1} → statement M
 step-spec =

@@ -1,7 +1,7 @@
 -- A slot of a tick record.
 use mathlib.Core.Path.{refl}
 use native.Mathlib.Omega.{arith}
-use Rattle.events.proofs.Leaving.{slot-left}
+use Rattle.events.proofs.StepLaws.{slot-written}
 use borrow.Author.Needs.{needs}
 use Rattle.events.proofs.steps.step_slot.Statement.{statement}
 use Rattle.events.proofs.steps.step_slot.Tie as tie
@@ -9,14 +9,11 @@ use Rattle.events.proofs.steps.step_slot.Tie as tie
 run-slot-requires : tie.Need-run-slot-requires
 run-slot-requires c κs = search needs
 
-put-ran-requires : tie.Need-put-ran-requires
-put-ran-requires c κs = search needs
+put-slot-requires : tie.Need-put-slot-requires
+put-slot-requires c κs = search needs
 
 slots-after-requires : tie.Need-slots-after-requires
-slots-after-requires c κs =
-    let call = c .before .before .before .before .before .before .before .before .before .before .before .before .before .before in
-    let start = call .before .before .before .before .before .before .before .before .before .before .before .before .before in
-    omega (arith, start .pre .0)
+slots-after-requires c κs = let start = c .before .before .before .before .before .before .before .before .before .before .before .before .before .before .before .before .before .before .before .before .before .before .before .before .before .before .before in omega (arith, start .pre .0)
 
 moved-requires : tie.Need-moved-requires
 moved-requires c κs = search needs
@@ -40,11 +37,11 @@ returns : tie.Need-returns
 returns c =
     let put = c .before .before .before .before .before .before in
     let call = put .before .before .before .before .before .before .before .before .before .before in
-    let s = call .before .before .before .before .before .before .before .before .before .before .before .before .before .args in
-    let e = call .run-slot .ensures in (
+    let a = call .before .before .before .before .before .before .before .before .before .before .before .before .before .args in (
       refl,
-      λ b. slot-left (s .fed .progress) b (s .bookings .now) (s .credits .now) (s .queues .now) (s .copy .now) (s .flight .now) _ _ _ _ _ _ _ _ (e .0) (e .1 .0) (e .1 .1 .0)
-          (e .1 .1 .1 .0) (e .1 .1 .1 .1) (put .put-ran .ensures) (c .before .slots-after .ensures) (c .moved .ensures),
+      λ b.
+          slot-written (a .fed .progress) b (a .bookings .now) (a .credits .now) (a .queues .now) (a .copy .now) (a .flight .now) (call .run-slot .result) _ _ _ _ _ _ _ (call .run-slot .ensures) (put .put-slot .ensures)
+          (c .before .slots-after .ensures) (c .moved .ensures),
     )
 
 pub step-slot-spec : {M : Type 1} → statement M
@@ -52,7 +49,7 @@ step-slot-spec =
     tie.close
     (tie.spec
     run-slot-requires
-    put-ran-requires
+    put-slot-requires
     slots-after-requires
     moved-requires
     same-length

@@ -1,4 +1,4 @@
--- The machine after a start or pipe.
+-- The machine after a start, by its refusal.
 use borrow.Author.Tests.{eq-eqb, ne-eqb}
 use Rattle.machine.proofs.calls.after_start.Statement.{statement}
 use Rattle.machine.proofs.calls.after_start.Tie as tie

@@ -1,20 +1,36 @@
--- A call's refusal, by whether the machine runs and by its number.
-use borrow.Author.Tests.{lt-ltb, le-ltb}
+-- A refusal has its number alone before any start and where there is none.
+use mathlib.Core.Path.{_∙_}
+use native.Mathlib.Omega.{arith}
+use borrow.Author.Tests.{not-true, not-false, lt-ltb, le-ltb}
 use borrow.Author.Needs.{needs}
 use Rattle.machine.proofs.refusals.refusal.Statement.{statement}
 use Rattle.machine.proofs.refusals.refusal.Tie as tie
 
-cast-t8 : tie.Need-cast-t8
-cast-t8 c = search needs
+number-alone-requires : tie.Need-number-alone-requires
+number-alone-requires c κs = search needs
 
 returns : tie.Need-returns
-returns c = λ a k q p f. rw (c .before .before .if1 .taken, lt-ltb _ _ (c .before .if2 .taken))
+returns c =
+    let running = not-true (c .before .before .before .args .machine .running) (c .before .if1 .taken) in
+    c .number-alone .ensures ∙ rw running
+
+number-alone-requires-2 : tie.Need-number-alone-requires-2
+number-alone-requires-2 c κs = search needs
 
 returns-2 : tie.Need-returns-2
-returns-2 c = λ a k q p f. rw (c .before .if1 .taken, le-ltb _ _ (c .if2 .left))
+returns-2 c =
+    let running = not-false (c .before .before .before .before .args .machine .running) (c .before .before .if1 .left) in
+    c .number-alone2 .ensures ∙ rw (running, le-ltb 0 (c .before .before .before .before .args .number) (omega arith))
+
+cast-t7 : tie.Need-cast-t7
+cast-t7 c = search needs
 
 returns-3 : tie.Need-returns-3
-returns-3 c = λ a k q p f. rw (c .if1 .left)
+returns-3 c =
+    let running = not-false (c .before .before .before .before .before .args .machine .running) (c .before .before .before .if1 .left) in
+    rw (running, lt-ltb 0 (c .before .before .before .before .before .args .number) (omega arith))
 
 pub refusal-spec : {M : Type 1} → statement M
-refusal-spec = tie.close (tie.spec cast-t8 returns returns-2 returns-3)
+refusal-spec =
+    tie.close
+    (tie.spec number-alone-requires returns number-alone-requires-2 returns-2 cast-t7 returns-3)

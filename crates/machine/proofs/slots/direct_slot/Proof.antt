@@ -1,5 +1,5 @@
 -- A slot of the direct form.
-use Rattle.machine.proofs.Ticks.{direct-ran}
+use Rattle.machine.proofs.SlotLaws.{direct-slot-is}
 use borrow.Author.Needs.{needs}
 use Rattle.machine.proofs.slots.direct_slot.Statement.{statement}
 use Rattle.machine.proofs.slots.direct_slot.Tie as tie
@@ -7,8 +7,8 @@ use Rattle.machine.proofs.slots.direct_slot.Tie as tie
 step-direct-requires : tie.Need-step-direct-requires
 step-direct-requires c κs = search needs
 
-answered-requires : tie.Need-answered-requires
-answered-requires c κs = search needs
+slot-result-requires : tie.Need-slot-result-requires
+slot-result-requires c κs = search needs
 
 same-length : tie.Need-same-length
 same-length c = search needs
@@ -20,12 +20,11 @@ returns : tie.Need-returns
 returns c =
     let call = c .before .before .before .before .before in
     let start = call .before .before .before .before .before .before .before in
-    let s = start .args in
-    let e = call .step-direct .ensures in
+    let a = start .args in
     λ p f.
-    direct-ran _ _ _ _ p f _ _ (c .answered .ensures (s .bookings .now) (s .credits .now) (s .queues .now) p f) _ _ (start .pre) (e .0) (e .1 .0)
-    (e .1 .1 .0) (e .1 .1 .1)
+    direct-slot-is (a .machine) (a .bookings .now) (a .credits .now) (a .queues .now) p f _ _ (c .slot-result .ensures) (start .pre) (call .step-direct .ensures)
 
 pub direct-slot-spec : {M : Type 1} → statement M
 direct-slot-spec =
-    tie.close (tie.spec step-direct-requires answered-requires same-length same-length-2 returns)
+    tie.close
+    (tie.spec step-direct-requires slot-result-requires same-length same-length-2 returns)

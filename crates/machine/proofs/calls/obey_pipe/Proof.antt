@@ -1,0 +1,51 @@
+-- A pipelined start, by what the call gives back.
+use Rattle.machine.proofs.RecordLaws.{pipe-obeyed}
+use borrow.Author.Needs.{needs}
+use Rattle.machine.proofs.calls.obey_pipe.Statement.{statement}
+use Rattle.machine.proofs.calls.obey_pipe.Tie as tie
+
+start-pipelined-requires : tie.Need-start-pipelined-requires
+start-pipelined-requires c κs = search needs
+
+after-start-requires : tie.Need-after-start-requires
+after-start-requires c κs = search needs
+
+refusal-requires : tie.Need-refusal-requires
+refusal-requires c κs = search needs
+
+same-length : tie.Need-same-length
+same-length c = search needs
+
+same-length-2 : tie.Need-same-length-2
+same-length-2 c = search needs
+
+same-length-3 : tie.Need-same-length-3
+same-length-3 c = search needs
+
+same-length-4 : tie.Need-same-length-4
+same-length-4 c = search needs
+
+same-length-5 : tie.Need-same-length-5
+same-length-5 c = search needs
+
+returns : tie.Need-returns
+returns c =
+    let call = c .before .before .before .before .before .before .before .before .before .before .before .before in
+    let a = call .before .before .before .before .before .before .before .before .before .before .before .before .args in
+    λ z.
+    pipe-obeyed (a .machine) (a .bookings .now) (a .credits .now) (a .queues .now) (a .copy .now) (a .flight .now) _ _ z (call .start-pipelined .result) _ _ (c .refusal .ensures) _ _ _ _ _
+    (c .before .after-start .ensures) (call .start-pipelined .ensures)
+
+pub obey-pipe-spec : {M : Type 1} → statement M
+obey-pipe-spec =
+    tie.close
+    (tie.spec
+    start-pipelined-requires
+    after-start-requires
+    refusal-requires
+    same-length
+    same-length-2
+    same-length-3
+    same-length-4
+    same-length-5
+    returns)
