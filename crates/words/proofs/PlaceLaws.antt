@@ -98,11 +98,15 @@ module _ (n i j : ℕ) where
   unfolding place-of
   place-there a b = rw (a, b)
 
-  -- of two ports, and that it lies inside the matrix
+  -- of two ports
+  pub place-is : n ≤ 32 → Port n i → Port n j → place-of n i j ≡ place n i j
+  unfolding place-of
+  place-is few p q = rw (port-passes n i few p, port-passes n j few q)
+
+  -- and that it lies inside the matrix
   module _ (at : ℕ) (e : at ≡ place-of n i j) (few : n ≤ 32) (p : Port n i) (q : Port n j) where
     pub at-place : at ≡ place n i j
-    unfolding place-of
-    at-place = e ∙ rw (port-passes n i few p, port-passes n j few q)
+    at-place = e ∙ place-is few p q
 
     pub at-inside : at < n * n
     at-inside = rw at-place (place-inside n i j p q)

@@ -21,7 +21,7 @@ sub-result : tie.Need-sub-result
 sub-result c = omega (arith, port (c .before) .port)
 
 mul-result : tie.Need-mul-result
-mul-result c = let p = port (c .before) in record { fits = product-fits _ _ (omega (arith, p .few, p .port)) (p .few) }
+mul-result c = let p = port (c .before) in record { fits = product-fits _ _ (omega arith) (omega arith) }
 
 returns-2 : tie.Need-returns-2
 returns-2 c =
