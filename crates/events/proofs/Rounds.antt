@@ -14,10 +14,10 @@ use Rattle.wsgs.specs.Basics.{pick, between}
 use Rattle.wsgs.specs.Text.{LF, read-record}
 use Rattle.wsgs.specs.Program.{Machine, RecordOutcome, run-slot, obey}
 use Rattle.wsgs.proofs.Laws.Tests.{in-range}
-use Rattle.lines.specs.Lines.{with-text, TextWritten, slot-room}
+use Rattle.lines.specs.Lines.{TextWritten}
 use Rattle.lines.proofs.Writing.{wrote-none, wrote-then, wrote-long}
-use Rattle.events.specs.Feeding.{State, kept-record, record-end, record-step, slots-after, slot-step, byte-step, has-work, most-steps, FeedOutcome, goes-on, next-step, next-taken, step, steps, work, fed}
-use Rattle.events.specs.View.{FeedEffect, feed-effect, StepWritten}
+use Rattle.events.specs.Feeding.{State, kept-record, record-end, record-step, slot-step, byte-step, has-work, most-steps, FeedOutcome, goes-on, next-step, next-taken, step, steps, work, fed}
+use Rattle.events.specs.View.{feed-effect, StepWritten}
 use Rattle.events.proofs.Feeding.{Ready, ready, byte-there, step-slot, step-byte}
 use Rattle.events.proofs.Whole.{end-read, end-heading, byte-ends, byte-more}
 

@@ -1,20 +1,18 @@
 -- What the calls of `feed` print for an input, with what is fed at its end, is what the program prints. Assumes nothing.
 use mathlib.Core.Path.{_≡_, refl, sym, ap, _∙_}
 use mathlib.Core.Bool.{Bool, true, false, _&&_, and-false}
-use mathlib.Core.List.{List, [], _∷_, _++_, append-assoc, append-nil}
-use Prim.Native.Nat.{ℕ, _≤_, _<_}
-use native.Mathlib.Decide.{decLt}
+use mathlib.Core.List.{List, [], _∷_, _++_, append-assoc}
+use Prim.Native.Nat.{ℕ, _≤_}
 use native.Mathlib.Omega.{arith}
 use borrow.Author.Tests.{eq-eqb, ne-eqb}
 use lib.Dec.{eqb}
 use lib.ListN.{length, replicate}
 use Rattle.wsgs.specs.declared.Reading.{Reading}
-use Rattle.wsgs.specs.Basics.{pick, between}
 use Rattle.wsgs.specs.Text.{CR, LF, drop-last, reversed, records-from, records, read-record, heading}
 use Rattle.wsgs.specs.Program.{Machine, Step, run-record, run-records, skip-heading, program}
 use Rattle.events.specs.Feeding.{kept-bytes, State, StepOutcome, after, ended, appended, record-step, kept-record, record-end, byte-step, drained, finish, ending, Calls, FirstState}
 use Rattle.events.specs.View.{state-of, first-progress}
-use Rattle.events.proofs.Feeding.{after-after, drained-first, drained-none, finish-byte, finish-none, calls-print}
+use Rattle.events.proofs.Feeding.{after-after, drained-first, finish-byte, finish-none, calls-print}
 use Rattle.events.proofs.Kept.{Holds, holds-none, holds-more, reads-same}
 
 -- a record that has ended, with the slots that it leaves, is run

@@ -1,0 +1,2 @@
+-- What the functions of this crate say beyond the definitions of feeding.
+pub mod Texts
