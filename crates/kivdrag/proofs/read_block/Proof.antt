@@ -6,9 +6,6 @@ use Rattle.kivdrag.proofs.read_block.Tie as tie
 read-requires : tie.Need-read-requires
 read-requires c κs = search needs
 
-nothing-read-requires : tie.Need-nothing-read-requires
-nothing-read-requires c κs = search needs
-
 same-length : tie.Need-same-length
 same-length c = search needs
 
@@ -18,38 +15,38 @@ returns c = search needs
 count-requires : tie.Need-count-requires
 count-requires c κs = search needs
 
-slice-reshare-prefix-feed-block : tie.Need-slice-reshare-prefix-feed-block
-slice-reshare-prefix-feed-block c = search needs
+slice-reshare-prefix-feed-text : tie.Need-slice-reshare-prefix-feed-text
+slice-reshare-prefix-feed-text c = search needs
 
-slice-aggregate-feed-block : tie.Need-slice-aggregate-feed-block
-slice-aggregate-feed-block c = search needs
+slice-aggregate-feed-text : tie.Need-slice-aggregate-feed-text
+slice-aggregate-feed-text c = search needs
 
-feed-block-requires : tie.Need-feed-block-requires
-feed-block-requires c κs = search needs
+feed-text-requires : tie.Need-feed-text-requires
+feed-text-requires c κs = search needs
 
 same-length-2 : tie.Need-same-length-2
-same-length-2 c = search needs
+same-length-2 c = c .before .before .before .before .before .before .before .before .before .before .before .before .before .before .before .before .before .before .before .before .before .before .before .before .before .before .before .before .before .read .kept .1 .0
 
 same-length-3 : tie.Need-same-length-3
-same-length-3 c = search needs
+same-length-3 c = c .before .before .before .before .before .before .before .before .before .before .before .before .before .before .before .feed-text .kept .1 .1 .0
 
 same-length-4 : tie.Need-same-length-4
-same-length-4 c = search needs
+same-length-4 c = c .before .before .before .before .before .before .before .before .before .before .before .before .before .before .before .feed-text .kept .1 .1 .1 .0
 
 same-length-5 : tie.Need-same-length-5
-same-length-5 c = search needs
+same-length-5 c = c .before .before .before .before .before .before .before .before .before .before .before .before .before .before .before .feed-text .kept .1 .1 .1 .1 .0
 
 same-length-6 : tie.Need-same-length-6
-same-length-6 c = search needs
+same-length-6 c = c .before .before .before .before .before .before .before .before .before .before .before .before .before .before .before .feed-text .kept .1 .1 .1 .1 .1 .0
 
 same-length-7 : tie.Need-same-length-7
-same-length-7 c = search needs
+same-length-7 c = c .before .before .before .before .before .before .before .before .before .before .before .before .before .before .before .feed-text .kept .1 .1 .1 .1 .1 .1 .0
 
 same-length-8 : tie.Need-same-length-8
-same-length-8 c = search needs
+same-length-8 c = c .before .before .before .before .before .before .before .before .before .before .before .before .before .before .before .feed-text .kept .1 .1 .1 .1 .1 .1 .1 .0
 
 same-length-9 : tie.Need-same-length-9
-same-length-9 c = search needs
+same-length-9 c = c .before .before .before .before .before .before .before .before .before .before .before .before .before .before .before .feed-text .kept .1 .1 .1 .1 .1 .1 .1 .1 .0
 
 returns-2 : tie.Need-returns-2
 returns-2 c = search needs
@@ -59,13 +56,12 @@ read-block-spec =
     tie.close
     (tie.spec
     read-requires
-    nothing-read-requires
     same-length
     returns
     count-requires
-    slice-reshare-prefix-feed-block
-    slice-aggregate-feed-block
-    feed-block-requires
+    slice-reshare-prefix-feed-text
+    slice-aggregate-feed-text
+    feed-text-requires
     same-length-2
     same-length-3
     same-length-4

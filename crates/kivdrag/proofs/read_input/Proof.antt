@@ -1,13 +1,14 @@
--- The input is read to its end. The loop's invariant: the lent slices keep their lengths. The measure: the turns left.
+-- The input is read to its end. The loop's invariant: the lent slices keep their lengths. The measure: the blocks left.
 use mathlib.Core.Path.{_≡_, refl, _∙_}
 use native.Mathlib.Omega.{arith}
+use borrow.Author.Tests.{ltb-true}
 use lib.ListN.{length}
 use borrow.Author.Needs.{needs}
 use Rattle.kivdrag.proofs.read_input.Statement.{statement}
 use Rattle.kivdrag.proofs.read_input.Tie as tie
 
 abbrev Inv-loop : tie.InvT-loop
-Inv-loop block₀ buffer₀ out₀ bookings₀ credits₀ queues₀ copy₀ flight₀ turn₀ turns₀ block buffer out bookings credits queues copy flight turn turns =
+Inv-loop block₀ buffer₀ out₀ bookings₀ credits₀ queues₀ copy₀ flight₀ read₀ blocks₀ block buffer out bookings credits queues copy flight read blocks =
     (length block ≡ length block₀)
     × (length buffer ≡ length buffer₀)
     × (length out ≡ length out₀)
@@ -18,8 +19,8 @@ Inv-loop block₀ buffer₀ out₀ bookings₀ credits₀ queues₀ copy₀ flig
     × (length flight ≡ length flight₀)
 
 abbrev μ-loop : tie.MeasureT-loop
-μ-loop block₀ buffer₀ out₀ bookings₀ credits₀ queues₀ copy₀ flight₀ turn₀ turns₀ block buffer out bookings credits queues copy flight turn turns =
-    turns
+μ-loop block₀ buffer₀ out₀ bookings₀ credits₀ queues₀ copy₀ flight₀ read₀ blocks₀ block buffer out bookings credits queues copy flight read blocks =
+    blocks
 
 begin-requires : tie.Need-begin-requires Inv-loop μ-loop
 begin-requires c κs = search needs
@@ -27,20 +28,14 @@ begin-requires c κs = search needs
 loop-holds : tie.Need-loop-holds Inv-loop μ-loop
 loop-holds c = (refl, refl, refl, refl, refl, refl, refl, refl)
 
-reads-on-requires : tie.Need-reads-on-requires Inv-loop μ-loop
-reads-on-requires c κs = search needs
-
 read-block-requires : tie.Need-read-block-requires Inv-loop μ-loop
-read-block-requires c κs =
-    let l = c .before .before .before .before .before .before .before .before .before .before .before in
-    let start = l .before .before .before .before .before .before .before .before .before .before in
-    omega (arith, start .pre .0, start .pre .1, l .loop .inv .1, l .loop .inv .2)
+read-block-requires c κs = search needs
 
-sub-turns : tie.Need-sub-turns Inv-loop μ-loop
-sub-turns c = let way = c .before .before .before .before .before .before .before .before .before .before .before .before .before .before .before .before .before .before .before .before .before .before .before .before .before .before in omega (arith, way .before .reads-on .ensures (way .if1 .taken))
+sub-blocks : tie.Need-sub-blocks Inv-loop μ-loop
+sub-blocks c = let way = c .before .before .before .before .before .before .before .before .before .before .before .before .before .before .before .before .before .before .before .before .before .before .before .before .before .before in omega (arith, ltb-true 0 (way .before .before .loop .blocks) (way .if1 .taken))
 
 loop-less : tie.Need-loop-less Inv-loop μ-loop
-loop-less c = let way = c .before .before .before .before .before .before .before .before .before .before .before .before .before .before .before .before .before .before .before .before .before .before .before .before .before .before in omega (arith, way .before .reads-on .ensures (way .if1 .taken))
+loop-less c = let way = c .before .before .before .before .before .before .before .before .before .before .before .before .before .before .before .before .before .before .before .before .before .before .before .before .before .before in omega (arith, ltb-true 0 (way .before .before .loop .blocks) (way .if1 .taken))
 
 loop-again : tie.Need-loop-again Inv-loop μ-loop
 loop-again c =
@@ -83,6 +78,33 @@ same-length-8 c = c .before .before .loop .inv .7
 returns : tie.Need-returns Inv-loop μ-loop
 returns c = search needs
 
+same-length-9 : tie.Need-same-length-9 Inv-loop μ-loop
+same-length-9 c = c .before .loop .inv .0
+
+same-length-10 : tie.Need-same-length-10 Inv-loop μ-loop
+same-length-10 c = c .before .loop .inv .1
+
+same-length-11 : tie.Need-same-length-11 Inv-loop μ-loop
+same-length-11 c = c .before .loop .inv .2
+
+same-length-12 : tie.Need-same-length-12 Inv-loop μ-loop
+same-length-12 c = c .before .loop .inv .3
+
+same-length-13 : tie.Need-same-length-13 Inv-loop μ-loop
+same-length-13 c = c .before .loop .inv .4
+
+same-length-14 : tie.Need-same-length-14 Inv-loop μ-loop
+same-length-14 c = c .before .loop .inv .5
+
+same-length-15 : tie.Need-same-length-15 Inv-loop μ-loop
+same-length-15 c = c .before .loop .inv .6
+
+same-length-16 : tie.Need-same-length-16 Inv-loop μ-loop
+same-length-16 c = c .before .loop .inv .7
+
+returns-2 : tie.Need-returns-2 Inv-loop μ-loop
+returns-2 c = search needs
+
 pub read-input-spec : {M : Type 1} → statement M
 read-input-spec =
     tie.close
@@ -91,9 +113,8 @@ read-input-spec =
     μ-loop
     begin-requires
     loop-holds
-    reads-on-requires
     read-block-requires
-    sub-turns
+    sub-blocks
     loop-less
     loop-again
     same-length
@@ -104,4 +125,13 @@ read-input-spec =
     same-length-6
     same-length-7
     same-length-8
-    returns)
+    returns
+    same-length-9
+    same-length-10
+    same-length-11
+    same-length-12
+    same-length-13
+    same-length-14
+    same-length-15
+    same-length-16
+    returns-2)

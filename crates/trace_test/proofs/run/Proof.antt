@@ -1,51 +1,68 @@
--- The input, then its end.
-use native.Mathlib.Omega.{arith}
+-- The input is fed and its end; the lent slices keep their lengths.
+use mathlib.Core.Path.{_∙_}
 use borrow.Author.Needs.{needs}
 use Rattle.trace_test.proofs.run.Statement.{statement}
 use Rattle.trace_test.proofs.run.Tie as tie
 
-begin-requires : tie.Need-begin-requires
-begin-requires c κs = search needs
-
-feed-text-requires : tie.Need-feed-text-requires
-feed-text-requires c κs = search needs
+feed-pieces-requires : tie.Need-feed-pieces-requires
+feed-pieces-requires c κs = search needs
 
 feed-end-requires : tie.Need-feed-end-requires
-feed-end-requires c κs =
-    let call = c .before .before .before .before .before .before .before .before .before .before .before .before .before .before .before .before .before .before .before .before .before in
-    let start = call .before .before .before .before .before .before .before .before .before .before .before .before .before .before .before .before .before in
-    omega (arith, start .pre .0, start .pre .1, call .feed-text .kept .1 .1 .0, call .feed-text .kept .1 .1 .1 .0)
+feed-end-requires c κs = search needs
 
 same-length : tie.Need-same-length
-same-length c = search needs
+same-length c = let end = c .before .before .before .before .before .before .before .before .before .before .before .before .before .before in end .feed-end .kept .1 .0 ∙ end .before .before .before .before .before .before .before .before .before .before .before .before .before .before .before .before .before .before .before .before .before .before .before .before .feed-pieces .kept .1 .0
 
 same-length-2 : tie.Need-same-length-2
-same-length-2 c = search needs
+same-length-2 c = let end = c .before .before .before .before .before .before .before .before .before .before .before .before .before .before in end .feed-end .kept .1 .1 .0 ∙ end .before .before .before .before .before .before .before .before .before .before .before .before .before .before .before .before .before .before .before .before .before .before .before .before .feed-pieces .kept .1 .1 .0
 
 same-length-3 : tie.Need-same-length-3
-same-length-3 c = search needs
+same-length-3 c = let end = c .before .before .before .before .before .before .before .before .before .before .before .before .before .before in end .feed-end .kept .1 .1 .1 .0 ∙ end .before .before .before .before .before .before .before .before .before .before .before .before .before .before .before .before .before .before .before .before .before .before .before .before .feed-pieces .kept .1 .1 .1 .0
 
 same-length-4 : tie.Need-same-length-4
-same-length-4 c = search needs
+same-length-4 c = let end = c .before .before .before .before .before .before .before .before .before .before .before .before .before .before in end .feed-end .kept .1 .1 .1 .1 .0 ∙ end .before .before .before .before .before .before .before .before .before .before .before .before .before .before .before .before .before .before .before .before .before .before .before .before .feed-pieces .kept .1 .1 .1 .1 .0
 
 same-length-5 : tie.Need-same-length-5
-same-length-5 c = search needs
+same-length-5 c = let end = c .before .before .before .before .before .before .before .before .before .before .before .before .before .before in end .feed-end .kept .1 .1 .1 .1 .1 .0 ∙ end .before .before .before .before .before .before .before .before .before .before .before .before .before .before .before .before .before .before .before .before .before .before .before .before .feed-pieces .kept .1 .1 .1 .1 .1 .0
 
 same-length-6 : tie.Need-same-length-6
-same-length-6 c = search needs
+same-length-6 c = let end = c .before .before .before .before .before .before .before .before .before .before .before .before .before .before in end .feed-end .kept .1 .1 .1 .1 .1 .1 .0 ∙ end .before .before .before .before .before .before .before .before .before .before .before .before .before .before .before .before .before .before .before .before .before .before .before .before .feed-pieces .kept .1 .1 .1 .1 .1 .1 .0
 
 same-length-7 : tie.Need-same-length-7
-same-length-7 c = search needs
+same-length-7 c = let end = c .before .before .before .before .before .before .before .before .before .before .before .before .before .before in end .feed-end .kept .1 .1 .1 .1 .1 .1 .1 .0 ∙ end .before .before .before .before .before .before .before .before .before .before .before .before .before .before .before .before .before .before .before .before .before .before .before .before .feed-pieces .kept .1 .1 .1 .1 .1 .1 .1 .0
 
 returns : tie.Need-returns
 returns c = search needs
+
+same-length-8 : tie.Need-same-length-8
+same-length-8 c = c .before .before .before .before .before .before .before .before .before .before .before .before .before .before .before .before .feed-pieces .kept .1 .0
+
+same-length-9 : tie.Need-same-length-9
+same-length-9 c = c .before .before .before .before .before .before .before .before .before .before .before .before .before .before .before .before .feed-pieces .kept .1 .1 .0
+
+same-length-10 : tie.Need-same-length-10
+same-length-10 c = c .before .before .before .before .before .before .before .before .before .before .before .before .before .before .before .before .feed-pieces .kept .1 .1 .1 .0
+
+same-length-11 : tie.Need-same-length-11
+same-length-11 c = c .before .before .before .before .before .before .before .before .before .before .before .before .before .before .before .before .feed-pieces .kept .1 .1 .1 .1 .0
+
+same-length-12 : tie.Need-same-length-12
+same-length-12 c = c .before .before .before .before .before .before .before .before .before .before .before .before .before .before .before .before .feed-pieces .kept .1 .1 .1 .1 .1 .0
+
+same-length-13 : tie.Need-same-length-13
+same-length-13 c = c .before .before .before .before .before .before .before .before .before .before .before .before .before .before .before .before .feed-pieces .kept .1 .1 .1 .1 .1 .1 .0
+
+same-length-14 : tie.Need-same-length-14
+same-length-14 c = c .before .before .before .before .before .before .before .before .before .before .before .before .before .before .before .before .feed-pieces .kept .1 .1 .1 .1 .1 .1 .1 .0
+
+returns-2 : tie.Need-returns-2
+returns-2 c = search needs
 
 pub run-spec : {M : Type 1} → statement M
 run-spec =
     tie.close
     (tie.spec
-    begin-requires
-    feed-text-requires
+    feed-pieces-requires
     feed-end-requires
     same-length
     same-length-2
@@ -54,4 +71,12 @@ run-spec =
     same-length-5
     same-length-6
     same-length-7
-    returns)
+    returns
+    same-length-8
+    same-length-9
+    same-length-10
+    same-length-11
+    same-length-12
+    same-length-13
+    same-length-14
+    returns-2)
