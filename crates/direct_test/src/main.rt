@@ -18,7 +18,7 @@ fn say_number(text: &[u8], number: u64) {
 
 // The pair of the input at a place of the answer, if it has one.
 fn say_pair(place: u64, output: u8, first_pass: u32)
-    requires { ⌜ place < 32 ⌝ }
+    requires place { ⌜ place < 32 ⌝ }
 {
     if output > 0 {
         say_number(b" ", place + 1);

@@ -19,7 +19,7 @@ fn say_number(text: &[u8], number: u64) {
 
 // The pair of the input at a place of the answer, if it has one.
 fn say_pair(place: usize, output: u8, first_pass: u32)
-    requires { ⌜ place < 32 ⌝ }
+    requires place { ⌜ place < 32 ⌝ }
 {
     if output > 0 {
         say_number(b" ", place as u64 + 1);
@@ -373,8 +373,8 @@ fn limits() {
 
 // A switch of two ports whose frame copy and rows in flight have that many words, and whose other runs are long enough.
 fn short_run(name: &[u8], copied: usize, flown: usize)
-    requires { ⌜ copied ≤ 4 ⌝ }
-    requires { ⌜ flown ≤ 8 ⌝ }
+    requires copied { ⌜ copied ≤ 4 ⌝ }
+    requires flown { ⌜ flown ≤ 8 ⌝ }
 {
     let bookings = [0u32; 4];
     let mut credits = [0u32; 4];
@@ -396,9 +396,9 @@ fn short_run(name: &[u8], copied: usize, flown: usize)
 
 // The same of the bookings, the credits and the queues.
 fn short_matrix(name: &[u8], booked: usize, credited: usize, queued: usize)
-    requires { ⌜ booked ≤ 4 ⌝ }
-    requires { ⌜ credited ≤ 4 ⌝ }
-    requires { ⌜ queued ≤ 4 ⌝ }
+    requires booked { ⌜ booked ≤ 4 ⌝ }
+    requires credited { ⌜ credited ≤ 4 ⌝ }
+    requires queued { ⌜ queued ≤ 4 ⌝ }
 {
     let bookings = [0u32; 4];
     let mut credits = [0u32; 4];
