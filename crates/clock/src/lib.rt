@@ -58,9 +58,11 @@ pub fn tick_pipelined(
     copy: &mut [u32],
     flight: &mut [u32],
 ) -> Answer
-    ensures outcome { λ r. ⌜ effect r
-        (now (clock .exit), pipelined-runs-of (now (bookings .entry)) (now (credits .exit)) (now (queues .exit))
-        (now (copy .exit)) (now (flight .exit)))
+    ensures outcome { λ r. ⌜ effect r (
+      now (clock .exit),
+      pipelined-runs-of (now (bookings .entry)) (now (credits .exit)) (now (queues .exit))
+          (now (copy .exit)) (now (flight .exit)),
+    )
         ≡ answer-effect (Pipelined.tick (now (clock .entry))
         (pipelined-runs-of (now (bookings .entry)) (now (credits .entry)) (now (queues .entry))
         (now (copy .entry)) (now (flight .entry)))) ⌝ }
