@@ -1,6 +1,6 @@
 -- A call on the rest of a text takes no more than it has, and leaves less work. Texts that are fed whole are calls of `feed` for all that they
 -- have. Assumes nothing.
-use mathlib.Core.Path.{_≡_, refl, ap, _∙_}
+use mathlib.Core.Path.{_≡_, refl, sym, ap, _∙_}
 use mathlib.Core.Bool.{Bool, true, false, _&&_, false≢true}
 use mathlib.Core.List.{List}
 use Prim.Native.Nat.{ℕ, suc, _+_, _-_, _*_, _≤_, _<_}
@@ -48,30 +48,34 @@ module _ (text : List ℕ) (t : TextState) (within : t .taken ≤ length text) w
 
 -- THE LOOP: some calls have been made
 module _ (text : List ℕ) (first : TextState) where
-  pub record SoFar (here : TextState) : Type 0 where
+  pub record SoFar (here : TextState) (is-written : Bool) : Type 0 where
     pub count : ℕ
     pub same : here ≡ calls text count first
     pub within : here .taken ≤ length text
+    pub tried : is-written ≡ false → 1 ≤ count
 
-  pub so-far-none : first .taken ≡ 0 → SoFar first
+  pub so-far-none : first .taken ≡ 0 → SoFar first true
   unfolding calls
-  so-far-none e = record { count = 0; same = refl; within = omega arith }
+  so-far-none e = record { count = 0; same = refl; within = omega arith; tried = λ w. absurd (false≢true (sym w)) }
 
-  module _ {t : TextState} (h : SoFar t) where
-    pub so-far-more : {t′ : TextState} → t′ ≡ next-call text t → SoFar t′
+  module _ {t : TextState} {w : Bool} (h : SoFar t w) where
+    pub so-far-more : {t′ : TextState} (w′ : Bool) → t′ ≡ next-call text t → SoFar t′ w′
     unfolding calls
-    so-far-more e =
+    so-far-more w′ e =
         record {
           count = suc (h .count);
           same = e ∙ ap (next-call text) (h .same);
           within = rw e (next-within text t (h .within));
+          tried = λ f. omega arith;
         }
 
-    pub so-far-less : (w : Bool) {t′ : TextState} → t′ ≡ next-call text t → (w && is-left text t) ≡ true
+    pub so-far-less : {t′ : TextState} → t′ ≡ next-call text t → (w && is-left text t) ≡ true
         → most-steps (t′ .state .slots-left) (length text - t′ .taken) < most-steps (t .state .slots-left) (length text - t .taken)
-    so-far-less true e l = rw e (next-less text t (h .within) l)
-    so-far-less false e l = absurd (false≢true l)
+    so-far-less e l = rw e (next-less text t (h .within) (left w l))
+      where
+        left : (w : Bool) → (w && is-left text t) ≡ true → is-left text t ≡ true
+        left true l = l
+        left false l = absurd (false≢true l)
 
-    pub so-far-all : (w : Bool) → (w && is-left text t) ≡ false → TextFed text first t w
-    so-far-all true l = record { count = h .count; same = h .same; whole = λ e. l }
-    so-far-all false l = record { count = h .count; same = h .same; whole = λ e. absurd (false≢true e) }
+    pub so-far-all : (w && is-left text t) ≡ false → TextFed text first t w
+    so-far-all l = record { count = h .count; same = h .same; whole = λ e. rw e at l; tried = h .tried }

@@ -3,7 +3,7 @@
 use mathlib.Core.Path.{_≡_}
 use mathlib.Core.Bool.{Bool, true, false}
 use mathlib.Core.List.{List}
-use Prim.Native.Nat.{ℕ, zero, suc, _+_, _-_}
+use Prim.Native.Nat.{ℕ, zero, suc, _+_, _-_, _≤_}
 use lib.ListN.{length, drop}
 use Rattle.lines.specs.Lines.{with-text}
 use Rattle.events.specs.declared.Progress.{Progress}
@@ -42,8 +42,10 @@ module _ (text : List ℕ) where
   calls zero t = t
   calls (suc n) t = next-call (calls n t)
 
-  -- a text has been fed by some calls; where all that they print could be written, nothing is left to do
+  -- a text has been fed by some calls: where all that they print could be written, nothing is left to do, and only what a call prints can fail
+  -- to be written
   pub record TextFed (first last : TextState) (is-written : Bool) : Type 0 where
     pub count : ℕ
     pub same : last ≡ calls count first
     pub whole : is-written ≡ true → is-left last ≡ false
+    pub tried : is-written ≡ false → 1 ≤ count

@@ -11,7 +11,7 @@ use Rattle.feeding.proofs.feed_text.Tie as tie
 abbrev Inv-loop : tie.InvT-loop
 Inv-loop text buffer₀ out₀ bookings₀ credits₀ queues₀ copy₀ flight₀ fed₀ buffer out bookings credits queues copy flight fed =
     SoFar text (text-begun (fed₀ .progress) out₀ buffer₀ bookings₀ credits₀ queues₀ copy₀ flight₀)
-    (text-state-of fed out buffer bookings credits queues copy flight)
+    (text-state-of fed out buffer bookings credits queues copy flight) (fed .«is_written»)
     × (length buffer ≡ length buffer₀)
     × (length out ≡ length out₀)
     × (length bookings ≡ length bookings₀)
@@ -38,13 +38,13 @@ loop-less c =
     let call = c .before .before .before .before .before .before .before .before .before .before .before .before .before .before in
     let way = call .before .before .before .before .before .before .before .before in
     let test = way .before in
-    so-far-less _ _ (test .before .loop .inv .0) (test .before .loop .fed .«is_written») (call .feed-rest .ensures) (sym (test .goes-on .ensures) ∙ way .if1 .taken)
+    so-far-less _ _ (test .before .loop .inv .0) (call .feed-rest .ensures) (sym (test .goes-on .ensures) ∙ way .if1 .taken)
 
 loop-again : tie.Need-loop-again Inv-loop μ-loop
 loop-again c =
     let call = c .before .before .before .before .before .before .before .before .before .before .before .before .before .before in
     let h = call .before .before .before .before .before .before .before .before .before .before .loop .inv in (
-      so-far-more _ _ (h .0) (call .feed-rest .ensures),
+      so-far-more _ _ (h .0) _ (call .feed-rest .ensures),
       call .feed-rest .kept .1 .1 .0 ∙ h .1,
       call .feed-rest .kept .1 .1 .1 .0 ∙ h .2,
       call .feed-rest .kept .1 .1 .1 .1 .0 ∙ h .3,
@@ -76,7 +76,7 @@ same-length-7 : tie.Need-same-length-7 Inv-loop μ-loop
 same-length-7 c = c .before .before .loop .inv .7
 
 returns : tie.Need-returns Inv-loop μ-loop
-returns c = so-far-all _ _ (c .before .before .loop .inv .0) _ (sym (c .before .goes-on .ensures) ∙ c .if1 .left)
+returns c = so-far-all _ _ (c .before .before .loop .inv .0) (sym (c .before .goes-on .ensures) ∙ c .if1 .left)
 
 pub feed-text-spec : {M : Type 1} → statement M
 feed-text-spec =
