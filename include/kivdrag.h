@@ -1,5 +1,6 @@
 /*
- * Kivdrag: a slot scheduler for a packet switch with bookings (weighted sequential greedy scheduling, WSGS).
+ * Kivdrag: a slot scheduler for a packet switch with bookings (weighted sequential greedy scheduling, WSGS). The rules
+ * that it follows are in docs/RULES.md, with the paper that they are from.
  *
  * A switch has N inputs and N outputs, each numbered from 1 to N, and runs in slots numbered from 1. In each slot an
  * input sends at most one packet and an output takes at most one. F slots make a frame; slot k is the first of a
@@ -165,9 +166,9 @@ uint32_t kivdrag_tick_direct(uint32_t clock[3], const uint32_t *bookings, size_t
                              uint8_t outputs[32], uint32_t *first_pass);
 
 /*
- * Runs the turns of one time of a pipelined switch, and hands out the pairs of the next slot: at time k, where
- * clock[2] is k - 1 before the call and k after it, those of slot k + 1. Slots up to N are idle, and slots N + 1 to
- * 2N know only pass two.
+ * Runs the next tick of a pipelined switch: every input has its turns for slots ahead, and the pairs of the next slot
+ * are handed out. That is slot k + 1, where clock[2] is k - 1 before the call and k after it. Slots up to N are idle,
+ * and slots N + 1 to 2N know only pass two.
  *
  * bookings, credits, queues and copy have N * N words or more, flight 2 * N * N.
  * Advances clock[2], and writes credits, queues, copy and flight: where slot k + 2N is the first of a frame, copy

@@ -1,2 +1,3 @@
 -- One computed theorem for each seed.
 pub mod Seeds
+pub mod Ledgers

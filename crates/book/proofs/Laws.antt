@@ -1,4 +1,5 @@
--- Laws of amounts, of the calls on a pair, and of sums.
+-- Laws of amounts, of the calls on a pair, of its place, and of sums.
 pub mod Amounts
 pub mod Calls
+pub mod Places
 pub mod Sums

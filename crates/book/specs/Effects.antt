@@ -27,7 +27,7 @@ enqueue-effect c q i j d = guarded (queue-can-take (c .ports) q i j d ∷ []) (p
 
 -- a run holds a matrix over the pairs of at most 32 ports
 pub record MatrixFits (n : ℕ) (m : List ℕ) : Type 0 where
-  pub few : n ≤ 32
+  pub ports : n ≤ 32
   pub long : n * n ≤ length m
 
 -- and one of these pairs
@@ -36,9 +36,8 @@ pub record PairFits (n : ℕ) (m : List ℕ) (i j : ℕ) : Type 0 where
   pub input : Port n i
   pub output : Port n j
 
--- a rate of a line, and the frame that it is booked in
+-- a rate of a line is booked in a frame
 pub record RateInRange (f line rate : ℕ) : Type 0 where
   pub frame : f ≤ 10000
-  pub some : 1 ≤ line
-  pub fast : line ≤ 100000000
-  pub part : rate ≤ line
+  pub line-rate : (1 ≤ line) × (line ≤ 100000000)
+  pub booked-rate : rate ≤ line

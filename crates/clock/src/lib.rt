@@ -17,7 +17,8 @@ pub fn tick_direct(
     queues: &mut [u32],
 ) -> Answer
     ensures outcome { λ r. ⌜ effect r (now (clock .exit), direct-runs-of (now (bookings .entry)) (now (credits .exit)) (now (queues .exit)))
-        ≡ answer-effect (Direct.tick (now (clock .entry)) (direct-runs-of (now (bookings .entry)) (now (credits .entry)) (now (queues .entry)))) ⌝ }
+        ≡ answer-effect (Direct.tick (now (clock .entry))
+        (direct-runs-of (now (bookings .entry)) (now (credits .entry)) (now (queues .entry)))) ⌝ }
 {
     let result = direct::tick(*clock, bookings, credits, queues);
     *clock = result.clock;
@@ -57,10 +58,14 @@ pub fn tick_pipelined(
     copy: &mut [u32],
     flight: &mut [u32],
 ) -> Answer
-    ensures outcome { λ r. ⌜ effect r
-        (now (clock .exit), pipelined-runs-of (now (bookings .entry)) (now (credits .exit)) (now (queues .exit)) (now (copy .exit)) (now (flight .exit)))
+    ensures outcome { λ r. ⌜ effect r (
+      now (clock .exit),
+      pipelined-runs-of (now (bookings .entry)) (now (credits .exit)) (now (queues .exit))
+          (now (copy .exit)) (now (flight .exit)),
+    )
         ≡ answer-effect (Pipelined.tick (now (clock .entry))
-        (pipelined-runs-of (now (bookings .entry)) (now (credits .entry)) (now (queues .entry)) (now (copy .entry)) (now (flight .entry)))) ⌝ }
+        (pipelined-runs-of (now (bookings .entry)) (now (credits .entry)) (now (queues .entry))
+        (now (copy .entry)) (now (flight .entry)))) ⌝ }
 {
     let result = pipelined::tick(*clock, bookings, credits, queues, copy, flight);
     *clock = result.clock;
@@ -83,7 +88,8 @@ pub fn step_pipelined(
     ensures outcome { λ r. ⌜ effect r
         (pipelined-runs-of (now (bookings .entry)) (now (credits .exit)) (now (queues .exit)) (now (copy .exit)) (now (flight .exit)))
         ≡ tick-effect (Pipelined.tick clock
-        (pipelined-runs-of (now (bookings .entry)) (now (credits .entry)) (now (queues .entry)) (now (copy .entry)) (now (flight .entry)))) ⌝ }
+        (pipelined-runs-of (now (bookings .entry)) (now (credits .entry)) (now (queues .entry))
+        (now (copy .entry)) (now (flight .entry)))) ⌝ }
 {
     let mut advanced = clock;
     let answer = tick_pipelined(&mut advanced, bookings, credits, queues, copy, flight);

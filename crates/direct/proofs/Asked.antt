@@ -10,7 +10,7 @@ use Rattle.wsgs.specs.Questions.{clock-can-advance}
 use Rattle.wsgs.specs.Direct
 use Rattle.wsgs.proofs.Laws.Questions.{all-yes, direct-yes}
 
-pub record Accepted (c : Clock) (w : Direct.Runs) : Type 0 where
+pub record TickConditions (c : Clock) (w : Direct.Runs) : Type 0 where
   pub some-port : 1 ≤ c .ports
   pub few-ports : c .ports ≤ 32
   pub some-slot : 1 ≤ c .frame
@@ -19,7 +19,7 @@ pub record Accepted (c : Clock) (w : Direct.Runs) : Type 0 where
   pub queues : c .ports * c .ports ≤ length (w .queues)
   pub slots-left : c .slot < 4000000000
 
-pub accepted-found : (c : Clock) (w : Direct.Runs) → Direct.tick-refusal c w ≡ 0 → Accepted c w
+pub accepted-found : (c : Clock) (w : Direct.Runs) → Direct.tick-refusal c w ≡ 0 → TickConditions c w
 unfolding Direct.tick-refusal
 accepted-found c w e =
     let qs = clock-can-advance (c .slot) ∷ [] in

@@ -1,7 +1,6 @@
 -- Laws that the functions' proofs cite.
-pub mod MaskLaws
 pub mod Spent
-pub mod Held
+pub mod PassStates
 pub mod PassLaws
 pub mod Asked
 pub mod SlotLaws

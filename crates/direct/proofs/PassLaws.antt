@@ -17,14 +17,14 @@ use Rattle.wsgs.specs.Words.{place, word}
 use Rattle.wsgs.specs.Steps.{given, pass-one, pass-two, marked}
 use Rattle.wsgs.specs.Direct.{spent}
 use Rattle.wsgs.proofs.Laws.Tests.{updated-at, updated-other}
-use Rattle.wsgs.proofs.Laws.Lowest.{lowest-ext}
+use Rattle.wsgs.proofs.Laws.Lowest.{lowest-ext, lowest-some}
 use Rattle.wsgs.proofs.Steps.{two-untouched}
 use Rattle.wsgs.proofs.Laws.Marked.{marked-none, marked-ext, marked-set}
-use Rattle.turns.specs.Masks.{in-mask, is-open, ready-mask}
+use Rattle.turns.specs.Masks.{in-mask, without, is-open, ready-mask}
 use Rattle.turns.specs.Charges.{charged}
-use Rattle.direct.specs.Passes.{Held, Waiting}
-use Rattle.turns.proofs.Choice.{chosen, charged-some, charged-none}
-use Rattle.direct.proofs.Held.{given-short, held-none, held-more}
+use Rattle.direct.specs.Passes.{PassState, WaitingWords}
+use Rattle.turns.proofs.Choice.{charged-some, charged-none}
+use Rattle.direct.proofs.PassStates.{given-short, held-none, held-more}
 use Rattle.direct.proofs.Spent.{spent-length, spent-none, spent-row, spent-more}
 
 -- a value that is there already changes nothing
@@ -44,7 +44,7 @@ updated-above f k v h i = go (eqb i k)
     go false = refl
 
 -- what is open to input k, which holds none, in runs from which the outputs that are held have been spent
-module _ (n : ℕ) (start other : List ℕ) (f : ℕ → ℕ) (free : ℕ) (outputs queues one : List ℕ) (h : Held n start f free outputs queues)
+module _ (n : ℕ) (start other : List ℕ) (f : ℕ → ℕ) (free : ℕ) (outputs queues one : List ℕ) (h : PassState n start f free outputs queues)
     (cost : one ≡ spent n other f n) (long : n * n ≤ length one) (enough : n * n ≤ length queues) (k : ℕ) (pk : Port n k) (none : f k ≡ 0) where
   -- each output
   open-is : (j : ℕ) → Port n j → is-open n free one queues k j ≡ (not (given f n j) && (ltb 0 (word n other k j) && ltb 0 (word n start k j)))
@@ -59,7 +59,7 @@ module _ (n : ℕ) (start other : List ℕ) (f : ℕ → ℕ) (free : ℕ) (outp
   lowest-is = lowest-ext _ _ n open-is
 
 -- where input k holds none, the outputs for which it has packets are those at the start
-row-waiting : (n : ℕ) (start : List ℕ) (f : ℕ → ℕ) (free : ℕ) (outputs queues : List ℕ) → Held n start f free outputs queues
+row-waiting : (n : ℕ) (start : List ℕ) (f : ℕ → ℕ) (free : ℕ) (outputs queues : List ℕ) → PassState n start f free outputs queues
     → n * n ≤ length queues → (x k : ℕ) → k ≡ suc x → x < n → f k ≡ 0
     → ready-mask queues queues ((k - 1) * n) n ≡ ready-mask start start (x * n) n
 unfolding ready-mask word place
@@ -72,8 +72,8 @@ row-waiting n start f free outputs queues h enough x k next l none =
     same m j p = ap (λ q. word n q k j) (h .cost) ∙ spent-row n start m f (h .bound) k j (omega arith) p none
 
 -- they are known of one row more
-pub waiting-next : (n : ℕ) (start waiting : List ℕ) (x w : ℕ) → x < 32 → (length waiting ≡ 32) × Waiting n x start waiting
-    → w ≡ ready-mask start start (x * n) n → (length (set waiting x w) ≡ 32) × Waiting n (x + 1) start (set waiting x w)
+pub waiting-next : (n : ℕ) (start waiting : List ℕ) (x w : ℕ) → x < 32 → (length waiting ≡ 32) × WaitingWords n x start waiting
+    → w ≡ ready-mask start start (x * n) n → (length (set waiting x w) ≡ 32) × WaitingWords n (x + 1) start (set waiting x w)
 waiting-next n start waiting x w l known e = (
   length-set waiting x w ∙ known .0,
   below-more (λ k. getD (set waiting x w) k 0 ≡ ready-mask start start (k * n) n) x
@@ -81,8 +81,8 @@ waiting-next n start waiting x w l known e = (
 )
 
 -- PASS ONE: what the inputs hold, with the credits that they have spent and the word of those that hold an output
-pub record One (n : ℕ) (other start : List ℕ) (f : ℕ → ℕ) (free first : ℕ) (outputs credits queues : List ℕ) : Type 0 where
-  pub held : Held n start f free outputs queues
+pub record PassOneState (n : ℕ) (other start : List ℕ) (f : ℕ → ℕ) (free first : ℕ) (outputs credits queues : List ℕ) : Type 0 where
+  pub held : PassState n start f free outputs queues
   pub cost : credits ≡ spent n other f n
   pub mark : first ≡ marked 32 (λ i. ltb 0 (f i))
 
@@ -98,19 +98,19 @@ module _ (n : ℕ) (few : n ≤ 32) (other start : List ℕ) where
   one-beyond (suc x) i l = updated-other (before x) (suc x) i _ (omega arith) ∙ one-beyond x i (omega arith)
 
   -- at first all outputs are free
-  pub one-start : (free : ℕ) → ((j : ℕ) → Port n j → in-mask free j ≡ true) → One n other start (before 0) free 0 (replicate 32 0) other start
+  pub one-start : (free : ℕ) → ((j : ℕ) → Port n j → in-mask free j ≡ true) → PassOneState n other start (before 0) free 0 (replicate 32 0) other start
   unfolding pass-one
   one-start free h = record { held = held-none n free start h; cost = sym (spent-none n other n); mark = sym (marked-none 32) }
 
   -- the outputs for which input x + 1 has packets
   pub one-waiting : (free first : ℕ) (outputs credits queues : List ℕ) → n * n ≤ length queues → (x k : ℕ) → k ≡ suc x → x < n
-      → One n other start (before x) free first outputs credits queues → (w : ℕ) → w ≡ ready-mask queues queues ((k - 1) * n) n
+      → PassOneState n other start (before x) free first outputs credits queues → (w : ℕ) → w ≡ ready-mask queues queues ((k - 1) * n) n
       → w ≡ ready-mask start start (x * n) n
   one-waiting free first outputs credits queues enough x k next l h w e =
       e ∙ row-waiting n start (before x) free outputs queues (h .held) enough x k next l (one-beyond x k (omega arith))
 
   module _ (free first : ℕ) (outputs credits queues : List ℕ) (long : n * n ≤ length credits) (enough : n * n ≤ length queues) (x k : ℕ)
-      (next : k ≡ suc x) (l : x < n) (h : One n other start (before x) free first outputs credits queues) (r : ℕ)
+      (next : k ≡ suc x) (l : x < n) (h : PassOneState n other start (before x) free first outputs credits queues) (r : ℕ)
       (found : r ≡ lowest (is-open n free credits queues k) n) where
     -- input x + 1 holds none yet
     free-yet : before x k ≡ 0
@@ -132,21 +132,21 @@ module _ (n : ℕ) (few : n ≤ 32) (other start : List ℕ) where
 
     -- it takes none
     pub one-none : r ≡ 0 → (credits′ queues′ : List ℕ) → credits′ ≡ charged n credits k r → queues′ ≡ charged n queues k r
-        → One n other start (before k) free first outputs credits′ queues′
+        → PassOneState n other start (before k) free first outputs credits′ queues′
     one-none z credits′ queues′ c q =
         let e : before k ≡ before x = one-next ∙ updated-same (before x) k r (free-yet ∙ sym z) in
         rw (e, c ∙ charged-none n credits k r (omega arith), q ∙ charged-none n queues k r (omega arith)) h
 
     -- it takes output r
-    pub one-some : 1 ≤ r → (free′ : ℕ) → ((j : ℕ) → Port 32 j → in-mask free′ j ≡ (in-mask free j && not (eqb j r))) → (mine : ℕ) → mine ≡ 2 ^ x
+    pub one-some : 1 ≤ r → (free′ : ℕ) → free′ ≡ without free r → (mine : ℕ) → mine ≡ 2 ^ x
         → (credits′ queues′ : List ℕ) → credits′ ≡ charged n credits k r → queues′ ≡ charged n queues k r
-        → One n other start (before k) free′ (bitOr first mine) (set outputs x r) credits′ queues′
+        → PassOneState n other start (before k) free′ (bitOr first mine) (set outputs x r) credits′ queues′
     one-some p free′ m mine b credits′ queues′ c q =
-        let port : Port n r = chosen n free credits queues k r found p .port in
+        let port : Port n r = lowest-some _ n r found p .0 in
         let none : before x (suc x) ≡ 0 = one-beyond x (suc x) (omega arith) in
-        rw (one-next, b, c ∙ charged-some n credits k r p, q ∙ charged-some n queues k r p, next)
+        rw (one-next, m, b, c ∙ charged-some n credits k r p, q ∙ charged-some n queues k r p, next)
         (record {
-          held = held-more n few start (before x) free outputs queues (h .held) x r free′ l none port m;
+          held = held-more n few start (before x) free outputs queues (h .held) x r l none port;
           cost = rw (h .cost) (sym (spent-more n other (before x) (suc x) r n (omega arith) none p));
           mark = rw (h .mark) (marked-set 32 _ x (omega arith) ∙ marked-ext 32 _ _ (λ i _. updated-above (before x) (suc x) r p i));
         })
@@ -158,7 +158,7 @@ module _ (n : ℕ) (few : n ≤ 32) (start : List ℕ) (one : ℕ → ℕ) where
   after x = pass-two n (word n start) one x
 
   -- at the turn of input x + 1
-  module _ (free : ℕ) (outputs queues : List ℕ) (x k : ℕ) (next : k ≡ suc x) (h : Held n start (after x) free outputs queues) where
+  module _ (free : ℕ) (outputs queues : List ℕ) (x k : ℕ) (next : k ≡ suc x) (h : PassState n start (after x) free outputs queues) where
     -- it holds what pass one gave
     held-yet : after x (suc x) ≡ one (suc x)
     held-yet = two-untouched n (word n start) one x (suc x) (omega arith)
@@ -168,7 +168,7 @@ module _ (n : ℕ) (few : n ≤ 32) (start : List ℕ) (one : ℕ → ℕ) where
     stay e = rw e (updated-same (after x) (suc x) (one (suc x)) held-yet)
 
     -- it was served by pass one
-    pub two-served : ltb 0 (one (suc x)) ≡ true → Held n start (after k) free outputs queues
+    pub two-served : ltb 0 (one (suc x)) ≡ true → PassState n start (after k) free outputs queues
     two-served e = rw (next, stay e) h
 
     -- it was not, and holds none
@@ -198,15 +198,15 @@ module _ (n : ℕ) (few : n ≤ 32) (start : List ℕ) (one : ℕ → ℕ) where
       two-next = rw next (next-turn (rw next at found))
 
       -- it takes none
-      pub two-none : r ≡ 0 → (queues′ : List ℕ) → queues′ ≡ charged n queues k r → Held n start (after k) free outputs queues′
+      pub two-none : r ≡ 0 → (queues′ : List ℕ) → queues′ ≡ charged n queues k r → PassState n start (after k) free outputs queues′
       two-none z queues′ q =
           let e : after k ≡ after x = two-next ∙ updated-same (after x) k r (ap (after x) next ∙ none-yet idle ∙ sym z) in
           rw (e, q ∙ charged-none n queues k r (omega arith)) h
 
       -- it takes output r
-      pub two-some : 1 ≤ r → (free′ : ℕ) → ((j : ℕ) → Port 32 j → in-mask free′ j ≡ (in-mask free j && not (eqb j r))) → (queues′ : List ℕ)
-          → queues′ ≡ charged n queues k r → Held n start (after k) free′ (set outputs x r) queues′
+      pub two-some : 1 ≤ r → (free′ : ℕ) → free′ ≡ without free r → (queues′ : List ℕ)
+          → queues′ ≡ charged n queues k r → PassState n start (after k) free′ (set outputs x r) queues′
       two-some p free′ m queues′ q =
-          let port : Port n r = chosen n free queues queues k r found p .port in
-          rw (two-next, q ∙ charged-some n queues k r p, next)
-          (held-more n few start (after x) free outputs queues h x r free′ l (none-yet idle) port m)
+          let port : Port n r = lowest-some _ n r found p .0 in
+          rw (two-next, m, q ∙ charged-some n queues k r p, next)
+          (held-more n few start (after x) free outputs queues h x r l (none-yet idle) port)

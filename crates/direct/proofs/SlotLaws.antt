@@ -19,7 +19,7 @@ use Rattle.wsgs.specs.Direct.{Runs, loaded, paired, spent, tick-refusal, ticked
 use Rattle.wsgs.proofs.Steps.{two-keeps}
 use Rattle.wsgs.proofs.Laws.Listed.{listed-none}
 use Rattle.wsgs.proofs.Laws.Marked.{marked-none}
-use Rattle.direct.specs.Passes.{Held, ones, SlotRun}
+use Rattle.direct.specs.Passes.{PassState, ones, SlotRun}
 use Rattle.direct.proofs.Spent.{spent-ext}
 
 -- a matching as it is answered
@@ -62,7 +62,7 @@ module _ (n f k : ℕ) (w : Runs) where
   -- the passes on the credits of step 1
   pub slot-run : (start : List ℕ) → start ≡ pick (first-of-frame f k) (copied (n * n) (w .bookings) (w .credits)) (w .credits)
       → (free first : ℕ) (outputs credits queues : List ℕ)
-      → Held n (w .queues) (pass-two n (word n (w .queues)) (ones n start (w .queues)) n) free outputs queues
+      → PassState n (w .queues) (pass-two n (word n (w .queues)) (ones n start (w .queues)) n) free outputs queues
       → first ≡ marked 32 (λ i. ltb 0 (ones n start (w .queues) i))
       → credits ≡ spent n start (ones n start (w .queues)) n
       → SlotRun n f k w outputs first credits queues

@@ -12,7 +12,7 @@ use Rattle.wsgs.specs.Direct.{Runs, loaded, paired, spent, first-outputs}
 use Rattle.turns.specs.Masks.{in-mask, ready-mask}
 
 -- the outputs f that the inputs hold, as the mask of the free outputs, as the listed outputs, and as the packets taken from the queues
-pub record Held (n : ℕ) (start : List ℕ) (f : ℕ → ℕ) (free : ℕ) (outputs queues : List ℕ) : Type 0 where
+pub record PassState (n : ℕ) (start : List ℕ) (f : ℕ → ℕ) (free : ℕ) (outputs queues : List ℕ) : Type 0 where
   pub bound : (i : ℕ) → f i ≤ n
   pub mask : (j : ℕ) → Port n j → in-mask free j ≡ not (given f n j)
   pub list : outputs ≡ listed 32 f
@@ -23,22 +23,22 @@ abbrev pub ones : ℕ → (credits queues : List ℕ) → ℕ → ℕ
 ones n credits queues = pass-one n (word n credits) (word n queues) n
 
 -- of the first x rows, from 0 on, the outputs for which a packet waits in the queues
-abbrev pub Waiting : (n x : ℕ) (queues waiting : List ℕ) → Type 0
-Waiting n x queues waiting = (k : ℕ) → k < x → getD waiting k 0 ≡ ready-mask queues queues (k * n) n
+abbrev pub WaitingWords : (n x : ℕ) (queues waiting : List ℕ) → Type 0
+WaitingWords n x queues waiting = (k : ℕ) → k < x → getD waiting k 0 ≡ ready-mask queues queues (k * n) n
 
 -- pass one ran on some run of queues: the outputs that its inputs hold, and for which outputs they had packets before it
-pub record PassedOne (n first free : ℕ) (outputs waiting queues : List ℕ) : Type 0 where
+pub record AfterPassOne (n first free : ℕ) (outputs waiting queues : List ℕ) : Type 0 where
   pub start : List ℕ
   pub one : ℕ → ℕ
-  pub held : Held n start one free outputs queues
+  pub held : PassState n start one free outputs queues
   pub mark : first ≡ marked 32 (λ i. ltb 0 (one i))
-  pub known : Waiting n n start waiting
+  pub known : WaitingWords n n start waiting
 
 -- pass two, whatever the run of queues and the outputs of pass one were that its inputs hold: they then hold those of pass two
 abbrev pub PassTwo : (n first free : ℕ) (outputs queues : List ℕ) (free′ : ℕ) (outputs′ queues′ : List ℕ) → Type 0
 PassTwo n first free outputs queues free′ outputs′ queues′ =
-    (start : List ℕ) (one : ℕ → ℕ) → Held n start one free outputs queues → first ≡ marked 32 (λ i. ltb 0 (one i))
-    → Held n start (pass-two n (word n start) one n) free′ outputs′ queues′
+    (start : List ℕ) (one : ℕ → ℕ) → PassState n start one free outputs queues → first ≡ marked 32 (λ i. ltb 0 (one i))
+    → PassState n start (pass-two n (word n start) one n) free′ outputs′ queues′
 
 -- slot k has been run on the runs w: the answer is the paired inputs', and each pair has taken a packet, and by pass one a credit too
 pub record SlotRun (n f k : ℕ) (w : Runs) (outputs : List ℕ) (first-pass : ℕ) (credits queues : List ℕ) : Type 0 where

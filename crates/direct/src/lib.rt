@@ -1,5 +1,4 @@
 // The direct form: a tick runs the nine steps for the slot after the last slot run.
-mod masks;
 mod passes;
 
 ghost use mathlib.Core.Path.{_≡_};
@@ -12,29 +11,31 @@ ghost use Rattle.wsgs.specs.Questions.{effect};
 ghost use Rattle.wsgs.specs.Answers.{direct-runs-of, tick-effect};
 ghost use Rattle.wsgs.specs.Direct;
 ghost use Rattle.direct.specs.Passes.{SlotRun};
-use passes::Passed;
+use passes::PassResult;
 use passes::pass_one;
 use passes::pass_two;
 use questions::direct_tick_refusal;
+use turns::load_credits;
 use wsgs::Clock;
 use wsgs::TickResult;
 
 // Step 1: in the first slot of a frame the credits become the bookings.
 fn reload(ports: usize, frame: u32, slot: u32, bookings: &[u32], credits: &mut [u32])
-    requires { ⌜ ports ≤ 32 ⌝ }
-    requires { ⌜ 1 ≤ frame ⌝ }
-    requires { ⌜ 1 ≤ slot ⌝ }
-    requires { ⌜ ports * ports ≤ length (now bookings) ⌝ }
-    requires { ⌜ ports * ports ≤ length (now credits) ⌝ }
-    ensures { λ _. ⌜ now (credits .exit) ≡ pick (first-of-frame frame slot) (copied (ports * ports) (now (bookings .entry)) (now (credits .entry))) (now (credits .entry)) ⌝ }
+    requires ports { ⌜ ports ≤ 32 ⌝ }
+    requires frame { ⌜ 1 ≤ frame ⌝ }
+    requires slot { ⌜ 1 ≤ slot ⌝ }
+    requires bookings_fit { ⌜ ports * ports ≤ length (now bookings) ⌝ }
+    requires credits_fit { ⌜ ports * ports ≤ length (now credits) ⌝ }
+    ensures credits_exit { λ _. ⌜ now (credits .exit) ≡ pick (first-of-frame frame slot)
+        (copied (ports * ports) (now (bookings .entry)) (now (credits .entry))) (now (credits .entry)) ⌝ }
 {
     if (slot - 1) % frame == 0 {
-        words::copy_words(bookings, credits, ports * ports);
+        load_credits(bookings, credits, ports * ports);
     }
 }
 
 // The nine steps for the slot that the clock has come to.
-fn run_slot(clock: Clock, bookings: &[u32], credits: &mut [u32], queues: &mut [u32]) -> Passed
+fn run_slot(clock: Clock, bookings: &[u32], credits: &mut [u32], queues: &mut [u32]) -> PassResult
     requires ports { ⌜ clock .ports ≤ 32 ⌝ }
     requires frame { ⌜ 1 ≤ clock .frame ⌝ }
     requires slot { ⌜ 1 ≤ clock .slot ⌝ }

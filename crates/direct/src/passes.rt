@@ -5,17 +5,17 @@ ghost use lib.Dec.{ltb};
 ghost use lib.ListN.{length};
 ghost use Rattle.wsgs.specs.Steps.{marked};
 ghost use Rattle.wsgs.specs.Direct.{spent};
-ghost use Rattle.direct.specs.Passes.{Held, ones, Waiting, PassedOne, PassTwo};
-use super::masks::without;
+ghost use Rattle.direct.specs.Passes.{PassState, ones, WaitingWords, AfterPassOne, PassTwo};
 use turns::BITS;
-use turns::all_free;
 use turns::first_turn;
+use turns::masks::all_free;
+use turns::masks::take;
 use turns::waiting_turn;
 use wsgs::Input;
 
 // What the passes hand on: the outputs that are free; the output of each input from 1 on, 0 for none; a word whose bit i - 1 tells that pass
 // one served input i; and of each input the outputs for which it had a packet at its turn of pass one.
-pub struct Passed {
+pub struct PassResult {
     pub free: u32,
     pub outputs: [u8; 32],
     pub first_pass: u32,
@@ -23,14 +23,16 @@ pub struct Passed {
 }
 
 // Pass one: the inputs in turn, each with the lowest free output for which it has a credit and a packet.
-pub fn pass_one(ports: usize, credits: &mut [u32], queues: &mut [u32]) -> Passed
-    requires { ⌜ ports ≤ 32 ⌝ }
-    requires { ⌜ ports * ports ≤ length (now credits) ⌝ }
-    requires { ⌜ ports * ports ≤ length (now queues) ⌝ }
-    ensures { λ r. ⌜ Held ports (now (queues .entry)) (ones ports (now (credits .entry)) (now (queues .entry))) (r .free) (r .outputs) (now (queues .exit)) ⌝ }
-    ensures { λ r. ⌜ r .«first_pass» ≡ marked 32 (λ i. ltb 0 (ones ports (now (credits .entry)) (now (queues .entry)) i)) ⌝ }
-    ensures { λ r. ⌜ now (credits .exit) ≡ spent ports (now (credits .entry)) (ones ports (now (credits .entry)) (now (queues .entry))) ports ⌝ }
-    ensures { λ r. ⌜ Waiting ports ports (now (queues .entry)) (r .waiting) ⌝ }
+pub fn pass_one(ports: usize, credits: &mut [u32], queues: &mut [u32]) -> PassResult
+    requires ports { ⌜ ports ≤ 32 ⌝ }
+    requires credits_fit { ⌜ ports * ports ≤ length (now credits) ⌝ }
+    requires queues_fit { ⌜ ports * ports ≤ length (now queues) ⌝ }
+    ensures state { λ r. ⌜ PassState ports (now (queues .entry)) (ones ports (now (credits .entry)) (now (queues .entry)))
+        (r .free) (r .outputs) (now (queues .exit)) ⌝ }
+    ensures first_pass { λ r. ⌜ r .«first_pass» ≡ marked 32 (λ i. ltb 0 (ones ports (now (credits .entry)) (now (queues .entry)) i)) ⌝ }
+    ensures credits_exit { λ r. ⌜ now (credits .exit)
+        ≡ spent ports (now (credits .entry)) (ones ports (now (credits .entry)) (now (queues .entry))) ports ⌝ }
+    ensures waiting { λ r. ⌜ WaitingWords ports ports (now (queues .entry)) (r .waiting) ⌝ }
 {
     let mut free = all_free(ports);
     let mut outputs = [0u8; 32];
@@ -45,11 +47,11 @@ pub fn pass_one(ports: usize, credits: &mut [u32], queues: &mut [u32]) -> Passed
         if output.0 == 0 {
             continue;
         }
-        free = without(free, output);
+        free = take(free, output);
         outputs[row] = output.0 as u8;
         first_pass |= 1 << row;
     }
-    Passed {
+    PassResult {
         free,
         outputs,
         first_pass,
@@ -58,12 +60,13 @@ pub fn pass_one(ports: usize, credits: &mut [u32], queues: &mut [u32]) -> Passed
 }
 
 // Pass two: the inputs in turn that pass one did not serve, each with the lowest free output for which it has a packet.
-pub fn pass_two(passed: Passed, ports: usize, queues: &mut [u32]) -> Passed
-    requires { ⌜ ports ≤ 32 ⌝ }
-    requires { ⌜ ports * ports ≤ length (now queues) ⌝ }
-    requires { ⌜ PassedOne ports (passed .«first_pass») (passed .free) (passed .outputs) (passed .waiting) (now queues) ⌝ }
-    ensures { λ r. ⌜ PassTwo ports (passed .«first_pass») (passed .free) (passed .outputs) (now (queues .entry)) (r .free) (r .outputs) (now (queues .exit)) ⌝ }
-    ensures { λ r. ⌜ r .«first_pass» ≡ passed .«first_pass» ⌝ }
+pub fn pass_two(passed: PassResult, ports: usize, queues: &mut [u32]) -> PassResult
+    requires ports { ⌜ ports ≤ 32 ⌝ }
+    requires queues_fit { ⌜ ports * ports ≤ length (now queues) ⌝ }
+    requires pass_one { ⌜ AfterPassOne ports (passed .«first_pass») (passed .free) (passed .outputs) (passed .waiting) (now queues) ⌝ }
+    ensures pass_two { λ r. ⌜ PassTwo ports (passed .«first_pass») (passed .free) (passed .outputs) (now (queues .entry))
+        (r .free) (r .outputs) (now (queues .exit)) ⌝ }
+    ensures first_pass { λ r. ⌜ r .«first_pass» ≡ passed .«first_pass» ⌝ }
 {
     let mut free = passed.free;
     let mut outputs = passed.outputs;
@@ -77,10 +80,10 @@ pub fn pass_two(passed: Passed, ports: usize, queues: &mut [u32]) -> Passed
         if output.0 == 0 {
             continue;
         }
-        free = without(free, output);
+        free = take(free, output);
         outputs[row] = output.0 as u8;
     }
-    Passed {
+    PassResult {
         free,
         outputs,
         first_pass,

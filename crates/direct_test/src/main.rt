@@ -1,7 +1,8 @@
-// Ticks of the direct form at the edges of document 01. Each case prints one line: the refusal, the slot, the pairs as input>output/pass, the word
+// Ticks of the direct form at the edges of the rules. Each case prints one line: the refusal, the slot, the pairs as input>output/pass, the word
 // of pass one, and the credits and queues afterwards (of more than eight words their sum). `stdout` was worked out by hand.
 ghost use Prim.Native.Nat.{_<_};
 use direct::tick;
+use wsgs::Clock;
 use wsgs::TickResult;
 
 const STDOUT: i32 = 1;
@@ -17,7 +18,7 @@ fn say_number(text: &[u8], number: u64) {
 
 // The pair of the input at a place of the answer, if it has one.
 fn say_pair(place: u64, output: u8, first_pass: u32)
-    requires { ⌜ place < 32 ⌝ }
+    requires place { ⌜ place < 32 ⌝ }
 {
     if output > 0 {
         say_number(b" ", place + 1);
@@ -30,12 +31,13 @@ fn say_pair(place: u64, output: u8, first_pass: u32)
     }
 }
 
-fn say_answer(answer: TickResult) {
-    say_number(b": refusal ", answer.refusal as u64);
-    say_number(b", slot ", answer.slot as u64);
+fn say_result(result: TickResult) {
+    let clock = result.clock;
+    say_number(b": refusal ", result.refusal as u64);
+    say_number(b", slot ", clock.slot as u64);
     say(b", pairs");
-    let outputs = answer.outputs;
-    let first_pass = answer.first_pass;
+    let outputs = result.outputs;
+    let first_pass = result.first_pass;
     for place in 0..32 {
         say_pair(place as u64, outputs[place], first_pass);
     }
@@ -75,9 +77,10 @@ fn case(
     credits: &mut [u32],
     queues: &mut [u32],
 ) {
-    let answer = tick(ports, frame, slot, bookings, credits, queues);
+    let clock = Clock { ports, frame, slot };
+    let result = tick(clock, bookings, credits, queues);
     say(name);
-    say_answer(answer);
+    say_result(result);
     say_run(b", credits", credits);
     say_run(b", queues", queues);
     say(b"\n");

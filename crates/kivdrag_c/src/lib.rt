@@ -156,7 +156,7 @@ pub extern "C" fn kivdrag_tick_direct(
     put_result(result, clock, outputs, first_pass)
 }
 
-// Runs the turns of one time of a pipelined switch, and hands out the pairs of the next slot.
+// Runs the next tick of a pipelined switch: every input has its turns for slots ahead, and the pairs of the next slot are handed out.
 #[no_mangle]
 pub extern "C" fn kivdrag_tick_pipelined(
     clock: &mut [u32; 3],

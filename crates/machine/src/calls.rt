@@ -46,7 +46,8 @@ fn obey_start(
 ) -> RecordResult
     ensures outcome { λ r. ⌜ ((z : ℕ) (p f : List ℕ)
         → record-outcome-of r (now (bookings .exit)) (now (credits .exit)) (now (queues .exit)) p f
-        ≡ obey (machine-of machine (now (bookings .entry)) (now (credits .entry)) (now (queues .entry)) p f) (Request Start ports frame z)) ⌝ }
+        ≡ obey (machine-of machine (now (bookings .entry)) (now (credits .entry)) (now (queues .entry)) p f)
+        (Request Start ports frame z)) ⌝ }
 {
     let clock = machine.clock;
     let started = starts::start_direct(ports, frame, clock, bookings, credits, queues);

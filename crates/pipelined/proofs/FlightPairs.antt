@@ -58,12 +58,12 @@ module _ (n s : ℕ) (flight : List ℕ) where
   first-of b i = b && by-first n (in-flight n flight s i)
 
   -- the outputs of the inputs 1..x, and the word of those by pass one
-  pub record Handed (x : ℕ) (outputs : List ℕ) (word : ℕ) : Type 0 where
+  pub record PairsSoFar (x : ℕ) (outputs : List ℕ) (word : ℕ) : Type 0 where
     pub output : outputs ≡ listed 32 (λ i. output-of (between 1 x i) i)
     pub first : word ≡ marked 32 (λ i. first-of (between 1 x i) i)
 
   -- of no input
-  pub handed-none : Handed 0 (replicate 32 0) 0
+  pub handed-none : PairsSoFar 0 (replicate 32 0) 0
   handed-none =
       record {
         output = sym (listed-ext 32 _ _ (λ i p. ap (λ b. output-of b i) (none-between i (p .low))) ∙ listed-none 32);
@@ -71,7 +71,7 @@ module _ (n s : ℕ) (flight : List ℕ) where
       }
 
   -- of one input more, whose word in flight stands in the row and is read as output o
-  module _ (x row o : ℕ) (outputs : List ℕ) (word : ℕ) (small : x < 32) (place : row ≡ s % (2 * n) * n) (h : Handed x outputs word) where
+  module _ (x row o : ℕ) (outputs : List ℕ) (word : ℕ) (small : x < 32) (place : row ≡ s % (2 * n) * n) (h : PairsSoFar x outputs word) where
     cell : getD flight (row + x) 0 ≡ in-flight n flight s (suc x)
     unfolding in-flight flight-place
     cell = ap (λ p. getD flight p 0) (omega arith)
@@ -83,7 +83,7 @@ module _ (n s : ℕ) (flight : List ℕ) where
 
     -- by pass one
     pub handed-first : o ≡ output-in n (getD flight (row + x) 0) → by-first n (getD flight (row + x) 0) ≡ true
-        → Handed (x + 1) (set outputs x o) (bitOr word ((1 * 2 ^ x) % 2 ^ 32))
+        → PairsSoFar (x + 1) (set outputs x o) (bitOr word ((1 * 2 ^ x) % 2 ^ 32))
     handed-first read first =
         record {
           output = output-more read;
@@ -93,7 +93,7 @@ module _ (n s : ℕ) (flight : List ℕ) where
         }
 
     -- and otherwise
-    pub handed-other : o ≡ output-in n (getD flight (row + x) 0) → by-first n (getD flight (row + x) 0) ≡ false → Handed (x + 1) (set outputs x o) word
+    pub handed-other : o ≡ output-in n (getD flight (row + x) 0) → by-first n (getD flight (row + x) 0) ≡ false → PairsSoFar (x + 1) (set outputs x o) word
     handed-other read first =
         record {
           output = output-more read;
@@ -101,7 +101,7 @@ module _ (n s : ℕ) (flight : List ℕ) where
         }
 
   -- those of all inputs are the answer
-  pub handed-all : (c : Clock) (x word : ℕ) (outputs : List ℕ) → x ≡ n → Handed x outputs word
+  pub handed-all : (c : Clock) (x word : ℕ) (outputs : List ℕ) → x ≡ n → PairsSoFar x outputs word
       → _≡_ {A = TickResult} (record { refusal = 0; clock = c; outputs = outputs; «first_pass» = word }) (answering c (handed-out n flight s))
   unfolding handed-out outputs-of pass-word-of
   handed-all c x word outputs e h = rw (h .output, h .first, e)

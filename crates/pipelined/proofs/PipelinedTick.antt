@@ -1,5 +1,5 @@
 -- A pipelined tick: what an accepted one found, and that its parts together are the definition's. Assumes nothing.
-use mathlib.Core.Path.{_≡_, refl, _∙_, ap}
+use mathlib.Core.Path.{_≡_, _∙_, ap}
 use mathlib.Core.List.{List, [], _∷_}
 use mathlib.Core.Logic.{_≢_}
 use Prim.Native.Nat.{ℕ, _+_, _*_, _≤_, _<_}
@@ -19,7 +19,7 @@ use Rattle.wsgs.specs.Pipelined.{Runs, turn-runs, questions, tick-refusal, copi
 use Rattle.wsgs.proofs.Laws.Questions.{all-yes, pipelined-yes}
 use Rattle.wsgs.proofs.Laws.Listed.{listed-none}
 use Rattle.wsgs.proofs.Laws.Marked.{marked-none}
-use Rattle.pipelined.specs.Turnings.{turn-runs-of, Lent, answering}
+use Rattle.pipelined.specs.Turnings.{turn-runs-of, RunsFit, answering}
 
 -- THE FRAME COPY at time k
 module _ (n f k : ℕ) (w : Runs) (u : ℕ) (e : u ≡ into-frame f (k + 2 * n)) where
@@ -32,14 +32,14 @@ module _ (n f k : ℕ) (w : Runs) (u : ℕ) (e : u ≡ into-frame f (k + 2 * n))
   stands h = rw (← e, ne-eqb u 0 h)
 
 -- WHAT AN ACCEPTED TICK FOUND
-pub record Accepted (c : Clock) (w : Runs) : Type 0 where
+pub record TickConditions (c : Clock) (w : Runs) : Type 0 where
   pub some-port : 1 ≤ c .ports
-  pub lent : Lent (c .ports) (w .copy) (w .credits) (w .queues) (w .flight)
+  pub lent : RunsFit (c .ports) (w .copy) (w .credits) (w .queues) (w .flight)
   pub bookings : c .ports * c .ports ≤ length (w .bookings)
   pub covers : c .ports ≤ c .frame
   pub slots-left : c .slot < 4000000000
 
-pub accepted-found : (c : Clock) (w : Runs) → tick-refusal c w ≡ 0 → Accepted c w
+pub accepted-found : (c : Clock) (w : Runs) → tick-refusal c w ≡ 0 → TickConditions c w
 unfolding tick-refusal
 accepted-found c w e =
     let qs = clock-can-advance (c .slot) ∷ [] in

@@ -11,7 +11,7 @@ use borrow.Author.Tests.{eq-eqb, ne-eqb}
 use Rattle.wsgs.specs.Basics.{Port}
 use Rattle.wsgs.specs.Frames.{into-frame, first-of-frame}
 use Rattle.wsgs.specs.Pipelined.{slot-one}
-use Rattle.pipelined.specs.Turnings.{Foreseen}
+use Rattle.pipelined.specs.Turnings.{Lookahead}
 
 -- a remainder that reaches to d, and one that does not
 module _ (m t d : ℕ) (some : 1 ≤ m) where
@@ -52,7 +52,7 @@ module _ (n f k i u : ℕ) (port : Port n i) (covers : n ≤ f) (place : u ≡ i
       go e (no l) = omega (arith, around f (k + 2 * n - 1) (i - 1) (omega arith) (omega arith) (omega arith) (omega arith))
 
 -- WHAT A TICK KNOWS of the slots ahead
-pub foreseen : (n f k : ℕ) → 1 ≤ n → n ≤ f → Foreseen n f k ((k + 1) % (2 * n)) ((k + n + 1) % (2 * n)) ((k + 2 * n - 1) % f)
+pub foreseen : (n f k : ℕ) → 1 ≤ n → n ≤ f → Lookahead n f k ((k + 1) % (2 * n)) ((k + n + 1) % (2 * n)) ((k + 2 * n - 1) % f)
 unfolding into-frame
 foreseen n f k some covers =
     record {

@@ -15,7 +15,7 @@ abbrev pub turn-runs-of : (credits queues flight : List ℕ) → TurnRuns
 turn-runs-of c q f = record { credits = c; queues = q; flight = f }
 
 -- the ports are few, and the frame copy, the credits, the queues and the rows in flight hold their words
-pub record Lent (n : ℕ) (a c q f : List ℕ) : Type 0 where
+pub record RunsFit (n : ℕ) (a c q f : List ℕ) : Type 0 where
   pub ports : n ≤ 32
   pub copy : n * n ≤ length a
   pub credits : n * n ≤ length c
@@ -24,7 +24,7 @@ pub record Lent (n : ℕ) (a c q f : List ℕ) : Type 0 where
 
 -- what a tick at time k knows of the slots ahead: the rows of slots k + 2n + 1 and k + n + 1, and how many slots of its frame come before slot
 -- k + 2n. The frames have a slot for each port.
-pub record Foreseen (n f k one two into : ℕ) : Type 0 where
+pub record Lookahead (n f k one two into : ℕ) : Type 0 where
   pub covers : n ≤ f
   pub row-one : one ≡ (k + 2 * n + 1) % (2 * n)
   pub row-two : two ≡ (k + n + 1) % (2 * n)

@@ -3,14 +3,14 @@
 ghost use mathlib.Core.Path.{_≡_};
 ghost use mathlib.Core.Bool.{not};
 ghost use Prim.Native.Nat.{ℕ, _+_, _-_, _*_, _%_, _≤_, _<_};
-ghost use lib.Dec.{eqb};
 ghost use lib.ListN.{length};
 ghost use Rattle.wsgs.specs.Basics.{Port};
 ghost use Rattle.wsgs.specs.Pipelined.{by-first, output-in, standing, handed-out, row-cleared};
 ghost use Rattle.turns.specs.Masks.{in-mask};
 ghost use Rattle.pipelined.specs.Turnings.{answering};
 use std::num::wrapping_sub_u32;
-use turns::all_free;
+use turns::masks::all_free;
+use turns::masks::take;
 use words::clear_words;
 use wsgs::Clock;
 use wsgs::Input;
@@ -19,8 +19,8 @@ use wsgs::TickResult;
 
 // Where the row of a slot begins.
 pub fn row_of(ports: usize, slot: u64) -> usize
-    requires { ⌜ 1 ≤ ports ⌝ }
-    requires { ⌜ ports ≤ 32 ⌝ }
+    requires some_port { ⌜ 1 ≤ ports ⌝ }
+    requires few_ports { ⌜ ports ≤ 32 ⌝ }
     ensures is { λ r. ⌜ r ≡ slot % (2 * ports) * ports ⌝ }
     ensures within { λ r. ⌜ r + ports ≤ 2 * ports * ports ⌝ }
 {
@@ -29,9 +29,9 @@ pub fn row_of(ports: usize, slot: u64) -> usize
 
 // Where the row begins that stands as many rows before another as an input's number says. Before row 0 stands row 2N - 1.
 pub fn row_before(ports: usize, row: usize, input: Input) -> usize
-    requires { ⌜ ports ≤ 32 ⌝ }
-    requires { ⌜ Port ports (input .0) ⌝ }
-    requires { ⌜ row < 2 * ports ⌝ }
+    requires few_ports { ⌜ ports ≤ 32 ⌝ }
+    requires input { ⌜ Port ports (input .0) ⌝ }
+    requires row { ⌜ row < 2 * ports ⌝ }
     ensures is { λ r. ⌜ ((s : ℕ) → row ≡ s % (2 * ports) → input .0 ≤ s → r ≡ (s - input .0) % (2 * ports) * ports) ⌝ }
     ensures within { λ r. ⌜ r + ports ≤ 2 * ports * ports ⌝ }
 {
@@ -44,15 +44,15 @@ pub fn row_before(ports: usize, row: usize, input: Input) -> usize
 
 // Whether a word in flight stands for an output by pass one. A word below 101 wraps to one far above the ports, so one comparison suffices.
 pub fn is_by_first(ports: u32, word: u32) -> bool
-    requires { ⌜ ports ≤ 32 ⌝ }
-    ensures { λ r. ⌜ r ≡ by-first ports word ⌝ }
+    requires few_ports { ⌜ ports ≤ 32 ⌝ }
+    ensures tested { λ r. ⌜ r ≡ by-first ports word ⌝ }
 {
     wrapping_sub_u32(word, 101) < ports
 }
 
 // The column, from 0 on, of the output that a word in flight stands for; where it stands for none, a number that is not below the ports.
 fn column_in(ports: u32, word: u32) -> u32
-    requires { ⌜ ports ≤ 32 ⌝ }
+    requires few_ports { ⌜ ports ≤ 32 ⌝ }
     ensures some { λ r. ⌜ (r < ports → output-in ports word ≡ r + 1) ⌝ }
     ensures none { λ r. ⌜ (ports ≤ r → output-in ports word ≡ 0) ⌝ }
 {
@@ -64,7 +64,7 @@ fn column_in(ports: u32, word: u32) -> u32
 
 // The output that a word in flight stands for, 0 for none.
 pub fn output_of(ports: usize, word: u32) -> Output
-    requires { ⌜ ports ≤ 32 ⌝ }
+    requires few_ports { ⌜ ports ≤ 32 ⌝ }
     ensures read { λ r. ⌜ r .0 ≡ output-in ports word ⌝ }
     ensures within { λ r. ⌜ r .0 ≤ ports ⌝ }
 {
@@ -76,31 +76,21 @@ pub fn output_of(ports: usize, word: u32) -> Output
     Output(0)
 }
 
-// The set of the output that a word in flight stands for, empty for none.
-fn set_in(ports: u32, word: u32) -> u32
-    requires { ⌜ ports ≤ 32 ⌝ }
-    ensures { λ r. ⌜ ((j : ℕ) → 1 ≤ j → in-mask r j ≡ eqb (output-in ports word) j) ⌝ }
-{
-    let column = column_in(ports, word);
-    if column < ports {
-        return 1 << column;
-    }
-    0
-}
-
-// The outputs that are free for a slot: those that do not stand in its row. The row is given by where it begins. All is in u32, so that the
-// loop compiles to vector instructions.
+// The outputs that are free for a slot: those that do not stand in its row. The row is given by where it begins. A word that stands for none
+// takes an output past the ports, so that no word needs a branch and the loop compiles to vector instructions.
 pub fn free_for(ports: usize, row: usize, flight: &[u32]) -> u32
-    requires { ⌜ ports ≤ 32 ⌝ }
-    requires { ⌜ row + ports ≤ length (now flight) ⌝ }
-    ensures { λ r. ⌜ ((s : ℕ) → row ≡ s % (2 * ports) * ports → (j : ℕ) → Port ports j → in-mask r j ≡ not (standing ports (now (flight .entry)) s j)) ⌝ }
+    requires few_ports { ⌜ ports ≤ 32 ⌝ }
+    requires row_fits { ⌜ row + ports ≤ length (now flight) ⌝ }
+    ensures free { λ r. ⌜ ((s : ℕ) → row ≡ s % (2 * ports) * ports
+        → (j : ℕ) → Port ports j → in-mask r j ≡ not (standing ports (now (flight .entry)) s j)) ⌝ }
 {
     let highest = ports as u32;
-    let mut taken = 0;
+    let mut free = all_free(ports);
     for column in 0..ports {
-        taken |= set_in(highest, flight[row + column]);
+        let standing = column_in(highest, flight[row + column]);
+        free = take(free, Output(standing as u64 + 1));
     }
-    all_free(ports) ^ taken
+    free
 }
 
 // The result of a tick that has come to a clock's slot: the pairs that the row of the next slot hands out.
@@ -132,10 +122,10 @@ pub fn hand_out(clock: Clock, flight: &[u32]) -> TickResult
 
 // The row of a slot is set to 0.
 pub fn clear_row(ports: usize, slot: u64, flight: &mut [u32])
-    requires { ⌜ 1 ≤ ports ⌝ }
-    requires { ⌜ ports ≤ 32 ⌝ }
-    requires { ⌜ 2 * ports * ports ≤ length (now flight) ⌝ }
-    ensures { λ _. ⌜ now (flight .exit) ≡ row-cleared ports (now (flight .entry)) slot ⌝ }
+    requires some_port { ⌜ 1 ≤ ports ⌝ }
+    requires few_ports { ⌜ ports ≤ 32 ⌝ }
+    requires flight_fits { ⌜ 2 * ports * ports ≤ length (now flight) ⌝ }
+    ensures flight_exit { λ _. ⌜ now (flight .exit) ≡ row-cleared ports (now (flight .entry)) slot ⌝ }
 {
     let row = row_of(ports, slot);
     clear_words(&mut flight[row..], ports);

@@ -10,7 +10,7 @@ ghost use Rattle.wsgs.specs.Questions.{effect};
 ghost use Rattle.wsgs.specs.Answers.{pipelined-runs-of, tick-effect};
 ghost use Rattle.wsgs.specs.Frames.{into-frame};
 ghost use Rattle.wsgs.specs.Pipelined;
-ghost use Rattle.pipelined.specs.Turnings.{Lent};
+ghost use Rattle.pipelined.specs.Turnings.{RunsFit};
 use flight::clear_row;
 use flight::hand_out;
 use pipeline_turns::all_turns;
@@ -22,10 +22,11 @@ use wsgs::TickResult;
 
 // The frame copy becomes the bookings where slot time + 2N is the first of a frame: no slot of its frame comes before it.
 fn copy_bookings(ports: usize, into: u64, bookings: &[u32], copy: &mut [u32])
-    requires { ⌜ ports ≤ 32 ⌝ }
-    requires { ⌜ ports * ports ≤ length (now bookings) ⌝ }
-    requires { ⌜ ports * ports ≤ length (now copy) ⌝ }
-    ensures { λ _. ⌜ ((frame time : ℕ) → into ≡ into-frame frame (time + 2 * ports) → (c q f : List ℕ) → now (copy .exit) ≡ Pipelined.copied-at ports frame time (pipelined-runs-of (now (bookings .entry)) c q (now (copy .entry)) f)) ⌝ }
+    requires few_ports { ⌜ ports ≤ 32 ⌝ }
+    requires bookings_fit { ⌜ ports * ports ≤ length (now bookings) ⌝ }
+    requires copy_fits { ⌜ ports * ports ≤ length (now copy) ⌝ }
+    ensures copy_exit { λ _. ⌜ ((frame time : ℕ) → into ≡ into-frame frame (time + 2 * ports) → (c q f : List ℕ)
+        → now (copy .exit) ≡ Pipelined.copied-at ports frame time (pipelined-runs-of (now (bookings .entry)) c q (now (copy .entry)) f)) ⌝ }
 {
     if into == 0 {
         copy_words(bookings, copy, ports * ports);
@@ -42,14 +43,15 @@ fn run_tick(
     flight: &mut [u32],
 ) -> TickResult
     requires some_port { ⌜ 1 ≤ clock .ports ⌝ }
-    requires runs_fit { ⌜ Lent (clock .ports) (now copy) (now credits) (now queues) (now flight) ⌝ }
+    requires runs_fit { ⌜ RunsFit (clock .ports) (now copy) (now credits) (now queues) (now flight) ⌝ }
     requires bookings_fit { ⌜ clock .ports * clock .ports ≤ length (now bookings) ⌝ }
     requires frame_covers { ⌜ clock .ports ≤ clock .frame ⌝ }
     requires slots_left { ⌜ clock .slot < 4000000000 ⌝ }
     ensures outcome { λ r. ⌜ effect r
         (pipelined-runs-of (now (bookings .entry)) (now (credits .exit)) (now (queues .exit)) (now (copy .exit)) (now (flight .exit)))
         ≡ tick-effect (Pipelined.ticked clock
-        (pipelined-runs-of (now (bookings .entry)) (now (credits .entry)) (now (queues .entry)) (now (copy .entry)) (now (flight .entry)))) ⌝ }
+        (pipelined-runs-of (now (bookings .entry)) (now (credits .entry)) (now (queues .entry)) (now (copy .entry))
+        (now (flight .entry)))) ⌝ }
 {
     let mut next = clock;
     next.slot = clock.slot + 1;
@@ -75,7 +77,8 @@ pub fn tick(
     ensures outcome { λ r. ⌜ effect r
         (pipelined-runs-of (now (bookings .entry)) (now (credits .exit)) (now (queues .exit)) (now (copy .exit)) (now (flight .exit)))
         ≡ tick-effect (Pipelined.tick clock
-        (pipelined-runs-of (now (bookings .entry)) (now (credits .entry)) (now (queues .entry)) (now (copy .entry)) (now (flight .entry)))) ⌝ }
+        (pipelined-runs-of (now (bookings .entry)) (now (credits .entry)) (now (queues .entry)) (now (copy .entry))
+        (now (flight .entry)))) ⌝ }
 {
     let refusal = pipelined_tick_refusal(clock, bookings, credits, queues, copy, flight);
     if refusal > 0 {

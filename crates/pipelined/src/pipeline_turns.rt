@@ -7,14 +7,15 @@ ghost use Rattle.wsgs.specs.Basics.{Port};
 ghost use Rattle.wsgs.specs.Frames.{into-frame};
 ghost use Rattle.wsgs.specs.Pipelined.{slot-one, turn-one, turn-two, reloaded, turns-of, turns};
 ghost use Rattle.turns.specs.Masks.{powers};
-ghost use Rattle.pipelined.specs.Turnings.{turn-runs-of, Lent, Foreseen};
+ghost use Rattle.pipelined.specs.Turnings.{turn-runs-of, RunsFit, Lookahead};
 use super::flight::free_for;
 use super::flight::output_of;
 use super::flight::row_before;
 use turns::BITS;
 use turns::first_turn;
+use turns::load_credits;
 use turns::second_turn;
-use words::copy_words;
+use words::places::row_of;
 use wsgs::Input;
 
 // An input's pass-one turn for the slot whose row begins at a place, if it has no output for it yet.
@@ -27,13 +28,15 @@ fn turn_one(
     queues: &mut [u32],
     flight: &mut [u32],
 )
-    requires { ⌜ ports ≤ 32 ⌝ }
-    requires { ⌜ Port ports (input .0) ⌝ }
-    requires { ⌜ ports * ports ≤ length (now credits) ⌝ }
-    requires { ⌜ ports * ports ≤ length (now queues) ⌝ }
-    requires { ⌜ row + ports ≤ length (now flight) ⌝ }
-    requires { ⌜ now bits ≡ powers 0 32 ⌝ }
-    ensures { λ _. ⌜ ((s : ℕ) → row ≡ s % (2 * ports) * ports → turn-runs-of (now (credits .exit)) (now (queues .exit)) (now (flight .exit)) ≡ turn-one ports s (input .0) (turn-runs-of (now (credits .entry)) (now (queues .entry)) (now (flight .entry)))) ⌝ }
+    requires few_ports { ⌜ ports ≤ 32 ⌝ }
+    requires input { ⌜ Port ports (input .0) ⌝ }
+    requires credits_fit { ⌜ ports * ports ≤ length (now credits) ⌝ }
+    requires queues_fit { ⌜ ports * ports ≤ length (now queues) ⌝ }
+    requires row_fits { ⌜ row + ports ≤ length (now flight) ⌝ }
+    requires bits { ⌜ now bits ≡ powers 0 32 ⌝ }
+    ensures turn { λ _. ⌜ ((s : ℕ) → row ≡ s % (2 * ports) * ports
+        → turn-runs-of (now (credits .exit)) (now (queues .exit)) (now (flight .exit))
+        ≡ turn-one ports s (input .0) (turn-runs-of (now (credits .entry)) (now (queues .entry)) (now (flight .entry)))) ⌝ }
 {
     let at = row + (input.0 - 1) as usize;
     if output_of(ports, flight[at]).0 > 0 {
@@ -55,12 +58,14 @@ fn turn_two(
     queues: &mut [u32],
     flight: &mut [u32],
 )
-    requires { ⌜ ports ≤ 32 ⌝ }
-    requires { ⌜ Port ports (input .0) ⌝ }
-    requires { ⌜ ports * ports ≤ length (now queues) ⌝ }
-    requires { ⌜ row + ports ≤ length (now flight) ⌝ }
-    requires { ⌜ now bits ≡ powers 0 32 ⌝ }
-    ensures { λ _. ⌜ ((s : ℕ) → row ≡ s % (2 * ports) * ports → (c : List ℕ) → turn-runs-of c (now (queues .exit)) (now (flight .exit)) ≡ turn-two ports s (input .0) (turn-runs-of c (now (queues .entry)) (now (flight .entry)))) ⌝ }
+    requires few_ports { ⌜ ports ≤ 32 ⌝ }
+    requires input { ⌜ Port ports (input .0) ⌝ }
+    requires queues_fit { ⌜ ports * ports ≤ length (now queues) ⌝ }
+    requires row_fits { ⌜ row + ports ≤ length (now flight) ⌝ }
+    requires bits { ⌜ now bits ≡ powers 0 32 ⌝ }
+    ensures turn { λ _. ⌜ ((s : ℕ) → row ≡ s % (2 * ports) * ports → (c : List ℕ)
+        → turn-runs-of c (now (queues .exit)) (now (flight .exit))
+        ≡ turn-two ports s (input .0) (turn-runs-of c (now (queues .entry)) (now (flight .entry)))) ⌝ }
 {
     let at = row + (input.0 - 1) as usize;
     if output_of(ports, flight[at]).0 > 0 {
@@ -73,49 +78,42 @@ fn turn_two(
     }
 }
 
-// Where the row of an input begins in a matrix.
-fn row_of_input(ports: usize, input: Input) -> usize
-    requires { ⌜ ports ≤ 32 ⌝ }
-    requires { ⌜ Port ports (input .0) ⌝ }
-    ensures is { λ r. ⌜ r ≡ (input .0 - 1) * ports ⌝ }
-    ensures within { λ r. ⌜ r + ports ≤ ports * ports ⌝ }
-{
-    (input.0 - 1) as usize * ports
-}
-
 // An input sets its row of credits from the frame copy where its slot of pass one is the first of a frame. `into` tells how many slots of its
 // frame come before slot time + 2N, which is that of input 1; that of input i comes i - 1 slots before.
 fn reload_row(ports: usize, into: u64, input: Input, copy: &[u32], credits: &mut [u32])
-    requires { ⌜ ports ≤ 32 ⌝ }
-    requires { ⌜ Port ports (input .0) ⌝ }
-    requires { ⌜ ports * ports ≤ length (now copy) ⌝ }
-    requires { ⌜ ports * ports ≤ length (now credits) ⌝ }
-    ensures { λ _. ⌜ ((frame time : ℕ) → ports ≤ frame → into ≡ into-frame frame (time + 2 * ports) → (q f : List ℕ) → turn-runs-of (now (credits .exit)) q f ≡ reloaded ports frame (now (copy .entry)) (slot-one ports time (input .0)) (input .0) (turn-runs-of (now (credits .entry)) q f)) ⌝ }
+    requires few_ports { ⌜ ports ≤ 32 ⌝ }
+    requires input { ⌜ Port ports (input .0) ⌝ }
+    requires copy_fits { ⌜ ports * ports ≤ length (now copy) ⌝ }
+    requires credits_fit { ⌜ ports * ports ≤ length (now credits) ⌝ }
+    ensures reload { λ _. ⌜ ((frame time : ℕ) → ports ≤ frame → into ≡ into-frame frame (time + 2 * ports) → (q f : List ℕ)
+        → turn-runs-of (now (credits .exit)) q f
+        ≡ reloaded ports frame (now (copy .entry)) (slot-one ports time (input .0)) (input .0)
+        (turn-runs-of (now (credits .entry)) q f)) ⌝ }
 {
     if into == input.0 - 1 {
-        let row = row_of_input(ports, input);
-        copy_words(&copy[row..], &mut credits[row..], ports);
+        let row = row_of(ports, input);
+        load_credits(&copy[row..], &mut credits[row..], ports);
     }
 }
 
 // What a tick knows of the slots ahead of its time: the number of the row of slot time + 2N + 1 and of slot time + N + 1, and how many slots of
 // its frame come before slot time + 2N.
-pub struct Ahead {
+pub struct SlotsAhead {
     pub one: usize,
     pub two: usize,
     pub into: u64,
 }
 
 // What a tick knows of the slots ahead, so that no turn divides.
-pub fn look_ahead(ports: usize, frame: u64, time: u64) -> Ahead
-    requires { ⌜ 1 ≤ ports ⌝ }
-    requires { ⌜ ports ≤ 32 ⌝ }
-    requires { ⌜ ports ≤ frame ⌝ }
-    requires { ⌜ time ≤ 4000000000 ⌝ }
-    ensures { λ r. ⌜ Foreseen ports frame time (r .one) (r .two) (r .into) ⌝ }
+pub fn look_ahead(ports: usize, frame: u64, time: u64) -> SlotsAhead
+    requires some_port { ⌜ 1 ≤ ports ⌝ }
+    requires few_ports { ⌜ ports ≤ 32 ⌝ }
+    requires frame_covers { ⌜ ports ≤ frame ⌝ }
+    requires time { ⌜ time ≤ 4000000000 ⌝ }
+    ensures ahead { λ r. ⌜ Lookahead ports frame time (r .one) (r .two) (r .into) ⌝ }
 {
     let rows = 2 * ports as u64;
-    Ahead {
+    SlotsAhead {
         one: ((time + 1) % rows) as usize,
         two: ((time + ports as u64 + 1) % rows) as usize,
         into: (time + rows - 1) % frame,
@@ -128,19 +126,22 @@ fn turns_of(
     bits: &[u32; 32],
     ports: usize,
     time: u64,
-    ahead: Ahead,
+    ahead: SlotsAhead,
     input: Input,
     copy: &[u32],
     credits: &mut [u32],
     queues: &mut [u32],
     flight: &mut [u32],
 )
-    requires { ⌜ Lent ports (now copy) (now credits) (now queues) (now flight) ⌝ }
-    requires { ⌜ ahead .one < 2 * ports ⌝ }
-    requires { ⌜ ahead .two < 2 * ports ⌝ }
-    requires { ⌜ Port ports (input .0) ⌝ }
-    requires { ⌜ now bits ≡ powers 0 32 ⌝ }
-    ensures { λ _. ⌜ ((frame : ℕ) → Foreseen ports frame time (ahead .one) (ahead .two) (ahead .into) → turn-runs-of (now (credits .exit)) (now (queues .exit)) (now (flight .exit)) ≡ turns-of ports frame (now (copy .entry)) time (input .0) (turn-runs-of (now (credits .entry)) (now (queues .entry)) (now (flight .entry)))) ⌝ }
+    requires runs_fit { ⌜ RunsFit ports (now copy) (now credits) (now queues) (now flight) ⌝ }
+    requires row_one { ⌜ ahead .one < 2 * ports ⌝ }
+    requires row_two { ⌜ ahead .two < 2 * ports ⌝ }
+    requires input { ⌜ Port ports (input .0) ⌝ }
+    requires bits { ⌜ now bits ≡ powers 0 32 ⌝ }
+    ensures turns { λ _. ⌜ ((frame : ℕ) → Lookahead ports frame time (ahead .one) (ahead .two) (ahead .into)
+        → turn-runs-of (now (credits .exit)) (now (queues .exit)) (now (flight .exit))
+        ≡ turns-of ports frame (now (copy .entry)) time (input .0)
+        (turn-runs-of (now (credits .entry)) (now (queues .entry)) (now (flight .entry)))) ⌝ }
 {
     if input.0 <= time {
         reload_row(ports, ahead.into, input, copy, credits);
@@ -155,16 +156,19 @@ fn turns_of(
 pub fn all_turns(
     ports: usize,
     time: u64,
-    ahead: Ahead,
+    ahead: SlotsAhead,
     copy: &[u32],
     credits: &mut [u32],
     queues: &mut [u32],
     flight: &mut [u32],
 )
-    requires { ⌜ Lent ports (now copy) (now credits) (now queues) (now flight) ⌝ }
-    requires { ⌜ ahead .one < 2 * ports ⌝ }
-    requires { ⌜ ahead .two < 2 * ports ⌝ }
-    ensures { λ _. ⌜ ((frame : ℕ) → Foreseen ports frame time (ahead .one) (ahead .two) (ahead .into) → turn-runs-of (now (credits .exit)) (now (queues .exit)) (now (flight .exit)) ≡ turns ports frame (now (copy .entry)) time (turn-runs-of (now (credits .entry)) (now (queues .entry)) (now (flight .entry))) ports) ⌝ }
+    requires runs_fit { ⌜ RunsFit ports (now copy) (now credits) (now queues) (now flight) ⌝ }
+    requires row_one { ⌜ ahead .one < 2 * ports ⌝ }
+    requires row_two { ⌜ ahead .two < 2 * ports ⌝ }
+    ensures turns { λ _. ⌜ ((frame : ℕ) → Lookahead ports frame time (ahead .one) (ahead .two) (ahead .into)
+        → turn-runs-of (now (credits .exit)) (now (queues .exit)) (now (flight .exit))
+        ≡ turns ports frame (now (copy .entry)) time
+        (turn-runs-of (now (credits .entry)) (now (queues .entry)) (now (flight .entry))) ports) ⌝ }
 {
     let bits = BITS;
     for done in 0..ports {

@@ -1,8 +1,9 @@
-// Ticks of the pipelined form at the edges of document 01. Each case prints one line: the refusal, the last slot run, the pairs handed out as
+// Ticks of the pipelined form at the edges of the rules. Each case prints one line: the refusal, the last slot run, the pairs handed out as
 // input>output/pass, the word of pass one, and of each run afterwards the words that are not 0, as place=word with places from 0 (of more than
 // 20 words their sum). `stdout` was worked out by hand.
 ghost use Prim.Native.Nat.{_≤_, _<_};
 use pipelined::tick;
+use wsgs::Clock;
 use wsgs::TickResult;
 
 const STDOUT: i32 = 1;
@@ -18,7 +19,7 @@ fn say_number(text: &[u8], number: u64) {
 
 // The pair of the input at a place of the answer, if it has one.
 fn say_pair(place: usize, output: u8, first_pass: u32)
-    requires { ⌜ place < 32 ⌝ }
+    requires place { ⌜ place < 32 ⌝ }
 {
     if output > 0 {
         say_number(b" ", place as u64 + 1);
@@ -37,13 +38,14 @@ fn say_pairs(outputs: [u8; 32], first_pass: u32) {
     }
 }
 
-fn say_answer(answer: TickResult) {
-    say_number(b": refusal ", answer.refusal as u64);
-    say_number(b", slot ", answer.slot as u64);
+fn say_result(result: TickResult) {
+    let clock = result.clock;
+    say_number(b": refusal ", result.refusal as u64);
+    say_number(b", slot ", clock.slot as u64);
     say(b", pairs");
-    let outputs = answer.outputs;
-    say_pairs(outputs, answer.first_pass);
-    say_number(b", first pass ", answer.first_pass as u64);
+    let outputs = result.outputs;
+    say_pairs(outputs, result.first_pass);
+    say_number(b", first pass ", result.first_pass as u64);
 }
 
 fn sum(run: &[u32]) -> u64 {
@@ -92,10 +94,11 @@ fn case(
     copy: &mut [u32],
     flight: &mut [u32],
 ) {
-    let answer = tick(ports, frame, slot, bookings, credits, queues, copy, flight);
+    let clock = Clock { ports, frame, slot };
+    let result = tick(clock, bookings, credits, queues, copy, flight);
     say(name);
     say_number(b", after slot ", slot as u64);
-    say_answer(answer);
+    say_result(result);
     say_run(b", credits", credits);
     say_run(b", queues", queues);
     say_run(b", copy", copy);
@@ -370,8 +373,8 @@ fn limits() {
 
 // A switch of two ports whose frame copy and rows in flight have that many words, and whose other runs are long enough.
 fn short_run(name: &[u8], copied: usize, flown: usize)
-    requires { ⌜ copied ≤ 4 ⌝ }
-    requires { ⌜ flown ≤ 8 ⌝ }
+    requires copied { ⌜ copied ≤ 4 ⌝ }
+    requires flown { ⌜ flown ≤ 8 ⌝ }
 {
     let bookings = [0u32; 4];
     let mut credits = [0u32; 4];
@@ -393,9 +396,9 @@ fn short_run(name: &[u8], copied: usize, flown: usize)
 
 // The same of the bookings, the credits and the queues.
 fn short_matrix(name: &[u8], booked: usize, credited: usize, queued: usize)
-    requires { ⌜ booked ≤ 4 ⌝ }
-    requires { ⌜ credited ≤ 4 ⌝ }
-    requires { ⌜ queued ≤ 4 ⌝ }
+    requires booked { ⌜ booked ≤ 4 ⌝ }
+    requires credited { ⌜ credited ≤ 4 ⌝ }
+    requires queued { ⌜ queued ≤ 4 ⌝ }
 {
     let bookings = [0u32; 4];
     let mut credits = [0u32; 4];

@@ -3,12 +3,12 @@
 use mathlib.Core.Path.{_≡_, refl, sym, ap, _∙_}
 use mathlib.Core.Bool.{Bool, true, not, _&&_, and-true}
 use mathlib.Core.Logic.{_≢_}
-use Prim.Native.Nat.{ℕ, suc, _+_, _-_, _*_, _/_, _%_, _^_, _<_}
+use Prim.Native.Nat.{ℕ, zero, suc, _+_, _-_, _*_, _/_, _%_, _^_, _<_, min}
 use native.Mathlib.Nat.{div-self, div-eq-of-lt, one-mul, pow-suc, mul-mod-left}
 use native.Mathlib.Decide.{ℕ-discrete, decLt}
 use native.Mathlib.Omega.{arith}
 use borrow.Author.Tests.{eq-eqb, ne-eqb, eqb-true}
-use lib.Bits.{bitXor, xor-shr, xor-mod, xor-zero-r}
+use lib.Bits.{bitAnd, bitXor, and-step, and-zero-l, and-high, xor-shr, xor-mod, xor-zero-r}
 use lib.Dec.{eqb}
 use lib.Pow.{pow-pos, pow-lt, pow-add, shl-exact, shl-shr, ones-lt, ones-split, high}
 use Rattle.turns.specs.Masks.{in-mask}
@@ -27,11 +27,11 @@ pub one-shl : (m j : ℕ) → j < m → (1 * 2 ^ j) % 2 ^ m ≡ 2 ^ j
 one-shl m j h = shl-exact 1 j m (omega arith) (omega arith) ∙ one-mul (2 ^ j)
 
 -- 2 ^ j has bit j
-pub pow-here : (j : ℕ) → 2 ^ j / 2 ^ j % 2 ≡ 1
+pow-here : (j : ℕ) → 2 ^ j / 2 ^ j % 2 ≡ 1
 pow-here j = rw (div-self (pow-pos j))
 
 -- and no other
-pub pow-other : (j k : ℕ) → k ≢ j → 2 ^ j / 2 ^ k % 2 ≡ 0
+pow-other : (j k : ℕ) → k ≢ j → 2 ^ j / 2 ^ k % 2 ≡ 0
 pow-other j k ne = elim (decLt k j) [ yes l ↦ above l | no g ↦ below (omega arith) ]
   where
     below : j < k → 2 ^ j / 2 ^ k % 2 ≡ 0
@@ -65,3 +65,28 @@ low-set n k l =
     let odd : (2 ^ suc (n - suc k) - 1) % 2 ≡ 1 = rw (pow-suc 2 (n - suc k)) (omega (arith, pow-pos (n - suc k))) in
     ap (λ (x : ℕ). eqb ((2 ^ x - 1) / 2 ^ k % 2) 1) e
     ∙ rw (ones-split (suc (n - suc k)) k, high (2 ^ suc (n - suc k) - 1) k (ones-lt k), odd)
+
+-- bit k of a word, alone
+pub alone : (w k : ℕ) → bitAnd w (2 ^ k) ≡ w / 2 ^ k % 2 * 2 ^ k
+alone w k =
+    let e : 2 ^ k ≡ 2 ^ (1 + k) - 2 ^ k = rw (pow-add 2 1 k) (omega arith) in
+    ap (bitAnd w) e ∙ and-high w 1 k
+
+-- an and with all of m bits but those of b leaves what b has not: digit by digit, and the halves
+other-digit : (x y : ℕ) → x < 2 → y < 2 → min x (1 - y) + min x y ≡ x
+other-digit x y p q = omega arith
+
+join-halves : (w a b d e : ℕ) → a + b ≡ w / 2 → d + e ≡ w % 2 → a * 2 + d + (b * 2 + e) ≡ w
+join-halves w a b d e p q = omega arith
+
+pub and-others : (m w b : ℕ) → w < 2 ^ m → b < 2 ^ m → bitAnd w (2 ^ m - 1 - b) + bitAnd w b ≡ w
+and-others zero w b p q =
+    let e : w ≡ 0 = omega arith in
+    rw (e, and-zero-l (2 ^ 0 - 1 - b), and-zero-l b)
+and-others (suc m) w b p q =
+    let twice : 2 ^ suc m ≡ 2 ^ m * 2 = pow-suc 2 m in
+    let half : (2 ^ suc m - 1 - b) / 2 ≡ 2 ^ m - 1 - b / 2 = omega (arith, twice) in
+    let odd : (2 ^ suc m - 1 - b) % 2 ≡ 1 - b % 2 = omega (arith, twice) in
+    rw (and-step w (2 ^ suc m - 1 - b), and-step w b, half, odd)
+    (join-halves w _ _ _ _ (and-others m (w / 2) (b / 2) (omega (arith, twice)) (omega (arith, twice)))
+    (other-digit (w % 2) (b % 2) (omega arith) (omega arith)))

@@ -1,5 +1,5 @@
 -- Laws that the functions' proofs cite, here and in the crates of the two forms.
-pub mod Places
+pub mod Falls
 pub mod BitLaws
 pub mod TrailingLaws
 pub mod Ready

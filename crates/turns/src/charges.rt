@@ -3,29 +3,21 @@ ghost use mathlib.Core.Path.{_≡_};
 ghost use Prim.Native.Nat.{_*_, _≤_};
 ghost use lib.ListN.{length};
 ghost use Rattle.wsgs.specs.Basics.{Port};
-ghost use Rattle.wsgs.specs.Words.{place, less-one};
-use super::search::row_of;
-use wsgs::Credits;
+ghost use Rattle.wsgs.specs.Words.{less-one};
+use super::credits::credits_at;
+use super::credits::put_credits;
+use super::credits::spend;
+use words::places::place_of;
 use wsgs::Input;
 use wsgs::Output;
 
-// Where the word of the pair stands in its run.
-fn place_of(ports: usize, input: Input, output: Output) -> usize
-    requires { ⌜ ports ≤ 32 ⌝ }
-    requires { ⌜ Port ports (input .0) ⌝ }
-    requires { ⌜ Port ports (output .0) ⌝ }
-    ensures { λ r. ⌜ r ≡ place ports (input .0) (output .0) ⌝ }
-{
-    row_of(ports, input) + (output.0 - 1) as usize
-}
-
 // The pair's queue falls by 1.
 pub fn take_packet(queues: &mut [u32], ports: usize, input: Input, output: Output)
-    requires { ⌜ ports ≤ 32 ⌝ }
-    requires { ⌜ Port ports (input .0) ⌝ }
-    requires { ⌜ Port ports (output .0) ⌝ }
-    requires { ⌜ ports * ports ≤ length (now queues) ⌝ }
-    ensures { λ _. ⌜ now (queues .exit) ≡ less-one ports (now (queues .entry)) (input .0) (output .0) ⌝ }
+    requires ports { ⌜ ports ≤ 32 ⌝ }
+    requires input { ⌜ Port ports (input .0) ⌝ }
+    requires output { ⌜ Port ports (output .0) ⌝ }
+    requires queues_fit { ⌜ ports * ports ≤ length (now queues) ⌝ }
+    ensures less { λ _. ⌜ now (queues .exit) ≡ less-one ports (now (queues .entry)) (input .0) (output .0) ⌝ }
 {
     let at = place_of(ports, input, output);
     let packets = queues[at];
@@ -35,15 +27,13 @@ pub fn take_packet(queues: &mut [u32], ports: usize, input: Input, output: Outpu
 
 // The pair's credits fall by 1.
 pub fn spend_credit(credits: &mut [u32], ports: usize, input: Input, output: Output)
-    requires { ⌜ ports ≤ 32 ⌝ }
-    requires { ⌜ Port ports (input .0) ⌝ }
-    requires { ⌜ Port ports (output .0) ⌝ }
-    requires { ⌜ ports * ports ≤ length (now credits) ⌝ }
-    ensures { λ _. ⌜ now (credits .exit) ≡ less-one ports (now (credits .entry)) (input .0) (output .0) ⌝ }
+    requires ports { ⌜ ports ≤ 32 ⌝ }
+    requires input { ⌜ Port ports (input .0) ⌝ }
+    requires output { ⌜ Port ports (output .0) ⌝ }
+    requires credits_fit { ⌜ ports * ports ≤ length (now credits) ⌝ }
+    ensures less { λ _. ⌜ now (credits .exit) ≡ less-one ports (now (credits .entry)) (input .0) (output .0) ⌝ }
 {
     let at = place_of(ports, input, output);
-    let left = Credits(credits[at]);
-    let spent = (left.0 > 0) as u32;
-    let less = Credits(left.0 - spent);
-    credits[at] = less.0;
+    let left = credits_at(credits, at);
+    put_credits(credits, at, spend(left));
 }

@@ -1,22 +1,25 @@
 // An input's turn in each pass, with the outputs that are still free: it takes the lowest that is open to it, and pays. An input that is no port,
 // more than 32 ports, or a run that is too short has no turn: nothing is taken and nothing changes.
 mod charges;
+mod credits;
+pub mod masks;
 mod search;
 
 ghost use mathlib.Core.Path.{_≡_};
-ghost use mathlib.Core.Bool.{_&&_};
-ghost use lib.ListN.{length};
-ghost use Rattle.wsgs.specs.Basics.{pick};
-ghost use Rattle.turns.specs.Masks.{all-free};
-ghost use Rattle.turns.specs.Requests.{has-turn, requested, lowest-common};
+ghost use Prim.Native.Nat.{_-_, _*_};
+ghost use Rattle.wsgs.specs.Basics.{lowest};
+ghost use Rattle.words.specs.Runs.{copy-words};
+ghost use Rattle.turns.specs.Masks.{powers, is-open, ready-mask};
+ghost use Rattle.turns.specs.Requests.{Turn, first-output, first-waiting, waiting-output, second-output};
 ghost use Rattle.turns.specs.Charges.{charged};
 use charges::spend_credit;
 use charges::take_packet;
+use credits::load_first;
 use search::has_turn;
 use search::lowest_open;
 use search::requests_of;
-use search::row_of;
 use search::waiting_outputs;
+use words::places::row_of;
 use wsgs::Input;
 use wsgs::Output;
 
@@ -56,23 +59,25 @@ pub const BITS: [u32; 32] = [
     2147483648,
 ];
 
-// All outputs are free: a bit for each, and from 32 ports on all the bits of a word.
-pub fn all_free(ports: usize) -> u32
-    ensures { λ r. ⌜ r ≡ all-free ports ⌝ }
+// The credits at the first count places become those for the booked slots there; where either run has fewer, both stay as they are.
+pub fn load_credits(booked: &[u32], credits: &mut [u32], count: usize)
+    ensures credits_exit { λ _. ⌜ now (credits .exit) ≡ copy-words count (now (booked .entry)) (now (credits .entry)) ⌝ }
 {
-    if ports >= 32 {
-        return 4294967295;
+    if count <= booked.len() {
+        if count <= credits.len() {
+            load_first(booked, credits, count);
+        }
     }
-    (1 << ports) - 1
 }
 
-// What a turn of pass one answers: the output that the input takes, or output 0, and the outputs for which it had a packet before.
-pub struct FirstTurn {
+// What a turn of pass one gives: the output that the input takes, or output 0, and the outputs for which it had a packet before.
+pub struct TurnResult {
     pub output: Output,
     pub waiting: u32,
 }
 
-// A turn of pass one, which goes by credits and queues and costs a credit and a packet.
+// A turn of pass one, which goes by credits and queues and costs a credit and a packet: with the table of all bits the input takes the lowest
+// free output for which it has both.
 pub fn first_turn(
     bits: &[u32; 32],
     free: u32,
@@ -80,14 +85,22 @@ pub fn first_turn(
     input: Input,
     credits: &mut [u32],
     queues: &mut [u32],
-) -> FirstTurn
-    ensures output { λ r. ⌜ r .output .0 ≡ pick (has-turn ports (input .0) (length (now (credits .entry))) && has-turn ports (input .0) (length (now (queues .entry)))) (lowest-common free (requested (now (bits .entry)) (now (credits .entry)) (now (queues .entry)) ports (input .0)) ports) 0 ⌝ }
+) -> TurnResult
+    ensures output { λ r. ⌜ r .output .0
+        ≡ first-output (now (bits .entry)) free ports (input .0) (now (credits .entry)) (now (queues .entry)) ⌝ }
+    ensures waiting { λ r. ⌜ r .waiting
+        ≡ first-waiting (now (bits .entry)) ports (input .0) (now (credits .entry)) (now (queues .entry)) ⌝ }
     ensures credits_exit { λ r. ⌜ now (credits .exit) ≡ charged ports (now (credits .entry)) (input .0) (r .output .0) ⌝ }
     ensures queues_exit { λ r. ⌜ now (queues .exit) ≡ charged ports (now (queues .entry)) (input .0) (r .output .0) ⌝ }
-    ensures waiting { λ r. ⌜ r .waiting ≡ pick (has-turn ports (input .0) (length (now (credits .entry))) && has-turn ports (input .0) (length (now (queues .entry)))) (requested (now (bits .entry)) (now (queues .entry)) (now (queues .entry)) ports (input .0)) 0 ⌝ }
+    ensures takes { λ r. ⌜ (now (bits .entry) ≡ powers 0 32
+        → Turn ports (input .0) (now (credits .entry)) → Turn ports (input .0) (now (queues .entry))
+        → r .output .0 ≡ lowest (is-open ports free (now (credits .entry)) (now (queues .entry)) (input .0)) ports) ⌝ }
+    ensures tells { λ r. ⌜ (now (bits .entry) ≡ powers 0 32
+        → Turn ports (input .0) (now (credits .entry)) → Turn ports (input .0) (now (queues .entry))
+        → r .waiting ≡ ready-mask (now (queues .entry)) (now (queues .entry)) ((input .0 - 1) * ports) ports) ⌝ }
 {
     if !has_turn(ports, input, credits.len()) || !has_turn(ports, input, queues.len()) {
-        return FirstTurn {
+        return TurnResult {
             output: Output(0),
             waiting: 0,
         };
@@ -99,7 +112,7 @@ pub fn first_turn(
         spend_credit(credits, ports, input, output);
         take_packet(queues, ports, input, output);
     }
-    FirstTurn {
+    TurnResult {
         output,
         waiting: requests.waiting,
     }
@@ -113,8 +126,11 @@ pub fn waiting_turn(
     input: Input,
     queues: &mut [u32],
 ) -> Output
-    ensures output { λ r. ⌜ r .0 ≡ pick (has-turn ports (input .0) (length (now (queues .entry)))) (lowest-common free waiting ports) 0 ⌝ }
+    ensures output { λ r. ⌜ r .0 ≡ waiting-output free waiting ports (input .0) (now (queues .entry)) ⌝ }
     ensures queues_exit { λ r. ⌜ now (queues .exit) ≡ charged ports (now (queues .entry)) (input .0) (r .0) ⌝ }
+    ensures takes { λ r. ⌜ (waiting ≡ ready-mask (now (queues .entry)) (now (queues .entry)) ((input .0 - 1) * ports) ports
+        → Turn ports (input .0) (now (queues .entry))
+        → r .0 ≡ lowest (is-open ports free (now (queues .entry)) (now (queues .entry)) (input .0)) ports) ⌝ }
 {
     if !has_turn(ports, input, queues.len()) {
         return Output(0);
@@ -134,8 +150,11 @@ pub fn second_turn(
     input: Input,
     queues: &mut [u32],
 ) -> Output
-    ensures output { λ r. ⌜ r .0 ≡ pick (has-turn ports (input .0) (length (now (queues .entry)))) (lowest-common free (requested (now (bits .entry)) (now (queues .entry)) (now (queues .entry)) ports (input .0)) ports) 0 ⌝ }
+    ensures output { λ r. ⌜ r .0 ≡ second-output (now (bits .entry)) free ports (input .0) (now (queues .entry)) ⌝ }
     ensures queues_exit { λ r. ⌜ now (queues .exit) ≡ charged ports (now (queues .entry)) (input .0) (r .0) ⌝ }
+    ensures takes { λ r. ⌜ (now (bits .entry) ≡ powers 0 32
+        → Turn ports (input .0) (now (queues .entry))
+        → r .0 ≡ lowest (is-open ports free (now (queues .entry)) (now (queues .entry)) (input .0)) ports) ⌝ }
 {
     if !has_turn(ports, input, queues.len()) {
         return Output(0);

@@ -1,1 +1,3 @@
+-- Laws that the functions' proofs cite, here and in the crates above.
 pub mod Laws
+pub mod PlaceLaws

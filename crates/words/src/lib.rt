@@ -1,4 +1,6 @@
-// Runs of lent words cleared and copied, where they are long enough.
+// Runs of lent words cleared and copied, where they are long enough; and where the words of a pair stand.
+pub mod places;
+
 ghost use mathlib.Core.Path.{_≡_};
 ghost use Prim.Native.Nat.{_≤_};
 ghost use lib.ListN.{length};

@@ -10,24 +10,30 @@ use native.Mathlib.Decide.{decLe}
 use lib.Dec.{T, leb}
 use Rattle.wsgs.specs.Basics.{pick, Port}
 use Rattle.wsgs.specs.Steps.{Matching, empty-matching, nine-steps}
-use Rattle.wsgs.specs.Switch.{Switch, Form, direct, pipelined, Call}
+use Rattle.wsgs.specs.Switch.{Switch, Form, direct, pipelined, Call, final}
 use Rattle.wsgs.specs.Ledger.{Ledger, ledger-of, answered, has-turns, tick-two}
 use Rattle.wsgs.specs.Seen.{Seen, seen, steps-answer, early-answer}
-use Rattle.wsgs.specs.Claims.{all-of-form, opens, Same, PipelinedBegins, NoOutputTwice, MatchingMaximal}
+use Rattle.wsgs.specs.Claims.{all-of-form, opens, Same, PipelinedBegins, NoOutputTwice, MatchingMaximal, PacketsConserved, QueuesSeen}
 use Rattle.wsgs.proofs.Steps.{once, maximal}
 use Rattle.wsgs.proofs.Share.{Fair}
 use Rattle.wsgs.proofs.Trace.{trace-of}
+use Rattle.wsgs.proofs.Packets
 use Rattle.wsgs.proofs.Direct.FollowsSteps as DirectForm
 use Rattle.wsgs.proofs.Pipelined.FollowsSteps as PipelinedForm
 
 -- what both forms show of every list of calls
 pub fair : (m : Form) (cs : List Call) (s : Switch) → T (all-of-form m cs) → T (opens cs s) → Fair (ledger-of cs s) (seen cs s)
-fair direct cs s o t = let w = trace-of direct cs s o t in DirectForm.fair (ledger-of cs s) (seen cs s) (w .0) (w .1)
-fair pipelined cs s o t = let w = trace-of pipelined cs s o t in PipelinedForm.fair (ledger-of cs s) (seen cs s) (w .0) (w .1)
+fair direct cs s o t = DirectForm.fair (ledger-of cs s) (seen cs s) (final cs s) (trace-of direct cs s o t)
+fair pipelined cs s o t = PipelinedForm.fair (ledger-of cs s) (seen cs s) (final cs s) (trace-of pipelined cs s o t)
+
+-- of the queues seen
+pub queued : QueuesSeen
+queued direct cs s o t = DirectForm.queued (ledger-of cs s) (seen cs s) (final cs s) (trace-of direct cs s o t)
+queued pipelined cs s o t = PipelinedForm.queued (ledger-of cs s) (seen cs s) (final cs s) (trace-of pipelined cs s o t)
 
 -- the first 2n slots of the pipelined form
 pub begins : PipelinedBegins
-begins cs s o t = let w = trace-of pipelined cs s o t in PipelinedForm.begins (ledger-of cs s) (seen cs s) (w .0) (w .1)
+begins cs s o t = PipelinedForm.begins (ledger-of cs s) (seen cs s) (final cs s) (trace-of pipelined cs s o t)
 
 -- a matching gives no output to two inputs
 abbrev Once : ℕ → Matching → Type 0
@@ -57,9 +63,7 @@ late-once m cs s o t k a b =
 -- so no answered slot gives an output to two inputs
 pub once-answered : NoOutputTwice
 unfolding has-turns
-once-answered direct cs s o t k i x a =
-    let w = trace-of direct cs s o t in
-    late-once direct cs s o t k a (rw (w .1 .form) tt) i x
+once-answered direct cs s o t k i x a = late-once direct cs s o t k a (rw (trace-of direct cs s o t .form) tt) i x
 once-answered pipelined cs s o t k i x a = go (decLe k (2 * l .ports)) i x
   where
     l : Ledger
@@ -68,8 +72,7 @@ once-answered pipelined cs s o t k i x a = go (decLe k (2 * l .ports)) i x
     go : Dec (k ≤ 2 * l .ports) → Once (l .ports) (l .answer k)
     go (yes b) = once-like (l .ports) (l .answer k) (early-answer l (seen cs s) k) (λ i. begins cs s o t k i a b) (early-once l (seen cs s) k)
     go (no b) =
-        let w = trace-of pipelined cs s o t in
-        late-once pipelined cs s o t k a (PipelinedForm.late-turns l (seen cs s) (w .0) (w .1) k (omega arith))
+        late-once pipelined cs s o t k a (PipelinedForm.late-turns l (seen cs s) (final cs s) (trace-of pipelined cs s o t) k (omega arith))
 
 -- and the matching of one with turns of both passes is maximal
 pub maximal-answered : MatchingMaximal
@@ -78,3 +81,7 @@ maximal-answered m cs s o t k i j a b pi pj e d =
     let l = ledger-of cs s in
     let same : (x : ℕ) → Port (l .ports) x → Same x (l .answer k) (steps-answer l (seen cs s) k) = λ x px. fair m cs s o t .follows k x a b px in
     maximal (l .ports) _ _ _ i j pi pj (sym (same i pi .output) ∙ e) (λ x px z. d x px (same x px .output ∙ z))
+
+-- and packets are conserved
+pub conserved : PacketsConserved
+conserved m cs s o t = Packets.conserved m (ledger-of cs s) (seen cs s) (final cs s) (trace-of m cs s o t)

@@ -1,4 +1,4 @@
--- Runs in which a fault shows: those of "What a hurried scheduler does" of document 01, and those of a careless tick or ledger. Each case is
+-- Runs in which a fault shows: those of a hurried scheduler, and those of a careless tick or ledger. Each case is
 -- right as it stands, and another answer would be the fault. Assumes nothing.
 use mathlib.Core.List.{List, [], _∷_, _++_}
 use Rattle.wsgs.specs.Switch.{direct, pipelined, Call, start, book, release, arrive, tick}

@@ -12,6 +12,7 @@ pub mod Answers
 pub mod Switch
 pub mod Ledger
 pub mod Seen
+pub mod Packets
 pub mod Claims
 pub mod Edges
 pub mod Examples

@@ -62,13 +62,12 @@ amount-few high d e = in-range 1 high d (rw e tt) .1
 pub rate-asked : (f line rate : ℕ) → f ≤ 10000 → rate-in-range line rate .yes ≡ true → RateInRange f line rate
 rate-asked f line rate h e =
     let p = both (between 1 100000000 line) (between 1 line rate) (rw e tt) in
-    let l = in-range 1 100000000 line (p .0) in
-    record { frame = h; some = l .0; fast = l .1; part = in-range 1 line rate (p .1) .1 }
+    record { frame = h; line-rate = in-range 1 100000000 line (p .0); booked-rate = in-range 1 line rate (p .1) .1 }
 
 module _ (f line rate : ℕ) (r : RateInRange f line rate) where
   -- what a rate asks for is at most what its line has
   pub rate-bound : rate * f ≤ line * f
-  rate-bound = mul-le-mul-right f (r .part)
+  rate-bound = mul-le-mul-right f (r .booked-rate)
 
   -- and that is a small number
   pub line-bound : line * f ≤ 1000000000000
@@ -79,4 +78,4 @@ module _ (f line rate : ℕ) (r : RateInRange f line rate) where
   unfolding rate-slots
   rate-few =
       let h : rate * f + (line - 1) < suc f * line = omega (arith, rate-bound, suc-mul f line, mul-comm f line) in
-      omega (arith, div-lt-iff-lt-mul {k = line} {x = rate * f + (line - 1)} {y = suc f} (r .some) .1 h)
+      omega (arith, div-lt-iff-lt-mul {k = line} {x = rate * f + (line - 1)} {y = suc f} (r .line-rate .0) .1 h)

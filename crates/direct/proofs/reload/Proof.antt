@@ -16,11 +16,11 @@ sub-if1 c = search needs
 rem-if1 : tie.Need-rem-if1
 rem-if1 c = search needs
 
-mul-copy-words : tie.Need-mul-copy-words
-mul-copy-words c = search needs
+mul-load-credits : tie.Need-mul-load-credits
+mul-load-credits c = search needs
 
-copy-words-requires : tie.Need-copy-words-requires
-copy-words-requires c κs = search needs
+load-credits-requires : tie.Need-load-credits-requires
+load-credits-requires c κs = search needs
 
 same-length : tie.Need-same-length
 same-length c = search needs
@@ -32,7 +32,7 @@ returns c =
     let t = k .before .before in
     let a = t .before .before .before .args in
     let first : (a .slot - 1) % a .frame ≡ 0 = t .if1 .taken in
-    k .copy-words .ensures ∙ copy-fits _ _ _ (omega arith) (omega arith) ∙ rw (eq-eqb _ _ first)
+    k .load-credits .ensures ∙ copy-fits _ _ _ (omega arith) (omega arith) ∙ rw (eq-eqb _ _ first)
 
 returns-2 : tie.Need-returns-2
 unfolding into-frame
@@ -43,4 +43,4 @@ returns-2 c =
 pub reload-spec : {M : Type 1} → statement M
 reload-spec =
     tie.close
-    (tie.spec sub-if1 rem-if1 mul-copy-words copy-words-requires same-length returns returns-2)
+    (tie.spec sub-if1 rem-if1 mul-load-credits load-credits-requires same-length returns returns-2)

@@ -3,7 +3,7 @@ use mathlib.Core.Path.{sym, _∙_}
 use native.Mathlib.Omega.{arith}
 use borrow.Author.Needs.{needs}
 use Rattle.wsgs.specs.Answers.{direct-runs-of}
-use Rattle.direct.proofs.Asked.{Accepted, accepted-found}
+use Rattle.direct.proofs.Asked.{TickConditions, accepted-found}
 use Rattle.direct.proofs.SlotLaws.{tick-refused, tick-ran}
 use Rattle.direct.proofs.tick.Statement.{statement}
 use Rattle.direct.proofs.tick.Tie as tie
@@ -12,7 +12,7 @@ use Rattle.direct.proofs.tick.Tie as tie
 abbrev begun : tie.Else1 → tie.Start
 begun c = c .before .before .before .before .before .before .before
 
-found : (c : tie.Else1) → let a = begun c .args in Accepted (a .clock) (direct-runs-of (a .bookings .now) (a .credits .now) (a .queues .now))
+found : (c : tie.Else1) → let a = begun c .args in TickConditions (a .clock) (direct-runs-of (a .bookings .now) (a .credits .now) (a .queues .now))
 found c = accepted-found _ _ (sym (c .before .direct-tick-refusal .ensures) ∙ omega arith)
 
 direct-tick-refusal-requires : tie.Need-direct-tick-refusal-requires

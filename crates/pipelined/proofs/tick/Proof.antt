@@ -3,13 +3,13 @@ use mathlib.Core.Path.{sym, _∙_}
 use native.Mathlib.Omega.{arith}
 use borrow.Author.Needs.{needs}
 use Rattle.wsgs.specs.Answers.{pipelined-runs-of}
-use Rattle.pipelined.proofs.PipelinedTick.{Accepted, accepted-found, tick-ran, tick-refused}
+use Rattle.pipelined.proofs.PipelinedTick.{TickConditions, accepted-found, tick-ran, tick-refused}
 use Rattle.pipelined.proofs.tick.Statement.{statement}
 use Rattle.pipelined.proofs.tick.Tie as tie
 
 -- what an accepted tick found
 found : (c : tie.Else1) → let a = c .before .before .before .before .before .before .before .before .before .before .before .args in
-    Accepted (a .clock) (pipelined-runs-of (a .bookings .now) (a .credits .now) (a .queues .now) (a .copy .now) (a .flight .now))
+    TickConditions (a .clock) (pipelined-runs-of (a .bookings .now) (a .credits .now) (a .queues .now) (a .copy .now) (a .flight .now))
 found c = accepted-found _ _ (sym (c .before .pipelined-tick-refusal .ensures) ∙ omega arith)
 
 pipelined-tick-refusal-requires : tie.Need-pipelined-tick-refusal-requires

@@ -1,26 +1,28 @@
 -- `turns::waiting_turn` meets its contract: where the input has a turn, the output that the search finds is a port. Assumes nothing.
 use mathlib.Core.Path.{sym, _∙_}
+use native.Mathlib.Omega.{arith}
 use borrow.Author.Needs.{needs}
 use Rattle.wsgs.proofs.Laws.Lowest.{lowest-some}
+use Rattle.turns.specs.Requests.{Turn}
 use Rattle.turns.proofs.Choice.{charged-some, charged-none}
-use Rattle.turns.proofs.TurnLaws.{Due, due, not-due, with-turn, without-turn}
-use lib.ListN.{length}
-use native.Mathlib.Omega.{arith}
+use Rattle.turns.proofs.TurnLaws.{due, is-due, not-due, with-turn, without-turn, waiting-takes}
 use Rattle.turns.proofs.waiting_turn.Statement.{statement}
 use Rattle.turns.proofs.waiting_turn.Tie as tie
 
--- the entry, and what is known where the input has a turn
+-- the entry, and the turn that the input has
 abbrev start : tie.After-has-turn → tie.Start
 start c = c .before .before
 
-allowed : (c : tie.Else1) → let s = start (c .before) in Due (s .args .ports) (s .args .input .0) (length (s .args .queues .now))
+allowed : (c : tie.Else1) → let a = start (c .before) .args in Turn (a .ports) (a .input .0) (a .queues .now)
 allowed c = due _ _ _ (c .before .has-turn .ensures) (c .if1 .left)
 
 has-turn-requires : tie.Need-has-turn-requires
 has-turn-requires c κs = search needs
 
 returns : tie.Need-returns
-returns c = (without-turn _ (not-due _ _ _ (c .before .has-turn .ensures) (c .if1 .taken)), sym (charged-none _ _ _ _ (omega arith)))
+returns c =
+    let e = without-turn _ (not-due _ _ _ (c .before .has-turn .ensures) (c .if1 .taken)) in
+    (e, (sym (charged-none _ _ _ _ (omega arith)), λ known t. waiting-takes _ _ _ _ known t _ _ e))
 
 lowest-open-requires : tie.Need-lowest-open-requires
 lowest-open-requires c κs = allowed c .few
@@ -40,12 +42,14 @@ returns-2 c =
     let p = c .before .before in
     let t = p .before .before in
     let o = t .before .before in
-    (with-turn (allowed (o .before) .yes) (o .lowest-open .ensures), p .take-packet .ensures ∙ sym (charged-some _ _ _ _ (t .if2 .taken)))
+    let e = with-turn (is-due _ _ _ (allowed (o .before))) (o .lowest-open .ensures) in
+    (e, (p .take-packet .ensures ∙ sym (charged-some _ _ _ _ (t .if2 .taken)), λ known t. waiting-takes _ _ _ _ known t _ _ e))
 
 returns-3 : tie.Need-returns-3
 returns-3 c =
     let o = c .before .before in
-    (with-turn (allowed (o .before) .yes) (o .lowest-open .ensures), sym (charged-none _ _ _ _ (c .if2 .left)))
+    let e = with-turn (is-due _ _ _ (allowed (o .before))) (o .lowest-open .ensures) in
+    (e, (sym (charged-none _ _ _ _ (c .if2 .left)), λ known t. waiting-takes _ _ _ _ known t _ _ e))
 
 pub waiting-turn-spec : {M : Type 1} → statement M
 waiting-turn-spec =

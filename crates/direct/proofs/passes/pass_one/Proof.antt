@@ -1,4 +1,4 @@
--- `passes::pass_one` meets its contract. The loop's invariant is `One`: the outputs that the inputs hold are the definition's for the inputs so
+-- `passes::pass_one` meets its contract. The loop's invariant is `PassOneState`: the outputs that the inputs hold are the definition's for the inputs so
 -- far, and mask, list, words and mark are as these say; besides, the outputs for which those inputs had packets are known, and the table has the
 -- bits of a word. The measure is the inputs left. Assumes nothing.
 use Prim.Native.Nat.{_+_, _-_, _≤_}
@@ -7,16 +7,15 @@ use native.Mathlib.Numerals.{add-one}
 use native.Mathlib.Omega.{arith}
 use borrow.Author.Needs.{needs}
 use lib.ListN.{length, set}
-use Rattle.wsgs.specs.Basics.{lowest}
+use Rattle.wsgs.specs.Basics.{Port, lowest}
 use Rattle.wsgs.specs.Words.{word}
 use Rattle.wsgs.specs.Steps.{pass-one}
+use Rattle.wsgs.proofs.Laws.Lowest.{lowest-some}
 use Rattle.turns.specs.Masks.{powers, is-open}
-use Rattle.direct.specs.Passes.{Waiting}
+use Rattle.direct.specs.Passes.{WaitingWords}
 use Rattle.turns.proofs.BitLaws.{one-shl}
 use Rattle.turns.proofs.MaskLaws.{free-first}
-use Rattle.turns.proofs.Choice.{Chosen, chosen}
-use Rattle.turns.proofs.TurnLaws.{first-output, first-waiting}
-use Rattle.direct.proofs.PassLaws.{One, one-start, one-waiting, waiting-next, one-none, one-some}
+use Rattle.direct.proofs.PassLaws.{PassOneState, one-start, one-waiting, waiting-next, one-none, one-some}
 use Rattle.direct.proofs.passes.pass_one.Statement.{statement}
 use Rattle.direct.proofs.passes.pass_one.Tie as tie
 
@@ -25,8 +24,8 @@ Inv-loop ports credits₀ queues₀ free₀ outputs₀ first-pass₀ waiting₀ 
     (row ≤ ports)
     × (length credits ≡ length credits₀)
     × (length queues ≡ length queues₀)
-    × One ports credits₀ queues₀ (pass-one ports (word ports credits₀) (word ports queues₀) row) free first-pass outputs credits queues
-    × ((length waiting ≡ 32) × Waiting ports row queues₀ waiting)
+    × PassOneState ports credits₀ queues₀ (pass-one ports (word ports credits₀) (word ports queues₀) row) free first-pass outputs credits queues
+    × ((length waiting ≡ 32) × WaitingWords ports row queues₀ waiting)
     × (bits ≡ powers 0 32)
 
 abbrev μ-loop : tie.MeasureT-loop
@@ -46,24 +45,20 @@ start c = c .before .before .before .before
 -- the output that a turn finds
 found : (t : tie.After-first-turn Inv-loop μ-loop) → let l = head t in let n = start l .args .ports in
     t .first-turn .result .output .0 ≡ lowest (is-open n (l .loop .free) (l .loop .credits) (l .loop .queues) (l .loop .row + 1)) n
-found t =
-    let l = head t in
-    first-output _ (omega arith) _ (omega arith) _ (l .loop .inv .5) _ _ (omega arith) (omega arith) _ _ (t .first-turn .ensures .0)
+found t = t .first-turn .ensures .1 .1 .1 .1 .0 (head t .loop .inv .5) (search needs) (search needs)
 
--- the output that is taken
-taken : (c : tie.Else1 Inv-loop μ-loop) → let t = turn (c .before) in let l = head t in
-    Chosen (start l .args .ports) (l .loop .free) (l .loop .credits) (l .loop .queues) (l .loop .row + 1) (t .first-turn .result .output .0)
-taken c = chosen _ _ _ _ _ _ (found (turn (c .before))) (omega (arith, c .if1 .left))
+-- the output that is taken is a port
+taken : (c : tie.Else1 Inv-loop μ-loop) → let t = turn (c .before) in Port (start (head t) .args .ports) (t .first-turn .result .output .0)
+taken c = lowest-some _ _ _ (found (turn (c .before))) (omega (arith, c .if1 .left)) .0
 
 -- the outputs for which the input had packets
 known : (t : tie.After-first-turn Inv-loop μ-loop) → let l = head t in let waiting = set (l .loop .waiting) (l .loop .row) (t .first-turn .result .waiting) in
-    (length waiting ≡ 32) × Waiting (start l .args .ports) (l .loop .row + 1) (start l .args .queues .now) waiting
+    (length waiting ≡ 32) × WaitingWords (start l .args .ports) (l .loop .row + 1) (start l .args .queues .now) waiting
 known t =
     let l = head t in
     waiting-next _ _ (l .loop .waiting) (l .loop .row) _ (omega arith) (l .loop .inv .4)
     (one-waiting _ (omega arith) _ _ _ _ _ _ _ (omega arith) (l .loop .row) _ (add-one _) (omega arith) (l .loop .inv .3) _
-    (first-waiting _ (omega arith) (l .loop .row + 1) (omega arith) _ (l .loop .inv .5) (l .loop .credits) _ (omega arith) (omega arith) _
-    (t .first-turn .ensures .1 .1 .1)))
+    (t .first-turn .ensures .1 .1 .1 .1 .1 (l .loop .inv .5) (search needs) (search needs)))
 
 all-free-requires : tie.Need-all-free-requires Inv-loop μ-loop
 all-free-requires c κs = search needs
@@ -98,16 +93,16 @@ loop-again c =
       t .first-turn .kept .1 .1 .1 .1 .0 ∙ l .loop .inv .1,
       t .first-turn .kept .1 .1 .1 .1 .1 .0 ∙ l .loop .inv .2,
       one-none _ (omega arith) _ _ _ _ _ _ _ (omega arith) (omega arith) (l .loop .row) _ (add-one _) (omega arith) (l .loop .inv .3) _
-          (found t) (c .if1 .taken) _ _ (t .first-turn .ensures .1 .0) (t .first-turn .ensures .1 .1 .0),
+          (found t) (c .if1 .taken) _ _ (t .first-turn .ensures .1 .1 .0) (t .first-turn .ensures .1 .1 .1 .0),
       known t,
       l .loop .inv .5,
     )
 
-without-requires : tie.Need-without-requires Inv-loop μ-loop
-without-requires c κs = let o = taken c in (omega (arith, o .port), o .free)
+take-requires : tie.Need-take-requires Inv-loop μ-loop
+take-requires c κs = search needs
 
 cast-outputs : tie.Need-cast-outputs Inv-loop μ-loop
-cast-outputs c = omega (arith, taken (c .before .before) .port)
+cast-outputs c = omega (arith, taken (c .before .before))
 
 array-write-outputs : tie.Need-array-write-outputs Inv-loop μ-loop
 array-write-outputs c = search needs
@@ -133,8 +128,8 @@ loop-again-2 c =
       t .first-turn .kept .1 .1 .1 .1 .0 ∙ l .loop .inv .1,
       t .first-turn .kept .1 .1 .1 .1 .1 .0 ∙ l .loop .inv .2,
       one-some _ (omega arith) _ _ _ _ _ _ _ (omega arith) (omega arith) (l .loop .row) _ (add-one _) (omega arith) (l .loop .inv .3) _
-          (found t) (taken (w .before) .port .low) _ (w .without .ensures) _ (one-shl 32 (l .loop .row) (omega arith)) _ _
-          (t .first-turn .ensures .1 .0) (t .first-turn .ensures .1 .1 .0),
+          (found t) (taken (w .before) .low) _ (w .take .ensures) _ (one-shl 32 (l .loop .row) (omega arith)) _ _
+          (t .first-turn .ensures .1 .1 .0) (t .first-turn .ensures .1 .1 .1 .0),
       known t,
       l .loop .inv .5,
     )
@@ -167,7 +162,7 @@ pass-one-spec =
     add-row
     loop-less
     loop-again
-    without-requires
+    take-requires
     cast-outputs
     array-write-outputs
     cast-first-pass

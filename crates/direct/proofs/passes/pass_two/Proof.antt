@@ -9,14 +9,13 @@ use native.Mathlib.Omega.{arith}
 use borrow.Author.Needs.{needs}
 use lib.Dec.{ltb}
 use lib.ListN.{length}
-use Rattle.wsgs.specs.Basics.{lowest}
+use Rattle.wsgs.specs.Basics.{Port, lowest}
 use Rattle.wsgs.specs.Words.{word}
 use Rattle.wsgs.specs.Steps.{pass-two, marked}
+use Rattle.wsgs.proofs.Laws.Lowest.{lowest-some}
 use Rattle.wsgs.proofs.Laws.Marked.{marked-yes, marked-no}
-use Rattle.direct.specs.Passes.{Held}
+use Rattle.direct.specs.Passes.{PassState}
 use Rattle.turns.specs.Masks.{is-open}
-use Rattle.turns.proofs.Choice.{Chosen, chosen}
-use Rattle.turns.proofs.TurnLaws.{waiting-output}
 use Rattle.direct.proofs.PassLaws.{two-served, two-waiting, two-none, two-some}
 use Rattle.direct.proofs.passes.pass_two.Statement.{statement}
 use Rattle.direct.proofs.passes.pass_two.Tie as tie
@@ -25,8 +24,8 @@ abbrev Inv-loop : tie.InvT-loop
 Inv-loop ports queues₀ free₀ outputs₀ first-pass waiting row₀ queues free outputs row =
     (row ≤ ports)
     × (length queues ≡ length queues₀)
-    × ((start : List ℕ) (one : ℕ → ℕ) → Held ports start one free₀ outputs₀ queues₀ → first-pass ≡ marked 32 (λ i. ltb 0 (one i))
-    → Held ports start (pass-two ports (word ports start) one row) free outputs queues)
+    × ((start : List ℕ) (one : ℕ → ℕ) → PassState ports start one free₀ outputs₀ queues₀ → first-pass ≡ marked 32 (λ i. ltb 0 (one i))
+    → PassState ports start (pass-two ports (word ports start) one row) free outputs queues)
 
 abbrev μ-loop : tie.MeasureT-loop
 μ-loop ports queues₀ free₀ outputs₀ first-pass waiting row₀ queues free outputs row = ports - row
@@ -53,15 +52,14 @@ found t =
     let l = head t in
     let p = start l .pre .1 .1 in
     let now = l .loop .inv .2 (p .start) (p .one) (p .held) (p .mark) in
-    waiting-output _ (omega arith) _ (omega arith) _ (omega arith) _
+    t .waiting-turn .ensures .1 .1
     (two-waiting _ (omega arith) (p .start) (p .one) _ _ _ (l .loop .row) _ (add-one _) now (omega arith) (omega arith)
     (idle (t .before .before) (p .one) (p .mark)) _ (p .known (l .loop .row) (omega arith)))
-    _ _ (t .waiting-turn .ensures .0)
+    (search needs)
 
--- the output that is taken
-taken : (c : tie.Else2 Inv-loop μ-loop) → let t = turn (c .before) in let l = head t in
-    Chosen (start l .args .ports) (l .loop .free) (l .loop .queues) (l .loop .queues) (l .loop .row + 1) (t .waiting-turn .result .0)
-taken c = chosen _ _ _ _ _ _ (found (turn (c .before))) (omega (arith, c .if2 .left))
+-- the output that is taken is a port
+taken : (c : tie.Else2 Inv-loop μ-loop) → let t = turn (c .before) in Port (start (head t) .args .ports) (t .waiting-turn .result .0)
+taken c = lowest-some _ _ _ (found (turn (c .before))) (omega (arith, c .if2 .left)) .0
 
 loop-holds : tie.Need-loop-holds Inv-loop μ-loop
 unfolding pass-two
@@ -115,14 +113,14 @@ loop-again-2 c =
       t .waiting-turn .kept .1 .1 .1 .1 .0 ∙ l .loop .inv .1,
       λ st one h m.
           two-none _ (omega arith) st one _ _ _ (l .loop .row) _ (add-one _) (l .loop .inv .2 st one h m) (omega arith) (omega arith)
-          (idle (t .before .before) one m) _ (found t) (c .if2 .taken) _ (t .waiting-turn .ensures .1),
+          (idle (t .before .before) one m) _ (found t) (c .if2 .taken) _ (t .waiting-turn .ensures .1 .0),
     )
 
-without-requires : tie.Need-without-requires Inv-loop μ-loop
-without-requires c κs = let o = taken c in (omega (arith, o .port), o .free)
+take-requires : tie.Need-take-requires Inv-loop μ-loop
+take-requires c κs = search needs
 
 cast-outputs : tie.Need-cast-outputs Inv-loop μ-loop
-cast-outputs c = omega (arith, taken (c .before .before) .port)
+cast-outputs c = omega (arith, taken (c .before .before))
 
 array-write-outputs : tie.Need-array-write-outputs Inv-loop μ-loop
 array-write-outputs c = search needs
@@ -142,7 +140,7 @@ loop-again-3 c =
       t .waiting-turn .kept .1 .1 .1 .1 .0 ∙ l .loop .inv .1,
       λ st one h m.
           two-some _ (omega arith) st one _ _ _ (l .loop .row) _ (add-one _) (l .loop .inv .2 st one h m) (omega arith) (omega arith)
-          (idle (t .before .before) one m) _ (found t) (taken (w .before) .port .low) _ (w .without .ensures) _ (t .waiting-turn .ensures .1),
+          (idle (t .before .before) one m) _ (found t) (taken (w .before) .low) _ (w .take .ensures) _ (t .waiting-turn .ensures .1 .0),
     )
 
 same-length : tie.Need-same-length Inv-loop μ-loop
@@ -173,7 +171,7 @@ pass-two-spec =
     add-row-2
     loop-less-2
     loop-again-2
-    without-requires
+    take-requires
     cast-outputs
     array-write-outputs
     add-row-3

@@ -1,36 +1,47 @@
--- `flight::free_for` meets its contract. The loop's invariant: the outputs that the inputs so far have by the row are gathered in `taken`.
--- Assumes nothing.
+-- `flight::free_for` meets its contract. The loop's invariant: the outputs that the inputs so far have by the row are taken. The measure is the
+-- words left. Assumes nothing.
 use Prim.Native.Nat.{_≤_, _-_}
 use native.Mathlib.Omega.{arith}
 use borrow.Author.Needs.{needs}
-use Rattle.turns.proofs.MaskLaws.{free-first}
-use Rattle.pipelined.proofs.FlightMasks.{Gathered, gathered-none, gathered-more, gathered-free}
+use Rattle.pipelined.proofs.FlightMasks.{FreeIn, free-start, free-more, free-all}
 use Rattle.pipelined.proofs.flight.free_for.Statement.{statement}
 use Rattle.pipelined.proofs.flight.free_for.Tie as tie
 
 abbrev Inv-loop : tie.InvT-loop
-Inv-loop ports row flight highest taken₀ column₀ taken column = (column ≤ ports) × Gathered ports flight row column taken
+Inv-loop ports row flight highest free₀ column₀ free column = (column ≤ ports) × FreeIn ports flight row column free
 
 abbrev μ-loop : tie.MeasureT-loop
-μ-loop ports row flight highest taken₀ column₀ taken column = ports - column
+μ-loop ports row flight highest free₀ column₀ free column = ports - column
 
 cast-highest : tie.Need-cast-highest Inv-loop μ-loop
 cast-highest c = search needs
 
+all-free-requires : tie.Need-all-free-requires Inv-loop μ-loop
+all-free-requires c κs = search needs
+
 loop-holds : tie.Need-loop-holds Inv-loop μ-loop
-loop-holds c = (search needs, gathered-none _ _ _)
+loop-holds c = (search needs, free-start _ (omega arith) _ _ _ (c .all-free .ensures))
 
-add-set-in : tie.Need-add-set-in Inv-loop μ-loop
-add-set-in c = search needs
+add-column-in : tie.Need-add-column-in Inv-loop μ-loop
+add-column-in c = search needs
 
-mul-set-in : tie.Need-mul-set-in Inv-loop μ-loop
-mul-set-in c = search needs
+mul-column-in : tie.Need-mul-column-in Inv-loop μ-loop
+mul-column-in c = search needs
 
-shared-slice-read-set-in : tie.Need-shared-slice-read-set-in Inv-loop μ-loop
-shared-slice-read-set-in c = search needs
+shared-slice-read-column-in : tie.Need-shared-slice-read-column-in Inv-loop μ-loop
+shared-slice-read-column-in c = search needs
 
-set-in-requires : tie.Need-set-in-requires Inv-loop μ-loop
-set-in-requires c κs = search needs
+column-in-requires : tie.Need-column-in-requires Inv-loop μ-loop
+column-in-requires c κs = search needs
+
+cast-t13 : tie.Need-cast-t13 Inv-loop μ-loop
+cast-t13 c = search needs
+
+add-t14 : tie.Need-add-t14 Inv-loop μ-loop
+add-t14 c = search needs
+
+take-requires : tie.Need-take-requires Inv-loop μ-loop
+take-requires c κs = search needs
 
 add-column : tie.Need-add-column Inv-loop μ-loop
 add-column c = search needs
@@ -40,14 +51,12 @@ loop-less c = search needs
 
 loop-again : tie.Need-loop-again Inv-loop μ-loop
 loop-again c =
-    (omega arith, gathered-more _ _ _ _ _ _ (c .set-in .ensures) (c .before .before .before .loop .inv .1))
-
-all-free-requires : tie.Need-all-free-requires Inv-loop μ-loop
-all-free-requires c κs = search needs
+    let v = c .before in
+    let l = v .before .before .before in
+    (omega arith, free-more _ (omega arith) _ _ _ _ _ _ (v .column-in .ensures .0) (v .column-in .ensures .1) (c .take .ensures) (l .loop .inv .1))
 
 returns : tie.Need-returns Inv-loop μ-loop
-returns c = λ s e j p.
-    gathered-free _ _ _ _ _ _ (c .before .before .loop .inv .1) (omega arith) s e j (p .low) (free-first _ _ (omega arith) (c .all-free .ensures) j p)
+returns c = λ s e j p. free-all _ (omega arith) _ _ _ _ (c .before .loop .inv .1) (omega arith) s e j p
 
 pub free-for-spec : {M : Type 1} → statement M
 free-for-spec =
@@ -56,13 +65,16 @@ free-for-spec =
     Inv-loop
     μ-loop
     cast-highest
+    all-free-requires
     loop-holds
-    add-set-in
-    mul-set-in
-    shared-slice-read-set-in
-    set-in-requires
+    add-column-in
+    mul-column-in
+    shared-slice-read-column-in
+    column-in-requires
+    cast-t13
+    add-t14
+    take-requires
     add-column
     loop-less
     loop-again
-    all-free-requires
     returns)

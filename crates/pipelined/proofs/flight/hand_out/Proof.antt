@@ -5,12 +5,12 @@ use mathlib.Core.Path.{sym, _∙_}
 use mathlib.Core.Logic.{⊎-elim}
 use native.Mathlib.Omega.{arith}
 use borrow.Author.Needs.{needs}
-use Rattle.pipelined.proofs.FlightPairs.{Handed, handed-none, handed-first, handed-other, handed-all}
+use Rattle.pipelined.proofs.FlightPairs.{PairsSoFar, handed-none, handed-first, handed-other, handed-all}
 use Rattle.pipelined.proofs.flight.hand_out.Statement.{statement}
 use Rattle.pipelined.proofs.flight.hand_out.Tie as tie
 
 abbrev Inv-loop : tie.InvT-loop
-Inv-loop clock flight highest ports row outputs₀ first-pass₀ column₀ outputs first-pass column = (column ≤ ports) × Handed ports (clock .slot + 1) flight column outputs first-pass
+Inv-loop clock flight highest ports row outputs₀ first-pass₀ column₀ outputs first-pass column = (column ≤ ports) × PairsSoFar ports (clock .slot + 1) flight column outputs first-pass
 
 abbrev μ-loop : tie.MeasureT-loop
 μ-loop clock flight highest ports row outputs₀ first-pass₀ column₀ outputs first-pass column = ports - column

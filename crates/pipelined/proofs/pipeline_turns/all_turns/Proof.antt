@@ -7,7 +7,7 @@ use borrow.Author.Needs.{needs}
 use lib.ListN.{length}
 use Rattle.wsgs.specs.Pipelined.{turns}
 use Rattle.turns.specs.Masks.{powers}
-use Rattle.pipelined.specs.Turnings.{turn-runs-of, Foreseen}
+use Rattle.pipelined.specs.Turnings.{turn-runs-of, Lookahead}
 use Rattle.pipelined.proofs.PipelinedTurns.{turns-more}
 use Rattle.pipelined.proofs.pipeline_turns.all_turns.Statement.{statement}
 use Rattle.pipelined.proofs.pipeline_turns.all_turns.Tie as tie
@@ -18,7 +18,7 @@ Inv-loop ports time ahead copy credits₀ queues₀ flight₀ bits done₀ credi
     × (length credits ≡ length credits₀)
     × (length queues ≡ length queues₀)
     × (length flight ≡ length flight₀)
-    × ((frame : ℕ) → Foreseen ports frame time (ahead .one) (ahead .two) (ahead .into)
+    × ((frame : ℕ) → Lookahead ports frame time (ahead .one) (ahead .two) (ahead .into)
     → turn-runs-of credits queues flight ≡ turns ports frame copy time (turn-runs-of credits₀ queues₀ flight₀) done)
     × (bits ≡ powers 0 32)
 

@@ -4,9 +4,8 @@ use Prim.Native.Nat.{_≤_}
 use native.Mathlib.Omega.{arith}
 use borrow.Author.Needs.{needs}
 use Rattle.wsgs.specs.Basics.{lowest}
+use Rattle.wsgs.proofs.Laws.Lowest.{lowest-some}
 use Rattle.turns.specs.Masks.{is-open}
-use Rattle.turns.proofs.Choice.{chosen}
-use Rattle.turns.proofs.TurnLaws.{first-output}
 use Rattle.pipelined.proofs.PipelinedTurns.{turn-one-held, turn-one-some, turn-one-none}
 use Rattle.pipelined.proofs.pipeline_turns.turn_one.Statement.{statement}
 use Rattle.pipelined.proofs.pipeline_turns.turn_one.Tie as tie
@@ -56,13 +55,13 @@ found : (t : tie.After-first-turn) → let a = start (read (freed t)) .args in
     ≡ lowest (is-open (a .ports) (freed t .free-for .result) (a .credits .now) (a .queues .now) (a .input .0)) (a .ports)
 found t =
     let p = start (read (freed t)) .pre in
-    first-output _ (p .0) _ (p .1 .0) _ (p .1 .1 .1 .1 .1) _ _ (p .1 .1 .0) (p .1 .1 .1 .0) _ _ (t .first-turn .ensures .0)
+    t .first-turn .ensures .1 .1 .1 .1 .0 (p .1 .1 .1 .1 .1) (search needs) (search needs)
 
 -- the output that is taken is a port
 small : (c : tie.Then2) → turned (c .before) .first-turn .result .output .0 ≤ 32
 small c =
     let t = turned (c .before) in
-    let p = chosen _ _ _ _ _ _ (found t) (c .if2 .taken) .port in
+    let p = lowest-some _ _ _ (found t) (c .if2 .taken) .0 in
     omega (arith, start (read (freed t)) .pre .0)
 
 cast-flight : tie.Need-cast-flight
@@ -93,7 +92,7 @@ returns-2 c = λ s e.
     let f = freed t in
     let o = read f in
     turn-one-some _ s _ _ _ _ _ _ e (o .output-of .ensures .0) (f .before .before .if1 .left) _ _ (f .free-for .ensures s e)
-    (found t) _ _ (t .first-turn .ensures .1 .0) (t .first-turn .ensures .1 .1 .0) (c .before .if2 .taken)
+    (found t) _ _ (t .first-turn .ensures .1 .1 .0) (t .first-turn .ensures .1 .1 .1 .0) (c .before .if2 .taken)
 
 same-length-4 : tie.Need-same-length-4
 same-length-4 c = search needs
@@ -110,7 +109,7 @@ returns-3 c = λ s e.
     let f = freed t in
     let o = read f in
     turn-one-none _ s _ _ _ _ _ _ e (o .output-of .ensures .0) (f .before .before .if1 .left) _ _ (f .free-for .ensures s e)
-    (found t) _ _ (t .first-turn .ensures .1 .0) (t .first-turn .ensures .1 .1 .0) (c .if2 .left)
+    (found t) _ _ (t .first-turn .ensures .1 .1 .0) (t .first-turn .ensures .1 .1 .1 .0) (c .if2 .left)
 
 pub turn-one-spec : {M : Type 1} → statement M
 turn-one-spec =

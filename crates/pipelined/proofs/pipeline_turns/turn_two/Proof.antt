@@ -4,9 +4,8 @@ use Prim.Native.Nat.{_≤_}
 use native.Mathlib.Omega.{arith}
 use borrow.Author.Needs.{needs}
 use Rattle.wsgs.specs.Basics.{lowest}
+use Rattle.wsgs.proofs.Laws.Lowest.{lowest-some}
 use Rattle.turns.specs.Masks.{is-open}
-use Rattle.turns.proofs.Choice.{chosen}
-use Rattle.turns.proofs.TurnLaws.{second-output}
 use Rattle.pipelined.proofs.PipelinedTurns.{turn-two-held, turn-two-some, turn-two-none}
 use Rattle.pipelined.proofs.pipeline_turns.turn_two.Statement.{statement}
 use Rattle.pipelined.proofs.pipeline_turns.turn_two.Tie as tie
@@ -30,7 +29,7 @@ found : (t : tie.After-second-turn) → let a = start (read (freed t)) .args in
     ≡ lowest (is-open (a .ports) (freed t .free-for .result) (a .queues .now) (a .queues .now) (a .input .0)) (a .ports)
 found t =
     let p = start (read (freed t)) .pre in
-    second-output _ (p .0) _ (p .1 .0) _ (p .1 .1 .1 .1) _ (p .1 .1 .0) _ _ (t .second-turn .ensures .0)
+    t .second-turn .ensures .1 .1 (p .1 .1 .1 .1) (search needs)
 
 sub-at : tie.Need-sub-at
 sub-at c = search needs
@@ -62,7 +61,7 @@ second-turn-requires c κs = search needs
 small : (c : tie.Then2) → turned (c .before) .second-turn .result .0 ≤ 32
 small c =
     let t = turned (c .before) in
-    let p = chosen _ _ _ _ _ _ (found t) (c .if2 .taken) .port in
+    let p = lowest-some _ _ _ (found t) (c .if2 .taken) .0 in
     omega (arith, start (read (freed t)) .pre .0)
 
 cast-flight : tie.Need-cast-flight
@@ -86,7 +85,7 @@ returns-2 c = λ s e cr.
     let f = freed t in
     let o = read f in
     turn-two-some _ s _ cr _ _ _ _ e (o .output-of .ensures .0) (f .before .before .if1 .left) _ _ (f .free-for .ensures s e)
-    (found t) _ (t .second-turn .ensures .1) (c .before .if2 .taken)
+    (found t) _ (t .second-turn .ensures .1 .0) (c .before .if2 .taken)
 
 same-length-3 : tie.Need-same-length-3
 same-length-3 c = search needs
@@ -100,7 +99,7 @@ returns-3 c = λ s e cr.
     let f = freed t in
     let o = read f in
     turn-two-none _ s _ cr _ _ _ _ e (o .output-of .ensures .0) (f .before .before .if1 .left) _ _ (f .free-for .ensures s e)
-    (found t) _ (t .second-turn .ensures .1) (c .if2 .left)
+    (found t) _ (t .second-turn .ensures .1 .0) (c .if2 .left)
 
 pub turn-two-spec : {M : Type 1} → statement M
 turn-two-spec =

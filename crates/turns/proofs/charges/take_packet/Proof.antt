@@ -3,15 +3,14 @@ use Prim.Native.Nat.{_*_, _<_}
 use native.Mathlib.Omega.{arith}
 use borrow.Author.Needs.{needs}
 use lib.ListN.{getD}
-use Rattle.turns.proofs.Places.{taken-fits, at-inside, at-less}
+use Rattle.words.proofs.PlaceLaws.{at-place, at-inside}
+use Rattle.turns.proofs.Falls.{taken-fits, falls, at-less}
 use Rattle.turns.proofs.charges.take_packet.Statement.{statement}
 use Rattle.turns.proofs.charges.take_packet.Tie as tie
 
 -- the place is inside the matrix
 inside : (c : tie.After-place-of) → let s = c .before .before in c .place-of .result < s .args .ports * s .args .ports
-inside c =
-    let s = c .before .before in
-    at-inside (s .args .ports) (s .args .queues .now) _ _ _ (c .place-of .ensures) (s .pre .1 .0) (s .pre .1 .1 .0)
+inside c = let p = c .before .before .pre in at-inside _ _ _ _ (c .place-of .ensures) (p .0) (p .1 .0) (p .1 .1 .0)
 
 place-of-requires : tie.Need-place-of-requires
 place-of-requires c κs = search needs
@@ -38,7 +37,10 @@ same-length : tie.Need-same-length
 same-length c = search needs
 
 returns : tie.Need-returns
-returns c = at-less _ _ _ _ _ (c .before .place-of .ensures)
+returns c =
+    let o = c .before in
+    let p = o .before .before .pre in
+    at-less _ _ _ _ (at-place _ _ _ _ (o .place-of .ensures) (p .0) (p .1 .0) (p .1 .1 .0)) _ _ (falls _)
 
 pub take-packet-spec : {M : Type 1} → statement M
 take-packet-spec =

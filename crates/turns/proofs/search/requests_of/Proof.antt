@@ -8,6 +8,7 @@ use borrow.Author.Needs.{needs}
 use native.Mathlib.Omega.{arith}
 use lib.Dec.{ltb}
 use lib.ListN.{getD}
+use Rattle.wsgs.specs.Basics.{pick}
 use Rattle.turns.specs.Requests.{both-above, gathered}
 use Rattle.turns.proofs.Ready.{gathered-start, gathered-next, column-one, column-two}
 use Rattle.turns.proofs.search.requests_of.Statement.{statement}
@@ -50,17 +51,14 @@ element-copy-out-word-if c = search needs
 word-if-requires : tie.Need-word-if-requires Inv-loop μ-loop
 word-if-requires c κs = search needs
 
-add-word-if-2 : tie.Need-add-word-if-2 Inv-loop μ-loop
-add-word-if-2 c = search needs
+add-credits-at : tie.Need-add-credits-at Inv-loop μ-loop
+add-credits-at c = search needs
+
+credits-at-requires : tie.Need-credits-at-requires Inv-loop μ-loop
+credits-at-requires c κs = search needs
 
 mul-word-if-3 : tie.Need-mul-word-if-3 Inv-loop μ-loop
 mul-word-if-3 c = search needs
-
-shared-slice-read-word-if-2 : tie.Need-shared-slice-read-word-if-2 Inv-loop μ-loop
-shared-slice-read-word-if-2 c = search needs
-
-mul-word-if-4 : tie.Need-mul-word-if-4 Inv-loop μ-loop
-mul-word-if-4 c = search needs
 
 element-copy-out-word-if-2 : tie.Need-element-copy-out-word-if-2 Inv-loop μ-loop
 element-copy-out-word-if-2 c = search needs
@@ -76,12 +74,15 @@ loop-less c = search needs
 
 loop-again : tie.Need-loop-again Inv-loop μ-loop
 loop-again c =
-    let w = c .before .before .before in
+    let k = c .before .before .before in
+    let w = k .before in
     let l = w .before .before .before .before in
-    let credit = above l (start l .args .credits .now) in
-    let packet = above l (start l .args .queues .now) in (
+    let a = start l .args in
+    let credit = above l (a .credits .now) in
+    let packet = above l (a .queues .now) in
+    let paid = c .word-if2 .ensures ∙ ap (λ left. pick (ltb 0 left) (getD (a .bits .now) (l .loop .column) 0) 0) (k .credits-at .ensures) in (
       omega arith,
-      gathered-next _ _ (l .loop .column) _ _ (l .loop .inv .1) (column-two _ credit packet _ _ (w .word-if .ensures) (c .word-if2 .ensures)),
+      gathered-next _ _ (l .loop .column) _ _ (l .loop .inv .1) (column-two _ credit packet _ _ (w .word-if .ensures) paid),
       gathered-next _ _ (l .loop .column) _ _ (l .loop .inv .2) (column-one _ packet _ (w .word-if .ensures)),
     )
 
@@ -104,10 +105,9 @@ requests-of-spec =
     mul-word-if-2
     element-copy-out-word-if
     word-if-requires
-    add-word-if-2
+    add-credits-at
+    credits-at-requires
     mul-word-if-3
-    shared-slice-read-word-if-2
-    mul-word-if-4
     element-copy-out-word-if-2
     word-if-requires-2
     add-column

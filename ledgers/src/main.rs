@@ -1,0 +1,264 @@
+//! ledgers LEVEL SEED: writes a random list of calls on one switch, and what the second program's ledger says of it at that level.
+//!
+//! The list opens with an accepted start; its starts and ticks are direct for an even seed, pipelined for an odd one. The lines are:
+//!
+//! - `clock N F SLOT` and `run NAME WORD ..`: the switch that the list finds, of any words, in runs for three ports;
+//! - `call REFUSAL CALL`: the calls in turn, written as crates/wsgs/specs/Switch.antt has them;
+//! - `claim I J FIRST A M B SERVED`: every pair in every frame since the last accepted start.
+
+use second::ledger::Ledger;
+use second::switch::{used, EVERY_RUN, MAX_FRAME, MAX_LINE_RATE, MAX_PACKETS, MAX_PORTS, MAX_QUEUE};
+use second::{Answer, Clock, Form, Rules, Run, Switch, Words};
+use std::fmt;
+
+/// Small, since a checker has to compute with them.
+const MOST_PORTS: u64 = 3;
+const LONGEST_FRAME: u64 = 7;
+
+/// Random numbers: splitmix64 from a seed.
+struct Random(u64);
+
+impl Random {
+    fn next(&mut self) -> u64 {
+        self.0 = self.0.wrapping_add(0x9E37_79B9_7F4A_7C15);
+        let mut z = self.0;
+        z = (z ^ (z >> 30)).wrapping_mul(0xBF58_476D_1CE4_E5B9);
+        z = (z ^ (z >> 27)).wrapping_mul(0x94D0_49BB_1331_11EB);
+        z ^ (z >> 31)
+    }
+
+    /// A number from low to high.
+    fn within(&mut self, low: u64, high: u64) -> u64 {
+        low + self.next() % (high - low + 1)
+    }
+
+    fn one_in(&mut self, n: u64) -> bool {
+        self.within(1, n) == 1
+    }
+
+    fn of<T: Copy>(&mut self, choices: &[T]) -> T {
+        choices[self.within(0, choices.len() as u64 - 1) as usize]
+    }
+}
+
+#[derive(Clone, Copy)]
+enum Call {
+    Start { form: Form, ports: u64, frame: u64 },
+    Book { input: u64, output: u64, slots: u64 },
+    BookRate { input: u64, output: u64, line: u64, rate: u64 },
+    Release { input: u64, output: u64, slots: u64 },
+    Arrive { input: u64, output: u64, packets: u64 },
+    Tick { form: Form },
+}
+
+fn name(form: Form) -> &'static str {
+    match form {
+        Form::Direct => "direct",
+        Form::Pipelined => "pipelined",
+    }
+}
+
+impl fmt::Display for Call {
+    fn fmt(&self, to: &mut fmt::Formatter) -> fmt::Result {
+        match *self {
+            Call::Start { form, ports, frame } => write!(to, "start {} {ports} {frame}", name(form)),
+            Call::Book { input, output, slots } => write!(to, "book {input} {output} {slots}"),
+            Call::BookRate { input, output, line, rate } => write!(to, "book-rate {input} {output} {line} {rate}"),
+            Call::Release { input, output, slots } => write!(to, "release {input} {output} {slots}"),
+            Call::Arrive { input, output, packets } => write!(to, "arrive {input} {output} {packets}"),
+            Call::Tick { form } => write!(to, "tick {}", name(form)),
+        }
+    }
+}
+
+/// A list in the making: the switch, the ledger since the last accepted start, and the calls so far with their refusals.
+struct List {
+    random: Random,
+    form: Form,
+    switch: Switch,
+    ledger: Option<Ledger>,
+    calls: Vec<(Call, u32)>,
+}
+
+impl List {
+    /// The call on the switch; the ledger is fed its arguments and its answer.
+    fn put(&mut self, call: Call) {
+        let (form, s) = (self.form, &mut self.switch);
+        let number = |refusal| Answer { refusal, ..Answer::nobody() };
+        let answer = match call {
+            Call::Start { form: Form::Direct, ports, frame } => number(s.start_direct(ports, frame, 0, false, false)),
+            Call::Start { form: Form::Pipelined, ports, frame } => number(s.start_pipelined(ports, frame, 0, false)),
+            Call::Book { input, output, slots } => number(s.book(form, input, output, slots)),
+            Call::BookRate { input, output, line, rate } => number(s.book_rate(form, input, output, line, rate)),
+            Call::Release { input, output, slots } => number(s.release(input, output, slots)),
+            Call::Arrive { input, output, packets } => number(s.arrive(input, output, packets)),
+            Call::Tick { form: Form::Direct } => s.tick_direct(),
+            Call::Tick { form: Form::Pipelined } => s.tick_pipelined(),
+        };
+        let no = answer.refusal;
+        match (call, &mut self.ledger) {
+            (Call::Start { form, ports, frame }, ledger) if no == 0 => *ledger = Some(Ledger::start(s.rules, form, ports, frame, 0)),
+            (Call::Start { .. }, _) => (),
+            (_, None) => panic!("a list opens with an accepted start"),
+            (Call::Book { input, output, slots }, Some(l)) => l.book(no, input, output, slots),
+            (Call::BookRate { input, output, line, rate }, Some(l)) => l.book_rate(no, input, output, line, rate),
+            (Call::Release { input, output, slots }, Some(l)) => l.release(no, input, output, slots),
+            (Call::Arrive { input, output, packets }, Some(l)) => l.arrive(no, input, output, packets),
+            (Call::Tick { .. }, Some(l)) => l.tick(answer),
+        }
+        self.calls.push((call, no));
+    }
+
+    fn port(&mut self) -> u64 {
+        let n = self.switch.n();
+        self.random.within(1, n)
+    }
+
+    /// Slots to book or to release: few.
+    fn slots(&mut self) -> u64 {
+        let most = self.switch.f().div_ceil(2);
+        if self.random.one_in(4) { self.random.within(1, most) } else { 1 }
+    }
+
+    fn start(&mut self) {
+        let ports = self.random.of(&[1, 2, 2, MOST_PORTS, MOST_PORTS]);
+        let shortest = if self.form == Form::Pipelined { ports } else { self.random.of(&[1, 2, 3]) };
+        let frame = self.random.within(shortest, LONGEST_FRAME);
+        self.put(Call::Start { form: self.form, ports, frame });
+    }
+
+    fn book(&mut self) {
+        let (input, output, slots) = (self.port(), self.port(), self.slots());
+        self.put(Call::Book { input, output, slots });
+    }
+
+    /// A rate that is just so many slots, or a little more.
+    fn book_rate(&mut self) {
+        let (input, output, slots) = (self.port(), self.port(), self.slots());
+        let line = self.random.of(&[1, 7, 1_000, 99_999_999, MAX_LINE_RATE]);
+        let rate = (line * slots / self.switch.f() + self.random.of(&[0, 0, 1])).clamp(1, line);
+        self.put(Call::BookRate { input, output, line, rate });
+    }
+
+    /// Mostly of a pair that has a booking.
+    fn release(&mut self) {
+        let s = &self.switch;
+        let booked: Vec<_> = s.pairs().into_iter().filter(|&(i, j)| s.words.slots[s.at(i, j)] > 0).collect();
+        let (input, output) = if booked.is_empty() || self.random.one_in(4) { (self.port(), self.port()) } else { self.random.of(&booked) };
+        let slots = self.slots();
+        self.put(Call::Release { input, output, slots });
+    }
+
+    /// At most so many packets, and at least half of them.
+    fn arrive(&mut self, most: u64) {
+        let (input, output, packets) = (self.port(), self.port(), self.random.within(most / 2, most));
+        self.put(Call::Arrive { input, output, packets });
+    }
+
+    /// A call with a number out of range.
+    fn out_of_range(&mut self) {
+        let (form, n, f) = (self.form, self.switch.n(), self.switch.f());
+        let (input, output) = (self.port(), self.port());
+        let r = &mut self.random;
+        let far = r.of(&[0, n + 1, (1 << 32) + 1]);
+        let (i, j) = r.of(&[(input, far), (far, output)]);
+        let short = if form == Form::Pipelined { n - 1 } else { 0 };
+        let call = match r.within(0, 12) {
+            0 => Call::Start { form, ports: r.of(&[0, MAX_PORTS + 1]), frame: f },
+            1 => Call::Start { form, ports: n, frame: r.of(&[0, short, short, MAX_FRAME + 1]) },
+            2 => Call::Start { form, ports: r.within(MOST_PORTS + 1, MAX_PORTS), frame: MAX_PORTS },
+            3 => Call::Book { input: i, output: j, slots: 1 },
+            4 => Call::Book { input, output, slots: r.of(&[0, f + 1]) },
+            5 => Call::BookRate { input: i, output: j, line: 1_000, rate: 1 },
+            6 => Call::BookRate { input, output, line: r.of(&[0, MAX_LINE_RATE + 1]), rate: 1 },
+            7 => Call::BookRate { input, output, line: 1_000, rate: r.of(&[0, 1_001]) },
+            8 => Call::Release { input: i, output: j, slots: 1 },
+            9 => Call::Release { input, output, slots: r.of(&[0, f + 1]) },
+            10 => Call::Arrive { input: i, output: j, packets: 1 },
+            _ => Call::Arrive { input, output, packets: r.of(&[0, MAX_PACKETS + 1, MAX_PACKETS + 1]) },
+        };
+        self.put(call);
+    }
+
+    /// A queue that is filled, and one packet more.
+    fn fill_queue(&mut self) {
+        let (input, output) = (self.port(), self.port());
+        let mut put = |packets| self.put(Call::Arrive { input, output, packets });
+        (0..MAX_QUEUE / MAX_PACKETS).for_each(|_| put(MAX_PACKETS));
+        put(MAX_QUEUE % MAX_PACKETS + 1);
+        put(MAX_QUEUE % MAX_PACKETS);
+        put(1);
+    }
+
+    /// A start, bookings and arrivals, then so many ticks with other calls between them. Much arrives or little.
+    fn part(&mut self, ticks: u64) {
+        self.start();
+        let pairs = self.switch.n() * self.switch.n();
+        let most = self.random.of(&[2, 5, 12, 90]);
+        for _ in 0..self.random.within(self.switch.n(), pairs) {
+            if self.random.one_in(2) { self.book_rate() } else { self.book() }
+        }
+        if self.random.one_in(12) {
+            self.fill_queue();
+        }
+        for _ in 0..self.random.within(self.switch.n(), 2 * pairs) {
+            self.arrive(most);
+        }
+        let mut run = 0;
+        while run < ticks {
+            match self.random.within(1, 24) {
+                1 => self.book(),
+                2 => self.book_rate(),
+                3 => self.release(),
+                4 | 5 => self.out_of_range(),
+                6..=9 => self.arrive(most),
+                _ => {
+                    self.put(Call::Tick { form: self.form });
+                    run += 1;
+                }
+            }
+        }
+    }
+}
+
+/// A clock and words that no calls have to have left: the runs of both forms at the level, with something in each word.
+fn any_switch(r: &mut Random, rules: Rules) -> Switch {
+    let (ports, frame, last) = (r.of(&[0, 1, 2, 3, 9, 33]), r.of(&[0, 1, 2, 5, 10_001]), r.of(&[0, 1, 5, 77, 4_000_000_000]));
+    let mut words = Words::default();
+    for run in EVERY_RUN {
+        *words.run_mut(run) = (0..length(rules, run)).map(|_| r.of(&[1, 1, 2, 2, 3, 4, 7, 101, 102, 103, 104])).collect();
+    }
+    Switch { rules, clock: Clock { ports, frame, last, ..Clock::default() }, words }
+}
+
+/// How many words of a run a switch of either form uses.
+fn length(rules: Rules, run: Run) -> usize {
+    [Form::Direct, Form::Pipelined].into_iter().filter_map(|form| used(rules, form, false, MOST_PORTS, run)).max().unwrap_or(0)
+}
+
+fn main() {
+    let arguments: Vec<u64> = std::env::args().skip(1).map(|a| a.parse().expect("a number")).collect();
+    let &[level, seed] = &arguments[..] else { panic!("usage: ledgers LEVEL SEED") };
+    let mut random = Random(seed);
+    let switch = any_switch(&mut random, Rules { upto: level as u32 });
+    let Clock { ports, frame, last, .. } = switch.clock;
+    println!("clock {ports} {frame} {last}");
+    for run in EVERY_RUN.into_iter().filter(|&run| !switch.words.run(run).is_empty()) {
+        let words: Vec<String> = switch.words.run(run).iter().map(u32::to_string).collect();
+        println!("run {} {}", format!("{run:?}").to_lowercase(), words.join(" "));
+    }
+    let form = if seed % 2 == 0 { Form::Direct } else { Form::Pipelined };
+    let mut list = List { random, form, switch, ledger: None, calls: Vec::new() };
+    if list.random.one_in(4) {
+        let ticks = list.random.within(1, 6);
+        list.part(ticks);
+    }
+    let ticks = list.random.within(10, 24);
+    list.part(ticks);
+    for (call, refusal) in list.calls {
+        println!("call {refusal} {call}");
+    }
+    for c in list.ledger.expect("a list opens with an accepted start").claims() {
+        println!("claim {} {} {} {} {} {} {}", c.input, c.output, c.first, c.booked, c.others, c.waited, c.served);
+    }
+}
