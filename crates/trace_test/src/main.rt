@@ -118,7 +118,7 @@ fn run_input(input: &[u8]) {
 fn main() {
     let mut input = io::large_buffer();
     let count = io::read_full(STDIN_FILENO, &mut input);
-    if count == 65536 {
+    if count == input.len() {
         io::write_all(STDOUT_FILENO, b"trace_test: the input does not fit\r\n");
         return;
     }
