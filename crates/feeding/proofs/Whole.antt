@@ -10,8 +10,11 @@ use borrow.Author.Tests.{lt-ltb}
 use lib.Dec.{ltb}
 use lib.ListN.{length, drop, drop-of-length-le}
 use lib.Seq.{drop-drop}
+use Rattle.wsgs.specs.Text.{heading}
+use Rattle.wsgs.specs.Program.{program}
 use Rattle.lines.specs.Lines.{slot-room}
-use Rattle.events.specs.Feeding.{kept-bytes, State, FeedOutcome, fed, Calls, none, call}
+use Rattle.events.specs.Feeding.{kept-bytes, State, FeedOutcome, fed, ending, FirstState, Calls, none, call}
+use Rattle.events.proofs.Whole.{feeds-program}
 use Rattle.events.proofs.StepLaws.{slot-to-run, byte-to-take}
 use Rattle.feeding.specs.Texts.{TextState, is-left, next-call, calls, TextFed}
 
@@ -84,3 +87,12 @@ text-whole text first last e w long room =
     let made : Calls (calls text (w .count) first .state) (drop (calls text (w .count) first .taken) text) (last .state) [] =
     subst (λ (t : TextState). Calls (t .state) (drop (t .taken) text) (last .state) []) (w .same) ended in
     (printed text first (w .count) ++ [], calls-are (ap (λ n. drop n text) e) refl (calls-then text first (w .count) made))
+
+-- An input that has been fed so, and then its end: with the heading before it, what is printed is what the program prints.
+pub program-printed : {s s′ : State} {input text : List ℕ} (begun ended : TextState) → FirstState s → Calls s input s′ text
+    → begun .state ≡ s′ → begun .taken ≡ 0 → TextFed (ending s′) begun ended true
+    → kept-bytes ≤ length (ended .state .buffer) → slot-room ≤ length (ended .out)
+    → (printed : List ℕ) × Calls (begun .state) (ending s′) (ended .state) printed × (heading ++ (text ++ printed) ≡ program input)
+program-printed {s} {s′} begun ended first c same none-taken w long room =
+    let last = text-whole (ending s′) begun ended none-taken w long room in
+    (last .0, last .1, feeds-program first c (subst (λ (k : State). Calls k (ending s′) (ended .state) (last .0)) same (last .1)))
