@@ -18,12 +18,13 @@ use Rattle.wsgs.specs.declared.TickResult.{TickResult}
 use Rattle.wsgs.specs.Basics.{pick, bit, between, Port}
 use Rattle.wsgs.specs.Steps.{Matching, empty-matching, nine-steps, listed, marked, outputs-of, pass-word-of}
 use Rattle.wsgs.specs.Questions.{Outcome, Effect, refused, clock-can-advance}
-use Rattle.wsgs.specs.Book.{book-effect, rate-effect, release-effect, arrive-effect}
+use Rattle.wsgs.specs.Bookings.{Book}
+use Rattle.wsgs.specs.Book.{book-effect, rate-effect, release-effect, release-rate-effect, arrive-effect}
 use Rattle.wsgs.specs.Direct
 use Rattle.wsgs.specs.Pipelined
 use Rattle.wsgs.specs.Answers.{start-effect, tick-effect, start-outcome, tick-outcome, matching-of}
-use Rattle.wsgs.specs.Switch.{Switch, direct, pipelined, start, book, book-rate, release, arrive, tick, apply, direct-runs, pipelined-runs, of-direct, of-pipelined, of-book, of-queues}
-use Rattle.wsgs.specs.Switch
+use Rattle.wsgs.specs.Switch.{Switch, direct, pipelined, start, book, book-rate, release, release-rate, arrive, tick, apply, direct-runs, pipelined-runs, of-direct, of-pipelined, of-book, of-queues}
+use Rattle.wsgs.specs.Switch as Switches
 use Rattle.wsgs.proofs.Laws.Tests.{between-port}
 use Rattle.wsgs.proofs.Laws.Listed.{listed-length, listed-at}
 use Rattle.wsgs.proofs.Laws.Marked.{marked-lt, marked-bit}
@@ -127,7 +128,7 @@ pipelined-bounded c w =
     let qs = clock-can-advance (c .slot) ∷ [] in
     let n = c .ports in
     let k = c .slot + 1 in
-    let t = Pipelined.turns n (c .frame) (Pipelined.copied-at n (c .frame) k w) k (Pipelined.turn-runs w) n in
+    let t = Pipelined.turns n (c .frame) (Pipelined.copied-at n (c .frame) (c .line) k w) k (Pipelined.turn-runs w) n in
     either-bounded (Pipelined.tick-refusal c w) c w (Pipelined.ticked c w)
     (λ e. handed-bounded n (pipelined-yes n (c .frame) w qs (all-yes (Pipelined.questions n (c .frame) w qs) (omega arith) e) .1 .ports .1) (t .flight) (k + 1))
 
@@ -140,40 +141,45 @@ either-back r k w o e = go (eqb r 0)
     go true = ap (λ m. record { refusal = o .refusal; matching = m; clock = o .clock; runs = o .runs }) (sym e)
     go false = refl
 
-direct-start-back : (n f : ℕ) (c : Clock) (w : Direct.Runs) → start-outcome (start-effect (Direct.start n f c w)) ≡ Direct.start n f c w
+direct-start-back : (n f b : ℕ) (c : Clock) (w : Direct.Runs) → start-outcome (start-effect (Direct.start n f b c w)) ≡ Direct.start n f b c w
 unfolding Direct.start Direct.started
-direct-start-back n f c w = either-back (Direct.start-refusal n f w) c w (Direct.started n f w) refl
+direct-start-back n f b c w = either-back (Direct.start-refusal n f b w) c w (Direct.started n f b w) refl
 
-pipelined-start-back : (n f : ℕ) (c : Clock) (w : Pipelined.Runs) → start-outcome (start-effect (Pipelined.start n f c w)) ≡ Pipelined.start n f c w
+pipelined-start-back : (n f b : ℕ) (c : Clock) (w : Pipelined.Runs)
+    → start-outcome (start-effect (Pipelined.start n f b c w)) ≡ Pipelined.start n f b c w
 unfolding Pipelined.start Pipelined.started
-pipelined-start-back n f c w = either-back (Pipelined.start-refusal n f w) c w (Pipelined.started n f w) refl
+pipelined-start-back n f b c w = either-back (Pipelined.start-refusal n f b w) c w (Pipelined.started n f b w) refl
 
 -- THE CALLS, one by one: e is what the function's contract equates with the definition, the result beside the runs at exit.
 module _ (s : Switch) where
   -- `starts::start_direct`, `starts::start_pipelined`
-  pub start-direct : (n f : ℕ) (e : Effect StartResult Direct.Runs) → e ≡ start-effect (Direct.start n f (s .clock) (direct-runs s))
-      → of-direct s (start-outcome e) ≡ apply (start direct n f) s
+  pub start-direct : (n f b : ℕ) (e : Effect StartResult Direct.Runs) → e ≡ start-effect (Direct.start n f b (s .clock) (direct-runs s))
+      → of-direct s (start-outcome e) ≡ apply (start direct n f b) s
   unfolding apply
-  start-direct n f e h = ap (of-direct s) (ap start-outcome h ∙ direct-start-back n f (s .clock) (direct-runs s))
+  start-direct n f b e h = ap (of-direct s) (ap start-outcome h ∙ direct-start-back n f b (s .clock) (direct-runs s))
 
-  pub start-pipelined : (n f : ℕ) (e : Effect StartResult Pipelined.Runs)
-      → e ≡ start-effect (Pipelined.start n f (s .clock) (pipelined-runs s)) → of-pipelined (start-outcome e) ≡ apply (start pipelined n f) s
+  pub start-pipelined : (n f b : ℕ) (e : Effect StartResult Pipelined.Runs)
+      → e ≡ start-effect (Pipelined.start n f b (s .clock) (pipelined-runs s)) → of-pipelined (start-outcome e) ≡ apply (start pipelined n f b) s
   unfolding apply
-  start-pipelined n f e h = ap of-pipelined (ap start-outcome h ∙ pipelined-start-back n f (s .clock) (pipelined-runs s))
+  start-pipelined n f b e h = ap of-pipelined (ap start-outcome h ∙ pipelined-start-back n f b (s .clock) (pipelined-runs s))
 
-  -- `book::book`, `book::book_rate`, `book::release`, `book::arrive`
-  pub books : (i j d : ℕ) (e : Effect ℕ (List ℕ)) → e ≡ book-effect (s .clock) (s .bookings) i j d → of-book s e ≡ apply (book i j d) s
+  -- `book::book`, `book::book_rate`, `book::release`, `book::release_rate`, `book::arrive`
+  pub books : (i j d : ℕ) (e : Effect ℕ Book) → e ≡ book-effect (s .clock) (s .book) i j d → of-book s e ≡ apply (book i j d) s
   unfolding apply
   books i j d e h = ap (of-book s) h
 
-  pub books-rate : (i j line rate : ℕ) (e : Effect ℕ (List ℕ)) → e ≡ rate-effect (s .clock) (s .bookings) i j line rate
-      → of-book s e ≡ apply (book-rate i j line rate) s
+  pub books-rate : (i j r : ℕ) (e : Effect ℕ Book) → e ≡ rate-effect (s .clock) (s .book) i j r → of-book s e ≡ apply (book-rate i j r) s
   unfolding apply
-  books-rate i j line rate e h = ap (of-book s) h
+  books-rate i j r e h = ap (of-book s) h
 
-  pub releases : (i j d : ℕ) (e : Effect ℕ (List ℕ)) → e ≡ release-effect (s .clock) (s .bookings) i j d → of-book s e ≡ apply (release i j d) s
+  pub releases : (i j d : ℕ) (e : Effect ℕ Book) → e ≡ release-effect (s .clock) (s .book) i j d → of-book s e ≡ apply (release i j d) s
   unfolding apply
   releases i j d e h = ap (of-book s) h
+
+  pub releases-rate : (i j r : ℕ) (e : Effect ℕ Book) → e ≡ release-rate-effect (s .clock) (s .book) i j r
+      → of-book s e ≡ apply (release-rate i j r) s
+  unfolding apply
+  releases-rate i j r e h = ap (of-book s) h
 
   pub arrives : (i j d : ℕ) (e : Effect ℕ (List ℕ)) → e ≡ arrive-effect (s .clock) (s .queues) i j d → of-queues s e ≡ apply (arrive i j d) s
   unfolding apply

@@ -6,7 +6,7 @@ use mathlib.Core.Logic.{inl}
 use Prim.Native.Nat.{ℕ, zero, suc, _+_, _*_, _≤_, _<_}
 use native.Mathlib.Omega.{arith}
 use native.Mathlib.Numerals.{add-one}
-use lib.Dec.{eqb}
+use lib.Dec.{eqb, leb→le}
 use Rattle.wsgs.specs.Clocks.{clock-of}
 use Rattle.wsgs.specs.Basics.{pick, bit, Port, sum}
 use Rattle.wsgs.specs.Words.{word}
@@ -43,34 +43,36 @@ unfolding packets packets-in-flight Direct.ticked Pipelined.ticked
 tick-answers direct s ok few i j pi pj =
     let n = s .clock .ports in
     let f = s .clock .frame in
+    let b = s .clock .line in
     let k = s .clock .slot + 1 in
     let long = direct-asked s ok in
-    omega (arith, DirectTick.queue-after n f k (direct-runs s) long i j pi pj, DirectTick.packet n f k (direct-runs s) long i j pi pj)
+    omega (arith, DirectTick.queue-after n f b k (direct-runs s) long i j pi pj, DirectTick.packet n f b k (direct-runs s) long i j pi pj)
 tick-answers pipelined s ok few i j pi pj =
     let n = s .clock .ports in
     let f = s .clock .frame in
+    let b = s .clock .line in
     let k = s .clock .slot in
     let w = pipelined-runs s in
     let long = pipelined-asked s ok in
-    let flight = after-inputs n f k w long n .flight in
+    let flight = after-inputs n f b k w long n .flight in
     let handed : ticked pipelined s .matching .output i ≡ reserved n flight (k + 1 + 1) i = rw (range-in 1 n i (pi .low) (pi .high)) in
     omega (
       arith,
-      all-hold n few i j pi pj f (copied-at n f (k + 1) w) (copy-length n f k w long) (k + 1) (turn-runs w) (long .sized) n (omega arith),
-      clear-row n flight (sized-after n f k w long n (omega arith) .flight) i j pi (k + 1 + 1) (omega arith) (pj .low),
+      all-hold n few i j pi pj f (copied-at n f b (k + 1) w) (copy-length n f b k w long) (k + 1) (turn-runs w) (long .sized) n (omega arith),
+      clear-row n flight (sized-after n f b k w long n (omega arith) .flight) i j pi (k + 1 + 1) (omega arith) (pj .low),
       ap (λ o. bit (eqb o j)) handed,
     )
 
 -- A START leaves none
-start-leaves : (m : Form) (n f : ℕ) (s : Switch) (i j : ℕ) → Port n i → Port n j → packets m n (started m n f s .after) i j ≡ 0
+start-leaves : (m : Form) (n f b : ℕ) (s : Switch) (i j : ℕ) → Port n i → Port n j → packets m n (started m n f b s .after) i j ≡ 0
 unfolding packets packets-in-flight Direct.started Pipelined.started
-start-leaves direct n f s i j pi pj = omega (arith, word-cleared n (s .queues) i j pi pj)
-start-leaves pipelined n f s i j pi pj =
+start-leaves direct n f b s i j pi pj = omega (arith, word-cleared n (s .queues) i j pi pj)
+start-leaves pipelined n f b s i j pi pj =
     omega (
       arith,
       word-cleared n (s .queues) i j pi pj,
-      sum-zero (λ u. bit (eqb (reserved n (started pipelined n f s .after .flight) u i) j)) (2 * n)
-          (λ u p. ap (λ v. bit (eqb (output-in n v) j)) (started-empty n f s .flight u i pi) ∙ bit-ne 0 j (λ e. omega (arith, pj .low))),
+      sum-zero (λ u. bit (eqb (reserved n (started pipelined n f b s .after .flight) u i) j)) (2 * n)
+          (λ u p. ap (λ v. bit (eqb (output-in n v) j)) (started-empty n f b s .flight u i pi) ∙ bit-ne 0 j (λ e. omega (arith, pj .low))),
     )
 
 -- ARRIVALS add to the queues what the ledger notes
@@ -78,11 +80,11 @@ arrivals-add : (n : ℕ) (q : List ℕ) (a : ℕ → ℕ → ℕ) {q′ : List �
     → (x y : ℕ) → Port n x → Port n y → word n q′ x y + a x y ≡ word n q x y + a′ x y
 unfolding arrive-words
 arrivals-add n q a none x y px py = refl
-arrivals-add n q a (more {q′ = r} {a′ = b} f k i j d e v) x y px py =
-    let c = clock-of n f k in
+arrivals-add n q a (more {q′ = r} {a′ = b} f k line i j d e v) x y px py =
+    let c = clock-of n f k line in
     let g = arrive-asked c r i j d e in
     let before = arrivals-add n q a v x y px py in
-    rw (e, word-put n r (g .long) i j (g .input) (g .output) (word n r i j + d) x y px py)
+    rw (e, word-put n r (leb→le _ _ (g .long)) i j (g .input) (g .output) (word n r i j + d) x y px py)
     (at-pair (λ z. pick z (word n r i j + d) (word n r x y) + a x y ≡ word n q x y + pick z (b i j + d) (b x y)) i j x y
     (λ e u. rw (e, u) (omega (arith, rw (e, u) at before))) (λ u. before))
 
@@ -147,7 +149,7 @@ module _ (m : Form) (l : Ledger) (h : Seen) (now : Switch) (t : Trace m l h now)
   account-first : Account 0
   unfolding left
   account-first =
-      omega (arith, start-leaves m n (l .frame) (t .before) i j pi pj, none-answered, t .none-arrived i j)
+      omega (arith, start-leaves m n (l .frame) (l .line) (t .before) i j pi pj, none-answered, t .none-arrived i j)
 
   -- and one tick on
   account-next : (k : ℕ) → k < l .ticks → Account k → Account (k + 1)

@@ -10,16 +10,17 @@ use Rattle.wsgs.specs.declared.Answer.{Answer}
 use Rattle.wsgs.specs.declared.TickResult.{TickResult}
 use Rattle.wsgs.specs.Basics.{pick}
 use Rattle.wsgs.specs.Steps.{Matching, empty-matching, outputs-of, pass-word-of}
+use Rattle.wsgs.specs.Bookings.{book-of}
 use Rattle.wsgs.specs.Questions.{Outcome, Effect, effect}
 use Rattle.wsgs.specs.Direct
 use Rattle.wsgs.specs.Pipelined
 
 -- the runs that a call is lent
-abbrev pub direct-runs-of : (bookings credits queues : List ℕ) → Direct.Runs
-direct-runs-of a c q = record { bookings = a; credits = c; queues = q }
+abbrev pub direct-runs-of : (slots rates credits queues : List ℕ) → Direct.Runs
+direct-runs-of s r c q = record { book = book-of s r; credits = c; queues = q }
 
-abbrev pub pipelined-runs-of : (bookings credits queues copy flight : List ℕ) → Pipelined.Runs
-pipelined-runs-of a c q p f = record { bookings = a; credits = c; queues = q; copy = p; flight = f }
+abbrev pub pipelined-runs-of : (slots rates credits queues copy flight : List ℕ) → Pipelined.Runs
+pipelined-runs-of s r c q p f = record { book = book-of s r; credits = c; queues = q; copy = p; flight = f }
 
 -- what a start gives back, and with it the runs
 abbrev pub start-result-of : {Runs : Type 0} → Outcome Runs → StartResult

@@ -3,14 +3,14 @@
 use Prim.Native.Nat.{ℕ}
 use Rattle.wsgs.specs.declared.Clock.{Clock}
 
--- the clock that holds three numbers
-abbrev pub clock-of : (ports frame slot : ℕ) → Clock
-clock-of n f k = record { ports = n; frame = f; slot = k }
+-- the clock that holds these numbers
+abbrev pub clock-of : (ports frame slot line : ℕ) → Clock
+clock-of n f k b = record { ports = n; frame = f; slot = k; line = b }
 
 -- no slot has been run yet
-abbrev pub first-clock : (ports frame : ℕ) → Clock
-first-clock n f = clock-of n f 0
+abbrev pub first-clock : (ports frame line : ℕ) → Clock
+first-clock n f b = clock-of n f 0 b
 
 -- slot k is the last slot run
 abbrev pub at-slot : Clock → ℕ → Clock
-at-slot c k = record { ports = c .ports; frame = c .frame; slot = k }
+at-slot c k = clock-of (c .ports) (c .frame) k (c .line)

@@ -4,6 +4,7 @@ use mathlib.Core.List.{List, [], _∷_, _++_}
 use Prim.Native.Nat.{ℕ, zero, suc, _-_}
 use lib.ListN.{replicate}
 use Rattle.wsgs.specs.Clocks.{clock-of}
+use Rattle.wsgs.specs.Bookings.{book-of}
 use Rattle.wsgs.specs.Switch.{Switch, Form, direct, pipelined, Call, start, book, book-rate, arrive, tick}
 use Rattle.wsgs.specs.Ledger.{Ledger, ledger-of, reading, others, waited, served}
 
@@ -49,8 +50,8 @@ ticks m (suc k) = tick m ∷ ticks m k
 abbrev pub some-switch : Switch
 some-switch =
     record {
-      clock = clock-of 9 2 77;
-      bookings = replicate 9 8;
+      clock = clock-of 9 2 77 3;
+      book = book-of (replicate 9 8) (replicate 9 1);
       credits = replicate 9 7;
       queues = replicate 9 6;
       copy = replicate 9 5;
@@ -63,12 +64,12 @@ direct-films =
     record {
       switch = some-switch;
       calls =
-          start direct 3 7
+          start direct 3 7 7000
           ∷ book 3 3 2
           ∷ book 3 1 1
           ∷ book 3 2 1
           ∷ book 1 3 1
-          ∷ book-rate 2 3 7000 1000
+          ∷ book-rate 2 3 1000
           ∷ arrive 1 1 90
           ∷ arrive 1 2 90
           ∷ arrive 1 3 90
@@ -91,7 +92,7 @@ direct-second-frame =
     record {
       switch = some-switch;
       calls =
-          start direct 2 3
+          start direct 2 3 0
           ∷ book 1 1 1
           ∷ book 1 2 1
           ∷ book 2 1 1
@@ -112,7 +113,7 @@ pipelined-films =
     record {
       switch = some-switch;
       calls =
-          start pipelined 2 5
+          start pipelined 2 5 0
           ∷ book 2 2 2
           ∷ book 2 1 1
           ∷ book 1 2 1
@@ -125,9 +126,45 @@ pipelined-films =
       output = 2;
     }
 
--- the three, with what they tell
+-- bookings by rate alone, on lines of 1,000 with frames of 5 slots: three streams of 120 on the panel (2, 2) take 2 slots together, and one stream
+-- each on (2, 1) and (1, 2) takes 1
+abbrev rates-booked : List Call
+rates-booked =
+    book-rate 2 2 120
+    ∷ book-rate 2 1 200
+    ∷ book-rate 2 2 120
+    ∷ book-rate 1 2 150
+    ∷ book-rate 2 2 120
+    ∷ arrive 1 1 90
+    ∷ arrive 1 2 90
+    ∷ arrive 2 1 90
+    ∷ []
+
+-- direct, where the panel's packets come after the first slot
+abbrev pub direct-rates : Example
+direct-rates =
+    record {
+      switch = some-switch;
+      calls = start direct 2 5 1000 ∷ rates-booked ++ (tick direct ∷ arrive 2 2 9 ∷ ticks direct 4);
+      frame = 1;
+      input = 2;
+      output = 2;
+    }
+
+-- pipelined, where they miss the turn for slot 6
+abbrev pub pipelined-rates : Example
+pipelined-rates =
+    record {
+      switch = some-switch;
+      calls = start pipelined 2 5 1000 ∷ rates-booked ++ (ticks pipelined 3 ++ (arrive 2 2 9 ∷ ticks pipelined 6));
+      frame = 6;
+      input = 2;
+      output = 2;
+    }
+
+-- all of them, with what they tell
 abbrev pub examples : List Example
-examples = direct-films ∷ direct-second-frame ∷ pipelined-films ∷ []
+examples = direct-films ∷ direct-second-frame ∷ pipelined-films ∷ direct-rates ∷ pipelined-rates ∷ []
 
 abbrev pub expected-tallies : List Tally
-expected-tallies = all-are 2 ∷ all-are 1 ∷ all-are 2 ∷ []
+expected-tallies = all-are 2 ∷ all-are 1 ∷ all-are 2 ∷ all-are 2 ∷ all-are 2 ∷ []

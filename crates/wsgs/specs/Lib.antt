@@ -2,6 +2,7 @@
 pub mod Basics
 pub mod Clocks
 pub mod Words
+pub mod Bookings
 pub mod Frames
 pub mod Steps
 pub mod Questions

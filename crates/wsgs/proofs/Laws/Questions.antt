@@ -10,7 +10,7 @@ use lib.Dec.{T, leb, leb→le}
 use lib.ListN.{length}
 use borrow.Author.Tests.{lt-ltb, le-ltb}
 use Rattle.wsgs.specs.Basics.{pick}
-use Rattle.wsgs.specs.Questions.{Question, first-no, clock-can-advance}
+use Rattle.wsgs.specs.Questions.{Question, first-no, clock-can-advance, holds-book}
 use Rattle.wsgs.specs.Direct
 use Rattle.wsgs.specs.Pipelined
 use Rattle.wsgs.proofs.Laws.Tests.{both, holds, in-range}
@@ -87,7 +87,8 @@ clock-advances slot h = none-left ∙ asked-yes _ _ (lt-ltb slot 4000000000 h)
 
 -- the runs of a direct switch are long enough
 pub record DirectLong (n : ℕ) (w : Direct.Runs) : Type 0 where
-  pub bookings : n * n ≤ length (w .bookings)
+  pub slots : n * n ≤ length (w .book .slots)
+  pub rates : n * n ≤ length (w .book .rates)
   pub credits : n * n ≤ length (w .credits)
   pub queues : n * n ≤ length (w .queues)
 
@@ -98,7 +99,8 @@ pub record TurningLong (n : ℕ) (w : Pipelined.TurnRuns) : Type 0 where
   pub flight : 2 * n * n ≤ length (w .flight)
 
 pub record PipelinedLong (n : ℕ) (w : Pipelined.Runs) : Type 0 where
-  pub bookings : n * n ≤ length (w .bookings)
+  pub slots : n * n ≤ length (w .book .slots)
+  pub rates : n * n ≤ length (w .book .rates)
   pub copy : n * n ≤ length (w .copy)
   pub sized : TurningLong n (Pipelined.turn-runs w)
 
@@ -111,19 +113,21 @@ pub record Asked (n f : ℕ) (Long : Type 0) (qs : List Question) : Type 0 where
 
 pub direct-yes : (n f : ℕ) (w : Direct.Runs) (qs : List Question) → Yes (Direct.questions n f w qs) → Asked n f (DirectLong n w) qs
 direct-yes n f w qs y =
-    let a = both (leb (n * n) (length (w .bookings))) _ (y .1 .1 .0) in
+    let a = both (holds-book n (w .book)) _ (y .1 .1 .0) in
+    let m = both (leb (n * n) (length (w .book .slots))) _ (a .0) in
     let b = both (leb (n * n) (length (w .credits))) _ (a .1) in
     record {
       ports = in-range 1 32 n (y .0);
       frame = in-range 1 10000 f (y .1 .0);
-      long = record { bookings = leb→le _ _ (a .0); credits = leb→le _ _ (b .0); queues = leb→le _ _ (b .1) };
+      long = record { slots = leb→le _ _ (m .0); rates = leb→le _ _ (m .1); credits = leb→le _ _ (b .0); queues = leb→le _ _ (b .1) };
       later = y .1 .1 .1;
     }
 
 pub pipelined-yes : (n f : ℕ) (w : Pipelined.Runs) (qs : List Question) → Yes (Pipelined.questions n f w qs)
     → (n ≤ f) × Asked n f (PipelinedLong n w) qs
 pipelined-yes n f w qs y =
-    let a = both (leb (n * n) (length (w .bookings))) _ (y .1 .1 .1 .0) in
+    let a = both (holds-book n (w .book)) _ (y .1 .1 .1 .0) in
+    let m = both (leb (n * n) (length (w .book .slots))) _ (a .0) in
     let b = both (leb (n * n) (length (w .credits))) _ (a .1) in
     let c = both (leb (n * n) (length (w .queues))) _ (b .1) in
     let d = both (leb (n * n) (length (w .copy))) _ (c .1) in (
@@ -133,7 +137,8 @@ pipelined-yes n f w qs y =
         frame = in-range 1 10000 f (y .1 .0);
         long =
             record {
-              bookings = leb→le _ _ (a .0);
+              slots = leb→le _ _ (m .0);
+              rates = leb→le _ _ (m .1);
               copy = leb→le _ _ (d .0);
               sized = record { credits = leb→le _ _ (b .0); queues = leb→le _ _ (c .0); flight = leb→le _ _ (d .1) };
             };
