@@ -17,15 +17,27 @@
  * tick that runs it. The pipelined form spreads the turns for a slot over the 2N ticks before it, one of each pass
  * for each input in each tick. Bookings, releases and arrivals are the same calls for both.
  *
+ * BOOKINGS. A pair books by slots or by rate, and may do both. The line rate B, what a line carries when all its slots
+ * are used, is given at the start; it and all rates are in kbit/s. A pair's booking, in slots of each frame, is
+ *
+ *   slots + rates * F / B, rounded up
+ *
+ * of the slots that it holds and the sum of the rates that it holds. The sum is rounded, and not each rate, so small
+ * streams of a pair share a slot: with F = 3 and B = 1,000 one stream of 200 takes 1 slot, and three of them take 2. A
+ * booking by rate counts as what it adds to the pair's booking, which may be 0. What was booked by slots is released
+ * by slots, and what was booked by rate is released by rate. Where B is 0, no rate can be booked or released, and rates
+ * count as 0 slots. A booking above 4,294,967,295, to which no calls lead, counts as that number.
+ *
  * MEMORY. The library has no memory of its own, and calls nothing but the C library's memset: a switch is the memory
  * that the caller lends, and several switches do not know of each other. For N ports:
  *
- *   clock     3 words: the number of ports, the length of a frame, the last slot run
- *   bookings  N * N words: the slots of each frame that are booked for a pair
- *   credits   N * N words: the booked slots that a pair has left in the present frame
- *   queues    N * N words: the packets of a pair that are not scheduled yet
- *   copy      N * N words, pipelined form only: the bookings as they were last read
- *   flight    2 * N * N words, pipelined form only: the pairs of slots to come
+ *   clock    4 words: the number of ports, the length of a frame, the last slot run, the line rate
+ *   slots    N * N words: the slots of each frame that a pair holds by bookings by slots
+ *   rates    N * N words: the sum of the rates that a pair holds
+ *   credits  N * N words: the booked slots that a pair has left in the present frame
+ *   queues   N * N words: the packets of a pair that are not scheduled yet
+ *   copy     N * N words, pipelined form only: the bookings as they were last read
+ *   flight   2 * N * N words, pipelined form only: the pairs of slots to come
  *
  * The word of input i and output j stands at [(i - 1) * N + (j - 1)]. In flight the word of input i for slot s stands
  * at [(s mod 2N) * N + (i - 1)]: j for output j by pass two, 100 + j by pass one, and 0, or any other word, for none.
@@ -33,7 +45,8 @@
  * A word is a uint32_t. A run of words is two arguments, a pointer to its first word and its length, counted in
  * words. A run may be longer than needed: the words beyond have no effect and are not written. All of it may be read
  * between calls, and any contents have a defined outcome; but only a start and the calls that follow it on the same
- * memory make a switch whose bookings are kept, so let nothing else write there.
+ * memory make a switch whose bookings are kept, so let nothing else write there. What a call takes as const it does not
+ * write.
  *
  * What the caller must see to, as no call can ask for it: every pointer is to memory that is there in its whole
  * length and is aligned for its type, and none is a null pointer, not even where a length is 0; no two arguments of a
@@ -56,23 +69,24 @@
 #define KIVDRAG_REFUSED_PIPELINE 3u /* Pipelined: is the length of a frame at least the number of ports? */
 #define KIVDRAG_REFUSED_RUNS 4u     /* Are all runs long enough? */
 #define KIVDRAG_REFUSED_PAIR 5u     /* Are input and output 1 to N? */
-#define KIVDRAG_REFUSED_AMOUNT 6u   /* Is the amount in the range that the call names? */
+#define KIVDRAG_REFUSED_AMOUNT 6u   /* Is the amount, rate or line rate in the range that the call names? */
 #define KIVDRAG_REFUSED_CLOCK 7u    /* Tick: is the last slot run below 4,000,000,000? */
-#define KIVDRAG_REFUSED_INPUT 8u    /* Booking d: is 2 * (all that the input has booked + d) at most F + 1? */
-#define KIVDRAG_REFUSED_OUTPUT 9u   /* Booking d: is 2 * (all that the output has booked + d) at most F + 1? */
-#define KIVDRAG_REFUSED_RELEASE 10u /* Release: has the pair at least so many slots booked? */
+#define KIVDRAG_REFUSED_INPUT 8u    /* Booking d: is 2 * (the sum of the input's bookings + d) at most F + 1? */
+#define KIVDRAG_REFUSED_OUTPUT 9u   /* Booking d: is 2 * (the sum of the output's bookings + d) at most F + 1? */
+#define KIVDRAG_REFUSED_RELEASE 10u /* Release: does the pair hold at least so many slots, or so much rate? */
 #define KIVDRAG_REFUSED_QUEUE 11u   /* Arrival: would the pair's queue hold at most 1,000,000 packets? */
 
-/* The most ports of a switch, and its words: of clock; of bookings, credits, queues and copy each; of flight. */
+/* The most ports of a switch, and its words: of clock; of slots, rates, credits, queues and copy each; of flight. */
 #define KIVDRAG_PORTS_MAX 32
-#define KIVDRAG_CLOCK_WORDS 3
+#define KIVDRAG_CLOCK_WORDS 4
 #define KIVDRAG_PAIR_WORDS(ports) ((size_t)(ports) * (size_t)(ports))
 #define KIVDRAG_FLIGHT_WORDS(ports) (2 * (size_t)(ports) * (size_t)(ports))
 
-/* Where the number of ports, the length of a frame and the last slot run stand in a clock. */
+/* Where the number of ports, the length of a frame, the last slot run and the line rate stand in a clock. */
 #define KIVDRAG_CLOCK_PORTS 0
 #define KIVDRAG_CLOCK_FRAME 1
 #define KIVDRAG_CLOCK_SLOT 2
+#define KIVDRAG_CLOCK_LINE 3
 
 #ifdef __cplusplus
 extern "C" {
@@ -81,25 +95,29 @@ extern "C" {
 /*
  * Starts a direct switch, on memory with any contents.
  *
- * ports is N, 1 to 32; frame is F, 1 to 10,000. bookings, credits and queues have N * N words or more.
- * Sets the clock to ports, frame and 0, and the first N * N words of each run to 0.
- * Refusals: 1 (ports), 2 (frame), 4 (a run is too short).
+ * ports is N, 1 to 32; frame is F, 1 to 10,000; line is B, 0 to 100,000,000. slots, rates, credits and queues have
+ * N * N words or more.
+ * Sets the clock to ports, frame, 0 and line, and the first N * N words of each run to 0.
+ * Refusals: 1 (ports), 2 (frame), 4 (a run is too short), 6 (line).
  */
-uint32_t kivdrag_start_direct(uint64_t ports, uint64_t frame, uint32_t clock[3],
-                              uint32_t *bookings, size_t bookings_length,
+uint32_t kivdrag_start_direct(uint64_t ports, uint64_t frame, uint64_t line, uint32_t clock[4],
+                              uint32_t *slots, size_t slots_length,
+                              uint32_t *rates, size_t rates_length,
                               uint32_t *credits, size_t credits_length,
                               uint32_t *queues, size_t queues_length);
 
 /*
  * Starts a pipelined switch, on memory with any contents.
  *
- * ports is N, 1 to 32; frame is F, 1 to 10,000 and at least N. bookings, credits, queues and copy have N * N words or
- * more, flight 2 * N * N.
- * Sets the clock to ports, frame and 0, and the first N * N words of each run, of flight the first 2 * N * N, to 0.
- * Refusals: 1 (ports), 2 (frame), 3 (frame below ports), 4 (a run is too short).
+ * ports is N, 1 to 32; frame is F, 1 to 10,000 and at least N; line is B, 0 to 100,000,000. slots, rates, credits,
+ * queues and copy have N * N words or more, flight 2 * N * N.
+ * Sets the clock to ports, frame, 0 and line, and the first N * N words of each run, of flight the first 2 * N * N,
+ * to 0.
+ * Refusals: 1 (ports), 2 (frame), 3 (frame below ports), 4 (a run is too short), 6 (line).
  */
-uint32_t kivdrag_start_pipelined(uint64_t ports, uint64_t frame, uint32_t clock[3],
-                                 uint32_t *bookings, size_t bookings_length,
+uint32_t kivdrag_start_pipelined(uint64_t ports, uint64_t frame, uint64_t line, uint32_t clock[4],
+                                 uint32_t *slots, size_t slots_length,
+                                 uint32_t *rates, size_t rates_length,
                                  uint32_t *credits, size_t credits_length,
                                  uint32_t *queues, size_t queues_length,
                                  uint32_t *copy, size_t copy_length,
@@ -108,51 +126,69 @@ uint32_t kivdrag_start_pipelined(uint64_t ports, uint64_t frame, uint32_t clock[
 /*
  * Books slots of each frame for a pair, in addition to what it has.
  *
- * input and output are 1 to N; slots is 1 to F.
- * Adds slots to the pair's word of bookings, and writes nothing else.
- * Refusals: 1, 2 (the clock's ports or frame), 4 (bookings is too short), 5 (input or output), 6 (slots), 8 (the
- * input's sum), 9 (the output's sum).
+ * input and output are 1 to N; amount is 1 to F. slots and rates have N * N words or more.
+ * Adds amount to the pair's word of slots, and writes nothing else.
+ * Refusals: 1, 2 (the clock's ports or frame), 4 (a run is too short), 5 (input or output), 6 (amount), 8 (the
+ * input's sum), 9 (the output's sum); 8 and 9 are asked with amount for d.
  */
-uint32_t kivdrag_book(const uint32_t clock[3], uint32_t *bookings, size_t bookings_length,
-                      uint64_t input, uint64_t output, uint64_t slots);
+uint32_t kivdrag_book(const uint32_t clock[4], uint32_t *slots, size_t slots_length,
+                      const uint32_t *rates, size_t rates_length,
+                      uint64_t input, uint64_t output, uint64_t amount);
 
 /*
- * Books for a pair as many slots of each frame as a rate needs: rate * F / line, rounded up.
+ * Books a rate for a pair, in addition to what it has.
  *
- * input and output are 1 to N; line, the rate of a line, is 1 to 100,000,000, and rate 1 to line, both in kbit/s.
- * Adds these slots to the pair's word of bookings, and writes nothing else.
- * Refusals: 1, 2 (the clock's ports or frame), 4 (bookings is too short), 5 (input or output), 6 (line or rate), 8
- * (the input's sum), 9 (the output's sum).
+ * input and output are 1 to N; the clock's line rate B is 1 to 100,000,000, and rate is 1 to B. slots and rates have
+ * N * N words or more.
+ * Adds rate to the pair's word of rates, and writes nothing else.
+ * Refusals: 1, 2 (the clock's ports or frame), 4 (a run is too short), 5 (input or output), 6 (B or rate), 8 (the
+ * input's sum), 9 (the output's sum); 8 and 9 are asked with the rise of the pair's booking for d, even where it is 0.
  */
-uint32_t kivdrag_book_rate(const uint32_t clock[3], uint32_t *bookings, size_t bookings_length,
-                           uint64_t input, uint64_t output, uint64_t line, uint64_t rate);
+uint32_t kivdrag_book_rate(const uint32_t clock[4], const uint32_t *slots, size_t slots_length,
+                           uint32_t *rates, size_t rates_length,
+                           uint64_t input, uint64_t output, uint64_t rate);
 
 /*
- * Takes booked slots off a pair again.
+ * Takes slots that were booked by slots off a pair again. The rates that it holds do not count.
  *
- * input and output are 1 to N; slots is 1 to F, and at most what the pair has booked.
- * Subtracts slots from the pair's word of bookings, and writes nothing else.
- * Refusals: 1, 2 (the clock's ports or frame), 4 (bookings is too short), 5 (input or output), 6 (slots), 10 (fewer
- * slots are booked).
+ * input and output are 1 to N; amount is 1 to F, and at most the pair's word of slots. slots and rates have N * N words
+ * or more.
+ * Subtracts amount from the pair's word of slots, and writes nothing else.
+ * Refusals: 1, 2 (the clock's ports or frame), 4 (a run is too short), 5 (input or output), 6 (amount), 10 (the pair
+ * holds fewer slots).
  */
-uint32_t kivdrag_release(const uint32_t clock[3], uint32_t *bookings, size_t bookings_length,
-                         uint64_t input, uint64_t output, uint64_t slots);
+uint32_t kivdrag_release(const uint32_t clock[4], uint32_t *slots, size_t slots_length,
+                         const uint32_t *rates, size_t rates_length,
+                         uint64_t input, uint64_t output, uint64_t amount);
+
+/*
+ * Takes a rate off a pair again: of one booking, of several, or a part. The slots that it holds do not count.
+ *
+ * input and output are 1 to N; the clock's line rate B is 1 to 100,000,000, and rate is 1 to B, and at most the pair's
+ * word of rates. slots and rates have N * N words or more.
+ * Subtracts rate from the pair's word of rates, and writes nothing else. The pair's booking may stay as it is.
+ * Refusals: 1, 2 (the clock's ports or frame), 4 (a run is too short), 5 (input or output), 6 (B or rate), 10 (the pair
+ * holds less rate).
+ */
+uint32_t kivdrag_release_rate(const uint32_t clock[4], const uint32_t *slots, size_t slots_length,
+                              uint32_t *rates, size_t rates_length,
+                              uint64_t input, uint64_t output, uint64_t rate);
 
 /*
  * Adds packets that arrived at an input for an output to the pair's queue.
  *
- * input and output are 1 to N; packets is 1 to 65,535.
+ * input and output are 1 to N; packets is 1 to 65,535. queues has N * N words or more.
  * Adds packets to the pair's word of queues, and writes nothing else.
  * Refusals: 1, 2 (the clock's ports or frame), 4 (queues is too short), 5 (input or output), 6 (packets), 11 (the
  * queue would exceed 1,000,000).
  */
-uint32_t kivdrag_arrive(const uint32_t clock[3], uint32_t *queues, size_t queues_length,
+uint32_t kivdrag_arrive(const uint32_t clock[4], uint32_t *queues, size_t queues_length,
                         uint64_t input, uint64_t output, uint64_t packets);
 
 /*
  * Runs the next slot of a direct switch: slot k, where clock[2] is k - 1 before the call and k after it.
  *
- * bookings, credits and queues have N * N words or more.
+ * slots, rates, credits and queues have N * N words or more.
  * Advances clock[2], and writes credits and queues: in the first slot of a frame the credits become the bookings, and
  * then each pair that is served loses a packet, and by pass one a credit too.
  * Answers the pairs of slot k: outputs[i - 1] is the output of input i, or 0 for none, and 0 for inputs above N; bit
@@ -160,7 +196,8 @@ uint32_t kivdrag_arrive(const uint32_t clock[3], uint32_t *queues, size_t queues
  * every call, and are all 0 where it is refused.
  * Refusals: 1, 2 (the clock's ports or frame), 4 (a run is too short), 7 (clock[2] is 4,000,000,000 or more).
  */
-uint32_t kivdrag_tick_direct(uint32_t clock[3], const uint32_t *bookings, size_t bookings_length,
+uint32_t kivdrag_tick_direct(uint32_t clock[4], const uint32_t *slots, size_t slots_length,
+                             const uint32_t *rates, size_t rates_length,
                              uint32_t *credits, size_t credits_length,
                              uint32_t *queues, size_t queues_length,
                              uint8_t outputs[32], uint32_t *first_pass);
@@ -170,7 +207,7 @@ uint32_t kivdrag_tick_direct(uint32_t clock[3], const uint32_t *bookings, size_t
  * are handed out. That is slot k + 1, where clock[2] is k - 1 before the call and k after it. Slots up to N are idle,
  * and slots N + 1 to 2N know only pass two.
  *
- * bookings, credits, queues and copy have N * N words or more, flight 2 * N * N.
+ * slots, rates, credits, queues and copy have N * N words or more, flight 2 * N * N.
  * Advances clock[2], and writes credits, queues, copy and flight: where slot k + 2N is the first of a frame, copy
  * becomes the bookings; an input that comes to a slot that is the first of a frame reloads its credits from copy;
  * each output that an input takes at one of its turns is noted in flight, and costs a packet, and by pass one a
@@ -179,7 +216,8 @@ uint32_t kivdrag_tick_direct(uint32_t clock[3], const uint32_t *bookings, size_t
  * Refusals: 1, 2 (the clock's ports or frame), 3 (frame below ports), 4 (a run is too short), 7 (clock[2] is
  * 4,000,000,000 or more).
  */
-uint32_t kivdrag_tick_pipelined(uint32_t clock[3], const uint32_t *bookings, size_t bookings_length,
+uint32_t kivdrag_tick_pipelined(uint32_t clock[4], const uint32_t *slots, size_t slots_length,
+                                const uint32_t *rates, size_t rates_length,
                                 uint32_t *credits, size_t credits_length,
                                 uint32_t *queues, size_t queues_length,
                                 uint32_t *copy, size_t copy_length,
