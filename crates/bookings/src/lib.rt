@@ -46,22 +46,17 @@ pub fn copy_bookings(
     ensures to_exit { λ _. ⌜ now (to .exit)
         ≡ copy-words count (booking-words frame line (now (slots .entry)) (now (rates .entry))) (now (to .entry)) ⌝ }
 {
-    if count <= slots.len() && count <= rates.len() {
-        if count <= to.len() {
-            copy_first(frame, line, slots, rates, to, count);
+    if count <= slots.len() {
+        if count <= rates.len() {
+            if count <= to.len() {
+                copy_first(frame, line, slots, rates, to, count);
+            }
         }
     }
 }
 
 // The first count bookings copied, where all runs have them.
-fn copy_first(
-    frame: u32,
-    line: u32,
-    slots: &[u32],
-    rates: &[u32],
-    to: &mut [u32],
-    count: usize,
-)
+fn copy_first(frame: u32, line: u32, slots: &[u32], rates: &[u32], to: &mut [u32], count: usize)
     requires slots_long { ⌜ count ≤ length (now slots) ⌝ }
     requires rates_long { ⌜ count ≤ length (now rates) ⌝ }
     requires to_long { ⌜ count ≤ length (now to) ⌝ }

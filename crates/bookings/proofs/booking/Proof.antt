@@ -1,15 +1,15 @@
+-- `bookings::booking` meets its contract: no product of two words wraps. Assumes nothing.
+use native.Mathlib.Omega.{arith}
 use borrow.Author.Needs.{needs}
+use Rattle.bookings.proofs.Laws.{words-product}
 use Rattle.bookings.proofs.booking.Statement.{statement}
 use Rattle.bookings.proofs.booking.Tie as tie
-use Rattle.bookings.proofs.booking.Reads as reads
-use Rattle.bookings.proofs.booking.Lts as lts
-use Rattle.bookings.proofs.amounts.booked.Reads as booked-reads
 
--- src/lib.rt:20:5
 booked-requires : tie.Need-booked-requires
-booked-requires c κs = ?
+booked-requires c κs =
+    let h = words-product (c .args .frame) 0 (c .args .rate) (omega arith) (omega arith) in
+    omega (arith, h)
 
--- src/lib.rt:16:1
 returns : tie.Need-returns
 returns c = search needs
 

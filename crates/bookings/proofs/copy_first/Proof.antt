@@ -1,70 +1,77 @@
+-- `bookings::copy_first` meets its contract. The loop's invariant: the words so far are the bookings. The measure is the words left.
+-- Assumes nothing.
+use Prim.Native.Nat.{ℕ, _≤_, _-_}
+use mathlib.Core.Path.{_≡_, refl, ap, _∙_}
+use native.Mathlib.Numerals.{add-one}
+use native.Mathlib.Omega.{arith}
+use borrow.Author.Needs.{needs}
+use lib.ListN.{length, length-set}
+use Rattle.wsgs.specs.Words.{copied}
+use Rattle.wsgs.specs.Bookings.{booking-words}
+use Rattle.bookings.proofs.Laws.{booking-more-copied}
 use Rattle.bookings.proofs.copy_first.Statement.{statement}
 use Rattle.bookings.proofs.copy_first.Tie as tie
-use Rattle.bookings.proofs.copy_first.Reads as reads
-use Rattle.bookings.proofs.copy_first.Lts as lts
-use Rattle.bookings.proofs.booking.Reads as booking-reads
 
 abbrev Inv-loop : tie.InvT-loop
-Inv-loop frame line slots rates to₀ count at₀ to at = ?
+Inv-loop frame line slots rates to₀ count at₀ to at =
+    (at ≤ count) × (to ≡ copied at (booking-words frame line slots rates) to₀) × (length to ≡ length to₀)
 
 abbrev μ-loop : tie.MeasureT-loop
-μ-loop frame line slots rates to₀ count at₀ to at = ?
+μ-loop frame line slots rates to₀ count at₀ to at = count - at
 
--- src/lib.rt:71:5
 loop-holds : tie.Need-loop-holds Inv-loop μ-loop
-loop-holds c = ?
+loop-holds c = (search needs, refl, refl)
 
--- src/lib.rt:72:41
 mul-booking : tie.Need-mul-booking Inv-loop μ-loop
-mul-booking c = ?
+mul-booking c = search needs
 
--- src/lib.rt:72:41
 shared-slice-read-booking : tie.Need-shared-slice-read-booking Inv-loop μ-loop
-shared-slice-read-booking c = ?
+shared-slice-read-booking c = search needs
 
--- src/lib.rt:72:52
 mul-booking-2 : tie.Need-mul-booking-2 Inv-loop μ-loop
-mul-booking-2 c = ?
+mul-booking-2 c = search needs
 
--- src/lib.rt:72:52
 shared-slice-read-booking-2 : tie.Need-shared-slice-read-booking-2 Inv-loop μ-loop
-shared-slice-read-booking-2 c = ?
+shared-slice-read-booking-2 c = search needs
 
--- src/lib.rt:72:13
 booking-requires : tie.Need-booking-requires Inv-loop μ-loop
-booking-requires c κs = ?
+booking-requires c κs = search needs
 
--- src/lib.rt:73:18
 cast-to : tie.Need-cast-to Inv-loop μ-loop
-cast-to c = ?
+cast-to c = search needs
 
--- src/lib.rt:73:9
 mul-to : tie.Need-mul-to Inv-loop μ-loop
-mul-to c = ?
+mul-to c = search needs
 
--- src/lib.rt:73:9
 slice-write-to : tie.Need-slice-write-to Inv-loop μ-loop
-slice-write-to c = ?
+slice-write-to c = search needs
 
--- src/lib.rt:71:9
 add-at : tie.Need-add-at Inv-loop μ-loop
-add-at c = ?
+add-at c = search needs
 
--- src/lib.rt:71:5
 loop-less : tie.Need-loop-less Inv-loop μ-loop
-loop-less c = ?
+loop-less c = search needs
 
--- src/lib.rt:71:5
 loop-again : tie.Need-loop-again Inv-loop μ-loop
-loop-again c = ?
+loop-again c =
+    let b = c .before in
+    let l = b .before .before .before .before in
+    let a = l .before .before .before .before .args in (
+      omega arith,
+      rw (l .loop .inv .1, add-one (l .loop .at))
+          (booking-more-copied (a .frame) (a .line) (a .slots .now) (a .rates .now) (a .to .now) (l .loop .at) (b .booking .result .0)
+          (omega arith) (omega arith) (omega arith) (b .booking .ensures .0)),
+      simp length-set (l .loop .inv .2),
+    )
 
--- src/lib.rt:57:1
 same-length : tie.Need-same-length Inv-loop μ-loop
-same-length c = ?
+same-length c = search needs
 
--- src/lib.rt:57:1
 returns : tie.Need-returns Inv-loop μ-loop
-returns c = ?
+returns c =
+    let a = c .before .before .before .before .before .args in
+    let e : c .before .loop .at ≡ a .count = omega arith in
+    c .before .loop .inv .1 ∙ ap (λ (k : ℕ). copied k (booking-words (a .frame) (a .line) (a .slots .now) (a .rates .now)) (a .to .now)) e
 
 pub copy-first-spec : {M : Type 1} → statement M
 copy-first-spec =

@@ -1,34 +1,40 @@
+-- `bookings::rise` meets its contract: no product wraps, since the frame is in range. Assumes nothing.
+use mathlib.Core.Path.{sym, ap₂, _∙_}
+use Prim.Native.Nat.{_+_, _-_}
+use native.Mathlib.Omega.{arith}
 use borrow.Author.Needs.{needs}
+use Rattle.bookings.proofs.Laws.{sum-product, long-frame, rise-is, rises}
 use Rattle.bookings.proofs.rise.Statement.{statement}
 use Rattle.bookings.proofs.rise.Tie as tie
-use Rattle.bookings.proofs.rise.Reads as reads
-use Rattle.bookings.proofs.rise.Lts as lts
-use Rattle.bookings.proofs.amounts.booked.Reads as booked-reads
-use Rattle.bookings.proofs.booking.Reads as booking-reads
 
--- src/lib.rt:29:9
 returns : tie.Need-returns
-returns c = ?
+returns c = (sym (long-frame _ _ _ _ _ (omega arith)), omega arith)
 
--- src/lib.rt:31:18
 add-summed : tie.Need-add-summed
 add-summed c = search needs
 
--- src/lib.rt:32:9
 booked-requires : tie.Need-booked-requires
-booked-requires c κs = ?
+booked-requires c κs =
+    let a = c .before .args in
+    let h = sum-product (a .frame) 0 (a .rate + a .more) (omega arith) (omega arith) in
+    (omega (arith, h), omega (arith, h))
 
--- src/lib.rt:33:9
 booking-requires : tie.Need-booking-requires
 booking-requires c κs = search needs
 
--- src/lib.rt:34:17
 sub-t9 : tie.Need-sub-t9
-sub-t9 c = ?
+sub-t9 c =
+    let b = c .before .before in
+    let a = b .before .before .before .args in
+    omega (arith, b .booking .ensures .0, b .before .booked .ensures .0, rises (a .frame) (a .line) (a .slots) (a .rate) (a .more))
 
--- src/lib.rt:24:1
 returns-2 : tie.Need-returns-2
-returns-2 c = ?
+returns-2 c =
+    let b = c .before .before in
+    let a = b .before .before .before .args in (
+      ap₂ _-_ (b .before .booked .ensures .0) (b .booking .ensures .0) ∙ sym (rise-is (a .frame) (a .line) (a .slots) (a .rate) (a .more) (omega arith)),
+      omega (arith, b .before .booked .ensures .1),
+    )
 
 pub rise-spec : {M : Type 1} → statement M
 rise-spec =
