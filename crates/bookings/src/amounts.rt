@@ -33,11 +33,14 @@ fn counted(slots: u64) -> BookedSlots
 }
 
 // The booking of a pair whose rate and frame make no product that wraps.
-pub fn booked(frame: u64, line: u64, slots: u64, rate: u64) -> BookedSlots
-    requires rate_fits { ⌜ rate * frame + line < 2 ^ 64 ⌝ }
-    requires slots_fit { ⌜ rate * frame + slots < 2 ^ 64 ⌝ }
-    ensures result { λ r. ⌜ r .0 ≡ booking frame line slots rate ⌝ }
+pub fn booked(frame: u64, line: u64, slots: BookedSlots, rate: u64) -> BookedSlots
+    requires line_fits { ⌜ line < 2 ^ 32 ⌝ }
+    requires rate_fits { ⌜ rate * frame + 2 ^ 32 ≤ 2 ^ 64 ⌝ }
+    ensures result { λ r. ⌜ r .0 ≡ booking frame line (slots .0) rate ⌝ }
     ensures fits { λ r. ⌜ r .0 < 2 ^ 32 ⌝ }
 {
-    counted(slots + rate_slots(frame, line, rate))
+    if slots.0 > MAX_BOOKING {
+        return BookedSlots(MAX_BOOKING);
+    }
+    counted(slots.0 + rate_slots(frame, line, rate))
 }

@@ -12,24 +12,31 @@ use amounts::booked;
 use wsgs::BookedSlots;
 use wsgs::MAX_FRAME;
 
+// A word of the book as what it is: slots that are booked.
+pub fn slots_of(word: u32) -> BookedSlots
+    ensures result { λ r. ⌜ r .0 ≡ word ⌝ }
+{
+    BookedSlots(word as u64)
+}
+
 // A pair's booking: its slots, and the slots of its summed rate on the line.
-pub fn booking(frame: u32, line: u32, slots: u32, rate: u32) -> BookedSlots
-    ensures result { λ r. ⌜ r .0 ≡ booking frame line slots rate ⌝ }
+pub fn booking(frame: u32, line: u32, slots: BookedSlots, rate: u32) -> BookedSlots
+    ensures result { λ r. ⌜ r .0 ≡ booking frame line (slots .0) rate ⌝ }
     ensures fits { λ r. ⌜ r .0 < 2 ^ 32 ⌝ }
 {
-    booked(frame as u64, line as u64, slots as u64, rate as u64)
+    booked(frame as u64, line as u64, slots, rate as u64)
 }
 
 // How far a pair's booking rises where its summed rate rises by more; 0 for a frame that is longer than that of any switch.
-pub fn rise(frame: u32, line: u32, slots: u32, rate: u32, more: u32) -> BookedSlots
-    ensures result { λ r. ⌜ r .0 ≡ rise-of frame line slots rate more ⌝ }
+pub fn rise(frame: u32, line: u32, slots: BookedSlots, rate: u32, more: u32) -> BookedSlots
+    ensures result { λ r. ⌜ r .0 ≡ rise-of frame line (slots .0) rate more ⌝ }
     ensures fits { λ r. ⌜ r .0 < 2 ^ 32 ⌝ }
 {
     if frame as u64 > MAX_FRAME {
         return BookedSlots(0);
     }
     let summed = rate as u64 + more as u64;
-    let raised = booked(frame as u64, line as u64, slots as u64, summed);
+    let raised = booked(frame as u64, line as u64, slots, summed);
     let present = booking(frame, line, slots, rate);
     BookedSlots(raised.0 - present.0)
 }
@@ -64,7 +71,7 @@ fn copy_first(frame: u32, line: u32, slots: &[u32], rates: &[u32], to: &mut [u32
         ≡ copied count (booking-words frame line (now (slots .entry)) (now (rates .entry))) (now (to .entry)) ⌝ }
 {
     for at in 0..count {
-        let pair = booking(frame, line, slots[at], rates[at]);
+        let pair = booking(frame, line, slots_of(slots[at]), rates[at]);
         to[at] = pair.0 as u32;
     }
 }

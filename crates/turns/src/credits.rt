@@ -77,7 +77,7 @@ pub fn load_first_bookings(
         ≡ copied count (booking-words frame line (now (slots .entry)) (now (rates .entry))) (now (credits .entry)) ⌝ }
 {
     for at in 0..count {
-        let booked = booking(frame, line, slots[at], rates[at]);
-        put_credits(credits, at, credits_for(booked));
+        let pair = booking(frame, line, booked_at(slots, at), rates[at]);
+        put_credits(credits, at, credits_for(pair));
     }
 }

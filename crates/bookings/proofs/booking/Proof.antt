@@ -8,7 +8,7 @@ use Rattle.bookings.proofs.booking.Tie as tie
 booked-requires : tie.Need-booked-requires
 booked-requires c κs =
     let h = words-product (c .args .frame) 0 (c .args .rate) (omega arith) (omega arith) in
-    omega (arith, h)
+    (omega arith, omega (arith, h))
 
 returns : tie.Need-returns
 returns c = search needs

@@ -22,17 +22,20 @@ abbrev μ-loop : tie.MeasureT-loop
 loop-holds : tie.Need-loop-holds Inv-loop μ-loop
 loop-holds c = (search needs, refl, refl)
 
+mul-slots-of : tie.Need-mul-slots-of Inv-loop μ-loop
+mul-slots-of c = search needs
+
+shared-slice-read-slots-of : tie.Need-shared-slice-read-slots-of Inv-loop μ-loop
+shared-slice-read-slots-of c = search needs
+
+slots-of-requires : tie.Need-slots-of-requires Inv-loop μ-loop
+slots-of-requires c κs = search needs
+
 mul-booking : tie.Need-mul-booking Inv-loop μ-loop
 mul-booking c = search needs
 
 shared-slice-read-booking : tie.Need-shared-slice-read-booking Inv-loop μ-loop
 shared-slice-read-booking c = search needs
-
-mul-booking-2 : tie.Need-mul-booking-2 Inv-loop μ-loop
-mul-booking-2 c = search needs
-
-shared-slice-read-booking-2 : tie.Need-shared-slice-read-booking-2 Inv-loop μ-loop
-shared-slice-read-booking-2 c = search needs
 
 booking-requires : tie.Need-booking-requires Inv-loop μ-loop
 booking-requires c κs = search needs
@@ -55,12 +58,15 @@ loop-less c = search needs
 loop-again : tie.Need-loop-again Inv-loop μ-loop
 loop-again c =
     let b = c .before in
-    let l = b .before .before .before .before in
-    let a = l .before .before .before .before .args in (
+    let w = b .before .before in
+    let l = w .before .before .before in
+    let s = l .before .before .before .before in
+    let a = s .args in (
       omega arith,
       rw (l .loop .inv .1, add-one (l .loop .at))
           (booking-more-copied (a .frame) (a .line) (a .slots .now) (a .rates .now) (a .to .now) (l .loop .at) (b .booking .result .0)
-          (omega arith) (omega arith) (omega arith) (b .booking .ensures .0)),
+          (omega (arith, s .pre)) (omega (arith, s .pre)) (omega (arith, s .pre))
+          (rw (w .slots-of .ensures) at (b .booking .ensures .0))),
       simp length-set (l .loop .inv .2),
     )
 
@@ -80,10 +86,11 @@ copy-first-spec =
     Inv-loop
     μ-loop
     loop-holds
+    mul-slots-of
+    shared-slice-read-slots-of
+    slots-of-requires
     mul-booking
     shared-slice-read-booking
-    mul-booking-2
-    shared-slice-read-booking-2
     booking-requires
     cast-to
     mul-to

@@ -17,7 +17,7 @@ booked-requires : tie.Need-booked-requires
 booked-requires c κs =
     let a = c .before .args in
     let h = sum-product (a .frame) 0 (a .rate + a .more) (omega arith) (omega arith) in
-    (omega (arith, h), omega (arith, h))
+    (omega arith, omega (arith, h))
 
 booking-requires : tie.Need-booking-requires
 booking-requires c κs = search needs
@@ -26,13 +26,13 @@ sub-t9 : tie.Need-sub-t9
 sub-t9 c =
     let b = c .before .before in
     let a = b .before .before .before .args in
-    omega (arith, b .booking .ensures .0, b .before .booked .ensures .0, rises (a .frame) (a .line) (a .slots) (a .rate) (a .more))
+    omega (arith, b .booking .ensures .0, b .before .booked .ensures .0, rises (a .frame) (a .line) (a .slots .0) (a .rate) (a .more))
 
 returns-2 : tie.Need-returns-2
 returns-2 c =
     let b = c .before .before in
     let a = b .before .before .before .args in (
-      ap₂ _-_ (b .before .booked .ensures .0) (b .booking .ensures .0) ∙ sym (rise-is (a .frame) (a .line) (a .slots) (a .rate) (a .more) (omega arith)),
+      ap₂ _-_ (b .before .booked .ensures .0) (b .booking .ensures .0) ∙ sym (rise-is (a .frame) (a .line) (a .slots .0) (a .rate) (a .more) (omega arith)),
       omega (arith, b .before .booked .ensures .1),
     )
 

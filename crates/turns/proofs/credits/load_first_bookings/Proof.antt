@@ -22,17 +22,14 @@ abbrev μ-loop : tie.MeasureT-loop
 loop-holds : tie.Need-loop-holds Inv-loop μ-loop
 loop-holds c = (search needs, refl, refl)
 
+booked-at-requires : tie.Need-booked-at-requires Inv-loop μ-loop
+booked-at-requires c κs = search needs
+
 mul-booking : tie.Need-mul-booking Inv-loop μ-loop
 mul-booking c = search needs
 
 shared-slice-read-booking : tie.Need-shared-slice-read-booking Inv-loop μ-loop
 shared-slice-read-booking c = search needs
-
-mul-booking-2 : tie.Need-mul-booking-2 Inv-loop μ-loop
-mul-booking-2 c = search needs
-
-shared-slice-read-booking-2 : tie.Need-shared-slice-read-booking-2 Inv-loop μ-loop
-shared-slice-read-booking-2 c = search needs
 
 booking-requires : tie.Need-booking-requires Inv-loop μ-loop
 booking-requires c κs = search needs
@@ -54,7 +51,8 @@ loop-again c =
     let p = c .before .before in
     let k = p .before in
     let b = k .before .before in
-    let l = b .before .before .before .before in
+    let w = b .before .before in
+    let l = w .before .before in
     let s = l .before .before .before .before in
     let a = s .args in
     let e = p .put-credits .ensures in (
@@ -62,7 +60,7 @@ loop-again c =
       e
           ∙ rw (l .loop .inv .1, add-one (l .loop .at))
           (booking-more-copied (a .frame) (a .line) (a .slots .now) (a .rates .now) (a .credits .now) (l .loop .at) (k .credits-for .result .0)
-          (omega (arith, s .pre)) (omega (arith, s .pre)) (omega (arith, s .pre)) (k .credits-for .ensures ∙ b .booking .ensures .0)),
+          (omega (arith, s .pre)) (omega (arith, s .pre)) (omega (arith, s .pre)) (k .credits-for .ensures ∙ rw (w .booked-at .ensures .0) at (b .booking .ensures .0))),
       ap length e ∙ simp length-set (l .loop .inv .2),
     )
 
@@ -83,10 +81,9 @@ load-first-bookings-spec =
     Inv-loop
     μ-loop
     loop-holds
+    booked-at-requires
     mul-booking
     shared-slice-read-booking
-    mul-booking-2
-    shared-slice-read-booking-2
     booking-requires
     credits-for-requires
     put-credits-requires
