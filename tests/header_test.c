@@ -951,14 +951,14 @@ static void all(void) {
 }
 
 int main(void) {
-    calls_on_const();
-    ticks_on_const();
     all();
 #ifndef __cplusplus
     make = by_name;
     made = "by name";
     all();
 #endif
+    calls_on_const();
+    ticks_on_const();
     printf("kivdrag.h: %d functions, refusals 1 to 11, %lu calls: all as it says\n", (int)FUNCTIONS, calls);
     return 0;
 }
