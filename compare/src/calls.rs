@@ -1,5 +1,5 @@
 //! Every exported call, an entry each: its questions, random arguments, and what library, second program and ledger make of it. A request that
-//! adds or alters a call does so here, and nowhere else in this crate.
+//! adds or alters a call does so here; what tests want to see happen at it stands in tally.rs.
 
 use crate::{rules, Random};
 use second::ledger::Ledger;
@@ -8,26 +8,33 @@ use second::{Answer, Form, Switch, Words};
 pub mod exported {
     extern "C" {
         pub fn kivdrag_start_direct(
-            ports: u64, frame: u64, clock: *mut u32,
-            bookings: *mut u32, bookings_len: usize, credits: *mut u32, credits_len: usize, queues: *mut u32, queues_len: usize,
+            ports: u64, frame: u64, line: u64, clock: *mut u32, slots: *mut u32, slots_len: usize, rates: *mut u32, rates_len: usize,
+            credits: *mut u32, credits_len: usize, queues: *mut u32, queues_len: usize,
         ) -> u32;
         pub fn kivdrag_start_pipelined(
-            ports: u64, frame: u64, clock: *mut u32,
-            bookings: *mut u32, bookings_len: usize, credits: *mut u32, credits_len: usize, queues: *mut u32, queues_len: usize,
-            copy: *mut u32, copy_len: usize, flight: *mut u32, flight_len: usize,
+            ports: u64, frame: u64, line: u64, clock: *mut u32, slots: *mut u32, slots_len: usize, rates: *mut u32, rates_len: usize,
+            credits: *mut u32, credits_len: usize, queues: *mut u32, queues_len: usize, copy: *mut u32, copy_len: usize,
+            flight: *mut u32, flight_len: usize,
         ) -> u32;
-        pub fn kivdrag_book(clock: *const u32, bookings: *mut u32, bookings_len: usize, input: u64, output: u64, slots: u64) -> u32;
+        pub fn kivdrag_book(
+            clock: *const u32, slots: *mut u32, slots_len: usize, rates: *const u32, rates_len: usize, input: u64, output: u64, amount: u64,
+        ) -> u32;
         pub fn kivdrag_book_rate(
-            clock: *const u32, bookings: *mut u32, bookings_len: usize, input: u64, output: u64, line: u64, rate: u64,
+            clock: *const u32, slots: *const u32, slots_len: usize, rates: *mut u32, rates_len: usize, input: u64, output: u64, rate: u64,
         ) -> u32;
-        pub fn kivdrag_release(clock: *const u32, bookings: *mut u32, bookings_len: usize, input: u64, output: u64, slots: u64) -> u32;
+        pub fn kivdrag_release(
+            clock: *const u32, slots: *mut u32, slots_len: usize, rates: *const u32, rates_len: usize, input: u64, output: u64, amount: u64,
+        ) -> u32;
+        pub fn kivdrag_release_rate(
+            clock: *const u32, slots: *const u32, slots_len: usize, rates: *mut u32, rates_len: usize, input: u64, output: u64, rate: u64,
+        ) -> u32;
         pub fn kivdrag_arrive(clock: *const u32, queues: *mut u32, queues_len: usize, input: u64, output: u64, packets: u64) -> u32;
         pub fn kivdrag_tick_direct(
-            clock: *mut u32, bookings: *const u32, bookings_len: usize, credits: *mut u32, credits_len: usize,
+            clock: *mut u32, slots: *const u32, slots_len: usize, rates: *const u32, rates_len: usize, credits: *mut u32, credits_len: usize,
             queues: *mut u32, queues_len: usize, outputs: *mut u8, first_pass: *mut u32,
         ) -> u32;
         pub fn kivdrag_tick_pipelined(
-            clock: *mut u32, bookings: *const u32, bookings_len: usize, credits: *mut u32, credits_len: usize,
+            clock: *mut u32, slots: *const u32, slots_len: usize, rates: *const u32, rates_len: usize, credits: *mut u32, credits_len: usize,
             queues: *mut u32, queues_len: usize, copy: *mut u32, copy_len: usize, flight: *mut u32, flight_len: usize,
             outputs: *mut u8, first_pass: *mut u32,
         ) -> u32;
@@ -37,7 +44,7 @@ pub mod exported {
 use exported::*;
 
 /// The numbers that a caller brings, in the call's order; 0 for those that it has not.
-pub type Arguments = [u64; 4];
+pub type Arguments = [u64; 3];
 
 pub struct Call {
     pub name: &'static str,
@@ -61,95 +68,126 @@ pub struct Call {
 pub const MOST_LISTED: u64 = 9;
 
 /// Of the calls of a form its start is the first.
-pub static CALLS: [Call; 8] = [
+pub static CALLS: [Call; 9] = [
     Call {
         name: "start_direct",
         form: Some(Form::Direct),
-        questions: &[1, 2, 4],
+        questions: &[1, 2, 4, 6],
         weights: [2, 1],
-        any: any_sizes,
+        any: any_start,
         listed: |r, _, _| {
             let n = r.of(&[1, 2, 3, 4, 6, MOST_LISTED]);
-            [n, r.within(1, n + 9), 0, 0]
+            [n, r.within(1, n + 9), line_rate(r)]
         },
-        by_library: |s, _, [n, f, ..]| {
+        by_library: |s, _, [n, f, line]| {
             lent(s, |clock, w| unsafe {
                 kivdrag_start_direct(
-                    n, f, clock, w.slots.as_mut_ptr(), w.slots.len(), w.credits.as_mut_ptr(), w.credits.len(), w.queues.as_mut_ptr(), w.queues.len(),
+                    n, f, line, clock, w.slots.as_mut_ptr(), w.slots.len(), w.rates.as_mut_ptr(), w.rates.len(), w.credits.as_mut_ptr(),
+                    w.credits.len(), w.queues.as_mut_ptr(), w.queues.len(),
                 )
             })
         },
-        by_second: |s, _, [n, f, ..]| number(s.start_direct(n, f, 0, false, false)),
+        by_second: |s, _, [n, f, line]| number(s.start_direct(n, f, line, false, false)),
         noted: begin,
     },
     Call {
         name: "start_pipelined",
         form: Some(Form::Pipelined),
-        questions: &[1, 2, 3, 4],
+        questions: &[1, 2, 3, 4, 6],
         weights: [2, 1],
-        any: any_sizes,
+        any: any_start,
         listed: |r, _, _| {
             let n = r.of(&[1, 2, 3, 4, 6, MOST_LISTED]);
-            [n, r.within(n, n + 9), 0, 0]
+            [n, r.within(n, n + 9), line_rate(r)]
         },
-        by_library: |s, _, [n, f, ..]| {
+        by_library: |s, _, [n, f, line]| {
             lent(s, |clock, w| unsafe {
                 kivdrag_start_pipelined(
-                    n, f, clock, w.slots.as_mut_ptr(), w.slots.len(), w.credits.as_mut_ptr(), w.credits.len(), w.queues.as_mut_ptr(), w.queues.len(),
-                    w.copy.as_mut_ptr(), w.copy.len(), w.flight.as_mut_ptr(), w.flight.len(),
+                    n, f, line, clock, w.slots.as_mut_ptr(), w.slots.len(), w.rates.as_mut_ptr(), w.rates.len(), w.credits.as_mut_ptr(),
+                    w.credits.len(), w.queues.as_mut_ptr(), w.queues.len(), w.copy.as_mut_ptr(), w.copy.len(), w.flight.as_mut_ptr(),
+                    w.flight.len(),
                 )
             })
         },
-        by_second: |s, _, [n, f, ..]| number(s.start_pipelined(n, f, 0, false)),
+        by_second: |s, _, [n, f, line]| number(s.start_pipelined(n, f, line, false)),
         noted: begin,
     },
     Call {
         name: "book",
         form: None,
         questions: &[1, 2, 4, 5, 6, 8, 9],
-        weights: [6, 30],
+        weights: [6, 20],
         any: |r, s| {
             let (n, f) = sizes(s);
             let d = if r.one_in(3) { r.around(f) } else { r.within(1, f / n / 2 + 1) };
-            [any_port(r, n), any_port(r, n), d, 0]
+            [any_port(r, n), any_port(r, n), d]
         },
-        listed: listed_slots,
-        by_library: |s, _, [i, j, d, _]| lent(s, |clock, w| unsafe { kivdrag_book(clock, w.slots.as_mut_ptr(), w.slots.len(), i, j, d) }),
-        by_second: |s, form, [i, j, d, _]| number(s.book(form, i, j, d)),
-        noted: |l, _, a, [i, j, d, _]| latest(l).book(a.refusal, i, j, d),
+        listed: |r, s, _| [port(r, s), port(r, s), few_slots(r, s)],
+        by_library: |s, _, [i, j, d]| {
+            lent(s, |clock, w| unsafe { kivdrag_book(clock, w.slots.as_mut_ptr(), w.slots.len(), w.rates.as_ptr(), w.rates.len(), i, j, d) })
+        },
+        by_second: |s, form, [i, j, d]| number(s.book(form, i, j, d)),
+        noted: |l, _, a, [i, j, d]| latest(l).book(a.refusal, i, j, d),
     },
     Call {
         name: "book_rate",
         form: None,
         questions: &[1, 2, 4, 5, 6, 8, 9],
-        weights: [4, 30],
+        weights: [8, 60],
         any: |r, s| {
-            let (n, _) = sizes(s);
-            let line = r.around(100_000_000);
-            let rate = if r.one_in(2) { r.around(line) } else { r.within(1, line.clamp(1, 1 << 40)) / (2 * n) };
-            [any_port(r, n), any_port(r, n), line, rate]
+            let (i, j) = any_pair(r, s, &s.words.rates);
+            [i, j, if r.one_in(4) { r.around(line(s)) } else { some_rate(r, s, i, j) }]
         },
-        listed: |r, s, _| [port(r, s), port(r, s), 1_000, r.within(1, 500)],
-        by_library: |s, _, [i, j, line, rate]| {
-            lent(s, |clock, w| unsafe { kivdrag_book_rate(clock, w.slots.as_mut_ptr(), w.slots.len(), i, j, line, rate) })
+        listed: |r, s, _| {
+            let (i, j) = pair(r, s, &s.words.rates);
+            [i, j, if r.one_in(30) { r.of(&[0, line(s) + 1]) } else { some_rate(r, s, i, j) }]
         },
-        by_second: |s, form, [i, j, line, rate]| number(s.book_rate(form, i, j, line, rate)),
-        noted: |l, _, a, [i, j, line, rate]| latest(l).book_rate(a.refusal, i, j, line, rate),
+        by_library: |s, _, [i, j, rate]| {
+            lent(s, |clock, w| unsafe { kivdrag_book_rate(clock, w.slots.as_ptr(), w.slots.len(), w.rates.as_mut_ptr(), w.rates.len(), i, j, rate) })
+        },
+        by_second: |s, form, [i, j, rate]| number(s.book_rate(form, i, j, 0, rate)),
+        noted: |l, _, a, [i, j, rate]| latest(l).book_rate(a.refusal, i, j, 0, rate),
     },
     Call {
         name: "release",
         form: None,
         questions: &[1, 2, 4, 5, 6, 10],
-        weights: [4, 30],
+        weights: [4, 20],
         any: |r, s| {
             let (n, f) = sizes(s);
             let d = if r.one_in(3) { r.around(f) } else { r.within(1, 3) };
-            [any_port(r, n), any_port(r, n), d, 0]
+            [any_port(r, n), any_port(r, n), d]
         },
-        listed: listed_slots,
-        by_library: |s, _, [i, j, d, _]| lent(s, |clock, w| unsafe { kivdrag_release(clock, w.slots.as_mut_ptr(), w.slots.len(), i, j, d) }),
-        by_second: |s, _, [i, j, d, _]| number(s.release(i, j, d)),
-        noted: |l, _, a, [i, j, d, _]| latest(l).release(a.refusal, i, j, d),
+        listed: |r, s, _| {
+            let (i, j) = pair(r, s, &s.words.slots);
+            [i, j, few_slots(r, s)]
+        },
+        by_library: |s, _, [i, j, d]| {
+            lent(s, |clock, w| unsafe { kivdrag_release(clock, w.slots.as_mut_ptr(), w.slots.len(), w.rates.as_ptr(), w.rates.len(), i, j, d) })
+        },
+        by_second: |s, _, [i, j, d]| number(s.release(i, j, d)),
+        noted: |l, _, a, [i, j, d]| latest(l).release(a.refusal, i, j, d),
+    },
+    Call {
+        name: "release_rate",
+        form: None,
+        questions: &[1, 2, 4, 5, 6, 10],
+        weights: [6, 30],
+        any: |r, s| {
+            let (i, j) = any_pair(r, s, &s.words.rates);
+            [i, j, if r.one_in(4) { r.around(line(s)) } else { part_of_rate(r, s, i, j) }]
+        },
+        listed: |r, s, _| {
+            let (i, j) = pair(r, s, &s.words.rates);
+            [i, j, part_of_rate(r, s, i, j)]
+        },
+        by_library: |s, _, [i, j, rate]| {
+            lent(s, |clock, w| unsafe {
+                kivdrag_release_rate(clock, w.slots.as_ptr(), w.slots.len(), w.rates.as_mut_ptr(), w.rates.len(), i, j, rate)
+            })
+        },
+        by_second: |s, _, [i, j, rate]| number(s.release_rate(i, j, rate)),
+        noted: |l, _, a, [i, j, rate]| latest(l).release_rate(a.refusal, i, j, rate),
     },
     Call {
         name: "arrive",
@@ -159,24 +197,25 @@ pub static CALLS: [Call; 8] = [
         any: |r, s| {
             let (n, _) = sizes(s);
             let d = if r.one_in(4) { r.around(65_535) } else { r.within(1, 5) };
-            [any_port(r, n), any_port(r, n), d, 0]
+            [any_port(r, n), any_port(r, n), d]
         },
-        listed: |r, s, films| [port(r, s), port(r, s), if films { r.within(20, 90) } else { r.within(1, 3) }, 0],
-        by_library: |s, _, [i, j, d, _]| lent(s, |clock, w| unsafe { kivdrag_arrive(clock, w.queues.as_mut_ptr(), w.queues.len(), i, j, d) }),
-        by_second: |s, _, [i, j, d, _]| number(s.arrive(i, j, d)),
-        noted: |l, _, a, [i, j, d, _]| latest(l).arrive(a.refusal, i, j, d),
+        listed: |r, s, films| [port(r, s), port(r, s), if films { r.within(20, 90) } else { r.within(1, 3) }],
+        by_library: |s, _, [i, j, d]| lent(s, |clock, w| unsafe { kivdrag_arrive(clock, w.queues.as_mut_ptr(), w.queues.len(), i, j, d) }),
+        by_second: |s, _, [i, j, d]| number(s.arrive(i, j, d)),
+        noted: |l, _, a, [i, j, d]| latest(l).arrive(a.refusal, i, j, d),
     },
     Call {
         name: "tick_direct",
         form: Some(Form::Direct),
         questions: &[1, 2, 4, 7],
         weights: [16, 150],
-        any: |_, _| [0; 4],
-        listed: |_, _, _| [0; 4],
+        any: |_, _| [0; 3],
+        listed: |_, _, _| [0; 3],
         by_library: |s, _, _| {
             lent_with_answer(s, |clock, w, outputs, first| unsafe {
                 kivdrag_tick_direct(
-                    clock, w.slots.as_ptr(), w.slots.len(), w.credits.as_mut_ptr(), w.credits.len(), w.queues.as_mut_ptr(), w.queues.len(), outputs, first,
+                    clock, w.slots.as_ptr(), w.slots.len(), w.rates.as_ptr(), w.rates.len(), w.credits.as_mut_ptr(), w.credits.len(),
+                    w.queues.as_mut_ptr(), w.queues.len(), outputs, first,
                 )
             })
         },
@@ -188,13 +227,13 @@ pub static CALLS: [Call; 8] = [
         form: Some(Form::Pipelined),
         questions: &[1, 2, 3, 4, 7],
         weights: [16, 150],
-        any: |_, _| [0; 4],
-        listed: |_, _, _| [0; 4],
+        any: |_, _| [0; 3],
+        listed: |_, _, _| [0; 3],
         by_library: |s, _, _| {
             lent_with_answer(s, |clock, w, outputs, first| unsafe {
                 kivdrag_tick_pipelined(
-                    clock, w.slots.as_ptr(), w.slots.len(), w.credits.as_mut_ptr(), w.credits.len(), w.queues.as_mut_ptr(), w.queues.len(),
-                    w.copy.as_mut_ptr(), w.copy.len(), w.flight.as_mut_ptr(), w.flight.len(), outputs, first,
+                    clock, w.slots.as_ptr(), w.slots.len(), w.rates.as_ptr(), w.rates.len(), w.credits.as_mut_ptr(), w.credits.len(),
+                    w.queues.as_mut_ptr(), w.queues.len(), w.copy.as_mut_ptr(), w.copy.len(), w.flight.as_mut_ptr(), w.flight.len(), outputs, first,
                 )
             })
         },
@@ -210,9 +249,9 @@ fn number(refusal: u32) -> Answer {
 
 /// A call of the library on a switch: its clock is lent as words and read back, even where the library is not to write it.
 fn lent(s: &mut Switch, call: impl FnOnce(*mut u32, &mut Words) -> u32) -> Answer {
-    let mut clock = [s.clock.ports, s.clock.frame, s.clock.last];
+    let mut clock = [s.clock.ports, s.clock.frame, s.clock.last, s.clock.line];
     let refusal = call(clock.as_mut_ptr(), &mut s.words);
-    [s.clock.ports, s.clock.frame, s.clock.last] = clock;
+    [s.clock.ports, s.clock.frame, s.clock.last, s.clock.line] = clock;
     number(refusal)
 }
 
@@ -224,9 +263,9 @@ fn lent_with_answer(s: &mut Switch, call: impl FnOnce(*mut u32, &mut Words, *mut
 }
 
 /// An accepted start begins a ledger.
-fn begin(ledgers: &mut Vec<Ledger>, form: Form, answer: Answer, [n, f, ..]: Arguments) {
+fn begin(ledgers: &mut Vec<Ledger>, form: Form, answer: Answer, [n, f, line]: Arguments) {
     if answer.refusal == 0 {
-        ledgers.push(Ledger::start(rules(), form, n, f, 0));
+        ledgers.push(Ledger::start(rules(), form, n, f, line));
     }
 }
 
@@ -239,10 +278,20 @@ fn sizes(s: &Switch) -> (u64, u64) {
     (s.n().clamp(1, 40), s.f().clamp(1, 20_000))
 }
 
-fn any_sizes(r: &mut Random, _: &Switch) -> Arguments {
+fn any_start(r: &mut Random, _: &Switch) -> Arguments {
     let n = if r.one_in(3) { r.around(32) } else { r.within(1, 8) };
     let f = if r.one_in(3) { r.around(10_000) } else { r.within(1, 40) };
-    [n, f, 0, 0]
+    let line = if r.one_in(3) { r.around(100_000_000) } else { line_rate(r) };
+    [n, f, line]
+}
+
+/// A line rate that a start accepts; 0 seldom.
+fn line_rate(r: &mut Random) -> u64 {
+    if r.one_in(10) {
+        0
+    } else {
+        r.of(&[1, 7, 1_000, 1_000, 999_983, 100_000_000])
+    }
 }
 
 fn any_port(r: &mut Random, n: u64) -> u64 {
@@ -258,6 +307,66 @@ fn port(r: &mut Random, s: &Switch) -> u64 {
     r.within(1, s.n())
 }
 
-fn listed_slots(r: &mut Random, s: &Switch, _: bool) -> Arguments {
-    [port(r, s), port(r, s), r.within(1, (s.f() / 2).max(1)), 0]
+/// A pair that has a word above 0 in the run; none where there is none, or the run has not all pairs.
+fn holding(r: &mut Random, s: &Switch, run: &[u32]) -> Option<(u64, u64)> {
+    let all_there = s.n() <= 32 && run.len() as u64 >= s.n() * s.n();
+    let pairs = if all_there { s.pairs() } else { Vec::new() };
+    let holding: Vec<_> = pairs.into_iter().filter(|&(i, j)| run[s.at(i, j)] > 0).collect();
+    (!holding.is_empty()).then(|| r.of(&holding))
+}
+
+/// A pair, of any words and of a started switch; often one that holds something in the run.
+fn any_pair(r: &mut Random, s: &Switch, run: &[u32]) -> (u64, u64) {
+    let (n, _) = sizes(s);
+    let held = if r.one_in(2) { holding(r, s, run) } else { None };
+    held.unwrap_or_else(|| (any_port(r, n), any_port(r, n)))
+}
+
+fn pair(r: &mut Random, s: &Switch, run: &[u32]) -> (u64, u64) {
+    let held = if r.one_in(3) { None } else { holding(r, s, run) };
+    held.unwrap_or_else(|| (port(r, s), port(r, s)))
+}
+
+fn few_slots(r: &mut Random, s: &Switch) -> u64 {
+    r.within(1, (s.f() / 2).max(1))
+}
+
+fn line(s: &Switch) -> u64 {
+    s.clock.line as u64
+}
+
+/// The summed rate of a pair; 0 where there is no such pair or no such word.
+fn rate_of(s: &Switch, i: u64, j: u64) -> u64 {
+    let ports = 1..=s.n().min(32);
+    let at = (ports.contains(&i) && ports.contains(&j)).then(|| s.at(i, j));
+    at.and_then(|at| s.words.rates.get(at)).map_or(0, |&rate| rate as u64)
+}
+
+/// How much more rate fits into the last slot that the pair's rate takes, so that its booking does not rise.
+fn left_in_slot(s: &Switch, i: u64, j: u64) -> u64 {
+    let (f, line, rate) = (s.f().max(1), line(s).max(1), rate_of(s, i, j));
+    (rate * f).div_ceil(line) * line / f - rate
+}
+
+/// A rate to book: around what is left in the pair's last slot, a part of a slot, or more.
+fn some_rate(r: &mut Random, s: &Switch, i: u64, j: u64) -> u64 {
+    let ((n, f), line, left) = (sizes(s), line(s), left_in_slot(s, i, j));
+    match r.within(0, 9) {
+        0 | 1 => left.max(1),
+        2 | 3 => left + 1,
+        4 => r.within(1, left.max(1)),
+        5 | 6 => r.within(1, (line / f).max(1)),
+        7 | 8 => r.within(1, (line / n).max(1)),
+        _ => r.within(1, line.max(1)),
+    }
+}
+
+/// A rate to release: what the pair holds, a part of it, or a little more.
+fn part_of_rate(r: &mut Random, s: &Switch, i: u64, j: u64) -> u64 {
+    let rate = rate_of(s, i, j);
+    match r.within(0, 4) {
+        0 => rate,
+        1 => rate + 1,
+        _ => r.within(1, rate.max(1)),
+    }
 }

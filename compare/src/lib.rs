@@ -3,6 +3,7 @@
 use second::Rules;
 
 pub mod calls;
+pub mod tally;
 
 /// The rules in force: the file LEVEL at the repository's root holds the level.
 pub fn rules() -> Rules {

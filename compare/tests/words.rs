@@ -2,10 +2,10 @@
 //! KIVDRAG_SEED, KIVDRAG_CALLS and KIVDRAG_LISTS set another seed and other counts.
 
 use compare::calls::{Arguments, Call, CALLS, MOST_LISTED};
+use compare::tally::{Event, Line, Tally};
 use compare::{rules, setting, Random};
 use second::switch::{used, EVERY_RUN};
 use second::{Answer, Clock, Form, Run, Switch, Words};
-use std::collections::BTreeMap;
 
 const FORMS: [Form; 2] = [Form::Direct, Form::Pipelined];
 
@@ -23,7 +23,7 @@ fn drawn(r: &mut Random, form: Form, weight: fn(&Call) -> u64) -> &'static Call 
 }
 
 /// One call on both; they must agree on all of it.
-fn both(call: &Call, form: Form, arguments: Arguments, s: &mut Switch) -> Answer {
+fn both(call: &Call, form: Form, arguments: Arguments, s: &mut Switch, tally: &mut Tally) -> Answer {
     let (before, mut other) = (s.clone(), s.clone());
     let answer = (call.by_library)(s, form, arguments);
     let expected = (call.by_second)(&mut other, form, arguments);
@@ -33,6 +33,7 @@ fn both(call: &Call, form: Form, arguments: Arguments, s: &mut Switch) -> Answer
     if answer.refusal != 0 {
         assert_eq!((&*s, answer), (&before, Answer::refused(answer.refusal)), "refused: {}", said());
     }
+    tally.note(call, form, &before, s, answer);
     answer
 }
 
@@ -64,7 +65,7 @@ fn any_clock(r: &mut Random) -> Clock {
             1 => r.next() as u32,
             _ => r.within(0, 200) as u32,
         },
-        line: r.of(&[0, 1, 7, 1_000, 99_999_999, 100_000_000, 100_000_001, u32::MAX]),
+        line: if r.one_in(3) { r.of(&[0, 100_000_001, u32::MAX]) } else { r.of(&[1, 7, 1_000, 1_000, 99_999_999, 100_000_000]) },
         fine: r.one_in(2),
         islip: r.one_in(2),
         since: if r.one_in(3) { r.next() as u32 } else { r.within(0, 200) as u32 },
@@ -73,14 +74,29 @@ fn any_clock(r: &mut Random) -> Clock {
     }
 }
 
+/// A run of a book that may be near the limits of its rows and columns: in slots, and in rates, many of which end just below, at or above a slot.
+fn near_limits(r: &mut Random, clock: &Clock, run: Run, length: usize) -> Vec<u32> {
+    let (n, f, line) = (clock.ports.clamp(1, 32) as u64, clock.frame.max(1) as u64, clock.line as u64);
+    let edge = |r: &mut Random| (line * r.within(1, f / 4 + 1) / f + r.within(0, 2)).saturating_sub(1);
+    let word = |r: &mut Random| match run {
+        _ if !r.one_in(n) => 0,
+        Run::Slots => r.within(1, f / 4 + 1),
+        _ if r.one_in(2) => edge(r),
+        _ => r.within(0, line / 4),
+    };
+    (0..length).map(|_| word(r).min(u32::MAX as u64) as u32).collect()
+}
+
 /// A clock and words that nobody has to have come by through calls.
 fn any_switch(r: &mut Random) -> Switch {
     let mut s = Switch { rules: rules(), clock: any_clock(r), words: Words::default() };
     let n = s.n().min(40);
+    let limits = r.one_in(2);
     for run in EVERY_RUN {
         let words = most_used(n, run);
         let length = if r.one_in(40) { words.saturating_sub(1) } else { words + r.of(&[0, 0, 1, 5]) };
-        *s.words.run_mut(run) = any_run(r, n, length);
+        let of_book = matches!(run, Run::Slots | Run::Rates);
+        *s.words.run_mut(run) = if limits && of_book { near_limits(r, &s.clock, run, length) } else { any_run(r, n, length) };
     }
     s
 }
@@ -90,7 +106,7 @@ fn any_words_and_any_clock() {
     let mut r = Random::new(setting("KIVDRAG_SEED", 1));
     let calls = setting("KIVDRAG_CALLS", 3_000_000);
     let mut s = any_switch(&mut r);
-    let mut given: BTreeMap<&str, BTreeMap<u32, u64>> = BTreeMap::new();
+    let mut tally = Tally::default();
     for at in 0..calls {
         if at % 12 == 0 {
             s = any_switch(&mut r);
@@ -98,15 +114,74 @@ fn any_words_and_any_clock() {
         let form = r.of(&FORMS);
         let call = drawn(&mut r, form, |call| call.weights[0]);
         let arguments = (call.any)(&mut r, &s);
-        let answer = both(call, form, arguments, &mut s);
-        *given.entry(call.name).or_default().entry(answer.refusal).or_default() += 1;
+        both(call, form, arguments, &mut s, &mut tally);
     }
-    println!("{calls} calls; how often each gave each number: {given:?}");
+    println!("{calls} calls; how often each met what: {tally:?}");
+    for (call, number) in CALLS.iter().flat_map(|call| (1..=99).map(move |number| (call, number))) {
+        let gave = tally.count(call.name, Event::Gave(number));
+        assert!(gave == 0 || call.questions.contains(&number), "{} gave {number}", call.name);
+    }
+    if calls >= 100_000 {
+        enough_is_met(&tally);
+    }
+}
+
+/// Every call gave every number that it has, and often; rates changed without their bookings, and were read with line rates of every kind.
+fn enough_is_met(tally: &Tally) {
     for call in &CALLS {
-        let numbers: Vec<u32> = given.get(call.name).into_iter().flatten().map(|(&number, _)| number).collect();
-        let expected: Vec<u32> = [0].iter().chain(call.questions).copied().collect();
-        assert!(numbers.iter().all(|number| expected.contains(number)), "{} gave {numbers:?}", call.name);
-        assert!(calls < 100_000 || numbers == expected, "{} gave {numbers:?} only", call.name);
+        [0].iter().chain(call.questions).for_each(|&number| tally.at_least_one_in(100, call.name, Event::Gave(number)));
+    }
+    for name in ["book_rate", "release_rate"] {
+        tally.at_least_one_in(100, name, Event::NoBookingChanged);
+    }
+    for name in ["tick_direct", "tick_pipelined"] {
+        for line in [Line::Zero, Line::InRange, Line::Above] {
+            tally.at_least_one_in(1_000, name, Event::ReadRates(line));
+        }
+        tally.at_least_one_in(3_000, name, Event::ReadAboveWord);
+    }
+}
+
+/// A switch of one pair before its first slot.
+fn one_pair(frame: u32, line: u32, slots: u32, rate: u32) -> Switch {
+    let mut s = Switch::off(rules());
+    for run in EVERY_RUN {
+        s.words.run_mut(run).truncate(most_used(1, run) + 1);
+    }
+    (s.clock.ports, s.clock.frame, s.clock.line) = (1, frame, line);
+    (s.words.slots[0], s.words.rates[0]) = (slots, rate);
+    s
+}
+
+/// Every call on the book with every amount that is in range and one on either side, and both readings of the book.
+fn every_amount(s: &Switch, tally: &mut Tally) {
+    for (name, most) in [("book", s.clock.frame), ("release", s.clock.frame), ("book_rate", s.clock.line), ("release_rate", s.clock.line)] {
+        let call = CALLS.iter().find(|call| call.name == name).expect("a call of this name");
+        for amount in 0..=most as u64 + 1 {
+            both(call, Form::Direct, [1, 1, amount], &mut s.clone(), tally);
+        }
+    }
+    for form in FORMS {
+        let tick = CALLS.iter().find(|call| call.form == Some(form) && call.name.starts_with("tick")).expect("the form's tick");
+        both(tick, form, [0; 3], &mut s.clone(), tally);
+    }
+}
+
+/// Every small book of one pair: all ways in which a rate is rounded.
+#[test]
+fn every_small_book() {
+    let mut tally = Tally::default();
+    for (frame, line) in [1, 2, 3, 5, 8, 13].into_iter().flat_map(|frame| (0..=16).map(move |line| (frame, line))) {
+        for (slots, rate) in (0..=3).flat_map(|slots| (0..=line + 1).map(move |rate| (slots, rate))) {
+            every_amount(&one_pair(frame, line, slots, rate), &mut tally);
+        }
+    }
+    println!("small books; how often each call met what: {tally:?}");
+    for (name, numbers) in [("book", [0, 6, 8]), ("book_rate", [0, 6, 8]), ("release", [0, 6, 10]), ("release_rate", [0, 6, 10])] {
+        numbers.into_iter().for_each(|number| tally.at_least_one_in(50, name, Event::Gave(number)));
+    }
+    for name in ["book_rate", "release_rate"] {
+        tally.at_least_one_in(50, name, Event::NoBookingChanged);
     }
 }
 
@@ -114,6 +189,7 @@ fn any_words_and_any_clock() {
 fn long_lists_keep_demand_3() {
     let mut r = Random::new(setting("KIVDRAG_SEED", 1) ^ 0x5EED);
     let lists = setting("KIVDRAG_LISTS", 400);
+    let mut tally = Tally::default();
     let (mut claims, mut binding) = (0usize, 0usize);
     for _ in 0..lists {
         let form = r.of(&FORMS);
@@ -126,7 +202,7 @@ fn long_lists_keep_demand_3() {
         let mut call = CALLS.iter().find(|call| call.form == Some(form)).expect("the form's start");
         for _ in 0..=r.within(20, 400) {
             let arguments = (call.listed)(&mut r, &s, films);
-            let answer = both(call, form, arguments, &mut s);
+            let answer = both(call, form, arguments, &mut s, &mut tally);
             (call.noted)(&mut ledgers, form, answer, arguments);
             call = drawn(&mut r, form, |call| call.weights[1]);
         }
@@ -136,6 +212,20 @@ fn long_lists_keep_demand_3() {
             binding += claim.binds() as usize;
         }
     }
-    println!("{lists} lists, {claims} claims, {binding} bind");
+    println!("{lists} lists, {claims} claims, {binding} bind; how often each call met what: {tally:?}");
     assert!(binding * 100 > claims, "few claims say anything: {binding} of {claims}");
+    if lists >= 100 {
+        rates_are_met(&tally);
+    }
+}
+
+/// Rates were booked, released and read, and refused with every number that a list can lead to.
+fn rates_are_met(tally: &Tally) {
+    for (name, numbers) in [("book_rate", &[0, 6, 8, 9][..]), ("release_rate", &[0, 6, 10])] {
+        numbers.iter().for_each(|&number| tally.at_least_one_in(50, name, Event::Gave(number)));
+        tally.at_least_one_in(20, name, Event::NoBookingChanged);
+    }
+    for name in ["tick_direct", "tick_pipelined"] {
+        tally.at_least_one_in(50, name, Event::ReadRates(Line::InRange));
+    }
 }

@@ -1,0 +1,89 @@
+//! What happened at the calls of a test, and how often: a test that compares much and meets little says nothing.
+
+use crate::calls::Call;
+use second::book::{Book, MOST};
+use second::switch::MAX_LINE_RATE;
+use second::{Answer, Form, Switch};
+use std::collections::BTreeMap;
+
+#[derive(Clone, Copy, Debug, PartialEq, Eq, PartialOrd, Ord)]
+pub enum Event {
+    /// the call gave this number
+    Gave(u32),
+    /// it changed a rate, and no booking
+    NoBookingChanged,
+    /// it read a book with rates in it, where the clock has a line rate of this kind
+    ReadRates(Line),
+    /// it read a booking that is above what a word holds
+    ReadAboveWord,
+}
+
+#[derive(Clone, Copy, Debug, PartialEq, Eq, PartialOrd, Ord)]
+pub enum Line {
+    Zero,
+    InRange,
+    Above,
+}
+
+fn line_of(s: &Switch) -> Line {
+    match s.clock.line as u64 {
+        0 => Line::Zero,
+        line if line <= MAX_LINE_RATE => Line::InRange,
+        _ => Line::Above,
+    }
+}
+
+fn bookings(s: &Switch) -> Book {
+    s.standing_book(s.f())
+}
+
+/// Whether the next tick reads the book.
+fn reads_book(form: Form, s: &Switch) -> bool {
+    let ahead = if form == Form::Pipelined { 2 * s.n() } else { 0 };
+    (s.clock.last as u64 + ahead).is_multiple_of(s.f())
+}
+
+/// How often each call met each event.
+#[derive(Debug, Default)]
+pub struct Tally(BTreeMap<(&'static str, Event), u64>);
+
+impl Tally {
+    fn add(&mut self, call: &Call, event: Event) {
+        *self.0.entry((call.name, event)).or_default() += 1;
+    }
+
+    pub fn count(&self, name: &'static str, event: Event) -> u64 {
+        self.0.get(&(name, event)).copied().unwrap_or(0)
+    }
+
+    /// A call, with the switch that it found and the switch that it left.
+    pub fn note(&mut self, call: &Call, form: Form, before: &Switch, after: &Switch, answer: Answer) {
+        self.add(call, Event::Gave(answer.refusal));
+        if answer.refusal != 0 {
+            return;
+        }
+        if call.form.is_none() && before.words.rates != after.words.rates && bookings(before) == bookings(after) {
+            self.add(call, Event::NoBookingChanged);
+        }
+        if call.name.starts_with("tick") && reads_book(form, before) {
+            self.note_reading(call, before);
+        }
+    }
+
+    fn note_reading(&mut self, call: &Call, s: &Switch) {
+        let (book, words) = (bookings(s), &s.words);
+        if s.pairs().into_iter().any(|(i, j)| words.rates[s.at(i, j)] > 0) {
+            self.add(call, Event::ReadRates(line_of(s)));
+        }
+        if s.pairs().into_iter().any(|(i, j)| book.pair(i, j) == MOST && words.slots[s.at(i, j)] < u32::MAX) {
+            self.add(call, Event::ReadAboveWord);
+        }
+    }
+
+    /// Fails where the event was met in less than one of so many calls.
+    pub fn at_least_one_in(&self, many: u64, name: &'static str, event: Event) {
+        let calls: u64 = (0..=99).map(|number| self.count(name, Event::Gave(number))).sum();
+        let count = self.count(name, event);
+        assert!(count > 0 && count * many >= calls, "{name}: {event:?} {count} times in {calls} calls");
+    }
+}
