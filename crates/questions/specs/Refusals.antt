@@ -29,13 +29,13 @@ unfolding first-no
 pair-refusal c enough i j = first-no (on-pair c enough i j [])
 
 -- what a start and a tick of a form share
-unfoldable pub direct-sizes-refusal : ℕ → ℕ → Direct.Runs → ℕ
+unfoldable pub direct-runs-refusal : ℕ → ℕ → Direct.Runs → ℕ
 unfolding first-no
-direct-sizes-refusal n f w = first-no (Direct.questions n f w [])
+direct-runs-refusal n f w = first-no (Direct.questions n f w [])
 
-unfoldable pub pipelined-sizes-refusal : ℕ → ℕ → Pipelined.Runs → ℕ
+unfoldable pub pipelined-runs-refusal : ℕ → ℕ → Pipelined.Runs → ℕ
 unfolding first-no
-pipelined-sizes-refusal n f w = first-no (Pipelined.questions n f w [])
+pipelined-runs-refusal n f w = first-no (Pipelined.questions n f w [])
 
 -- the number of ports and the length of a frame are in range
 pub record SizesInRange (n f : ℕ) : Type 0 where

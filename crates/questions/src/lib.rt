@@ -9,7 +9,7 @@ ghost use Rattle.wsgs.specs.Answers.{direct-runs-of, pipelined-runs-of};
 ghost use Rattle.wsgs.specs.Direct;
 ghost use Rattle.wsgs.specs.Pipelined;
 ghost use Rattle.questions.specs.Refusals.{sizes-refusal, line-refusal, clock-refusal, pair-refusal};
-ghost use Rattle.questions.specs.Refusals.{direct-sizes-refusal, pipelined-sizes-refusal};
+ghost use Rattle.questions.specs.Refusals.{direct-runs-refusal, pipelined-runs-refusal};
 use runs::direct_runs_suffice;
 use runs::pipelined_runs_suffice;
 use wsgs::Clock;
@@ -112,7 +112,7 @@ pub fn pair_refusal(clock: Clock, enough: bool, input: Input, output: Output) ->
 }
 
 // The sizes and the runs of a direct switch: questions 1, 2 and 4.
-fn direct_sizes_refusal(
+fn direct_runs_refusal(
     ports: u64,
     frame: u64,
     slots: &[u32],
@@ -120,7 +120,7 @@ fn direct_sizes_refusal(
     credits: &[u32],
     queues: &[u32],
 ) -> u32
-    ensures result { λ r. ⌜ r ≡ direct-sizes-refusal ports frame
+    ensures result { λ r. ⌜ r ≡ direct-runs-refusal ports frame
         (direct-runs-of (now (slots .entry)) (now (rates .entry)) (now (credits .entry)) (now (queues .entry))) ⌝ }
 {
     let refusal = sizes_refusal(ports, frame);
@@ -146,7 +146,7 @@ pub fn direct_start_refusal(
     ensures result { λ r. ⌜ r ≡ Direct.start-refusal ports frame line
         (direct-runs-of (now (slots .entry)) (now (rates .entry)) (now (credits .entry)) (now (queues .entry))) ⌝ }
 {
-    let refusal = direct_sizes_refusal(ports, frame, slots, rates, credits, queues);
+    let refusal = direct_runs_refusal(ports, frame, slots, rates, credits, queues);
     if refusal != 0 {
         return refusal;
     }
@@ -165,8 +165,7 @@ pub fn direct_tick_refusal(
         (direct-runs-of (now (slots .entry)) (now (rates .entry)) (now (credits .entry)) (now (queues .entry))) ⌝ }
 {
     let ports = clock.ports as u64;
-    let frame = clock.frame as u64;
-    let refusal = direct_sizes_refusal(ports, frame, slots, rates, credits, queues);
+    let refusal = direct_runs_refusal(ports, clock.frame as u64, slots, rates, credits, queues);
     if refusal != 0 {
         return refusal;
     }
@@ -174,7 +173,7 @@ pub fn direct_tick_refusal(
 }
 
 // The sizes and the runs of a pipelined switch: questions 1 to 4.
-fn pipelined_sizes_refusal(
+fn pipelined_runs_refusal(
     ports: u64,
     frame: u64,
     slots: &[u32],
@@ -184,7 +183,7 @@ fn pipelined_sizes_refusal(
     copy: &[u32],
     flight: &[u32],
 ) -> u32
-    ensures result { λ r. ⌜ r ≡ pipelined-sizes-refusal ports frame
+    ensures result { λ r. ⌜ r ≡ pipelined-runs-refusal ports frame
         (pipelined-runs-of (now (slots .entry)) (now (rates .entry)) (now (credits .entry)) (now (queues .entry))
         (now (copy .entry)) (now (flight .entry))) ⌝ }
 {
@@ -217,16 +216,7 @@ pub fn pipelined_start_refusal(
         (pipelined-runs-of (now (slots .entry)) (now (rates .entry)) (now (credits .entry)) (now (queues .entry))
         (now (copy .entry)) (now (flight .entry))) ⌝ }
 {
-    let refusal = pipelined_sizes_refusal(
-        ports,
-        frame,
-        slots,
-        rates,
-        credits,
-        queues,
-        copy,
-        flight,
-    );
+    let refusal = pipelined_runs_refusal(ports, frame, slots, rates, credits, queues, copy, flight);
     if refusal != 0 {
         return refusal;
     }
@@ -248,10 +238,9 @@ pub fn pipelined_tick_refusal(
         (now (copy .entry)) (now (flight .entry))) ⌝ }
 {
     let ports = clock.ports as u64;
-    let frame = clock.frame as u64;
-    let refusal = pipelined_sizes_refusal(
+    let refusal = pipelined_runs_refusal(
         ports,
-        frame,
+        clock.frame as u64,
         slots,
         rates,
         credits,

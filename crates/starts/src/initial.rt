@@ -3,31 +3,40 @@ ghost use mathlib.Core.Path.{_≡_};
 ghost use Prim.Native.Nat.{_*_, _≤_};
 ghost use Rattle.wsgs.specs.Clocks.{first-clock};
 ghost use Rattle.words.specs.Runs.{clear-words};
-ghost use Rattle.questions.specs.Refusals.{SizesInRange};
+ghost use Rattle.questions.specs.Refusals.{StartInRange};
 use words::clear_words;
 use wsgs::Clock;
 
-// The clock of sizes in range, before the first slot.
-pub fn first_clock(ports: u64, frame: u64) -> Clock
-    requires sizes_in_range { ⌜ SizesInRange ports frame ⌝ }
-    ensures result { λ r. ⌜ r ≡ first-clock ports frame ⌝ }
+// The clock of numbers in range, before the first slot.
+pub fn first_clock(ports: u64, frame: u64, line: u64) -> Clock
+    requires start_in_range { ⌜ StartInRange ports frame line ⌝ }
+    ensures result { λ r. ⌜ r ≡ first-clock ports frame line ⌝ }
 {
     Clock {
         ports: ports as u32,
         frame: frame as u32,
         slot: 0,
+        line: line as u32,
     }
 }
 
 // Sets the words of all pairs to 0 in the runs that both forms have.
-pub fn clear_matrices(ports: u64, bookings: &mut [u32], credits: &mut [u32], queues: &mut [u32])
+pub fn clear_matrices(
+    ports: u64,
+    slots: &mut [u32],
+    rates: &mut [u32],
+    credits: &mut [u32],
+    queues: &mut [u32],
+)
     requires ports_in_range { ⌜ ports ≤ 32 ⌝ }
-    ensures bookings_exit { λ _. ⌜ now (bookings .exit) ≡ clear-words (ports * ports) (now (bookings .entry)) ⌝ }
+    ensures slots_exit { λ _. ⌜ now (slots .exit) ≡ clear-words (ports * ports) (now (slots .entry)) ⌝ }
+    ensures rates_exit { λ _. ⌜ now (rates .exit) ≡ clear-words (ports * ports) (now (rates .entry)) ⌝ }
     ensures credits_exit { λ _. ⌜ now (credits .exit) ≡ clear-words (ports * ports) (now (credits .entry)) ⌝ }
     ensures queues_exit { λ _. ⌜ now (queues .exit) ≡ clear-words (ports * ports) (now (queues .entry)) ⌝ }
 {
     let words = (ports * ports) as usize;
-    clear_words(bookings, words);
+    clear_words(slots, words);
+    clear_words(rates, words);
     clear_words(credits, words);
     clear_words(queues, words);
 }

@@ -19,24 +19,26 @@ use wsgs::StartResult;
 pub fn start_direct(
     ports: u64,
     frame: u64,
+    line: u64,
     clock: Clock,
-    bookings: &mut [u32],
+    slots: &mut [u32],
+    rates: &mut [u32],
     credits: &mut [u32],
     queues: &mut [u32],
 ) -> StartResult
     ensures outcome { λ r. ⌜ effect r
-        (direct-runs-of (now (bookings .exit)) (now (credits .exit)) (now (queues .exit)))
-        ≡ start-effect (Direct.start ports frame clock
-        (direct-runs-of (now (bookings .entry)) (now (credits .entry)) (now (queues .entry)))) ⌝ }
+        (direct-runs-of (now (slots .exit)) (now (rates .exit)) (now (credits .exit)) (now (queues .exit)))
+        ≡ start-effect (Direct.start ports frame line clock
+        (direct-runs-of (now (slots .entry)) (now (rates .entry)) (now (credits .entry)) (now (queues .entry)))) ⌝ }
 {
-    let refusal = direct_start_refusal(ports, frame, bookings, credits, queues);
+    let refusal = direct_start_refusal(ports, frame, line, slots, rates, credits, queues);
     if refusal != 0 {
         return StartResult { refusal, clock };
     }
-    clear_matrices(ports, bookings, credits, queues);
+    clear_matrices(ports, slots, rates, credits, queues);
     StartResult {
         refusal: 0,
-        clock: first_clock(ports, frame),
+        clock: first_clock(ports, frame, line),
     }
 }
 
@@ -44,27 +46,40 @@ pub fn start_direct(
 pub fn start_pipelined(
     ports: u64,
     frame: u64,
+    line: u64,
     clock: Clock,
-    bookings: &mut [u32],
+    slots: &mut [u32],
+    rates: &mut [u32],
     credits: &mut [u32],
     queues: &mut [u32],
     copy: &mut [u32],
     flight: &mut [u32],
 ) -> StartResult
     ensures outcome { λ r. ⌜ effect r
-        (pipelined-runs-of (now (bookings .exit)) (now (credits .exit)) (now (queues .exit)) (now (copy .exit)) (now (flight .exit)))
-        ≡ start-effect (Pipelined.start ports frame clock
-        (pipelined-runs-of (now (bookings .entry)) (now (credits .entry)) (now (queues .entry))
+        (pipelined-runs-of (now (slots .exit)) (now (rates .exit)) (now (credits .exit)) (now (queues .exit))
+        (now (copy .exit)) (now (flight .exit)))
+        ≡ start-effect (Pipelined.start ports frame line clock
+        (pipelined-runs-of (now (slots .entry)) (now (rates .entry)) (now (credits .entry)) (now (queues .entry))
         (now (copy .entry)) (now (flight .entry)))) ⌝ }
 {
-    let refusal = pipelined_start_refusal(ports, frame, bookings, credits, queues, copy, flight);
+    let refusal = pipelined_start_refusal(
+        ports,
+        frame,
+        line,
+        slots,
+        rates,
+        credits,
+        queues,
+        copy,
+        flight,
+    );
     if refusal != 0 {
         return StartResult { refusal, clock };
     }
-    clear_matrices(ports, bookings, credits, queues);
+    clear_matrices(ports, slots, rates, credits, queues);
     clear_pipeline(ports, copy, flight);
     StartResult {
         refusal: 0,
-        clock: first_clock(ports, frame),
+        clock: first_clock(ports, frame, line),
     }
 }

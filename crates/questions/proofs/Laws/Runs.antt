@@ -14,7 +14,7 @@ use Rattle.wsgs.specs.Answers.{direct-runs-of}
 use Rattle.wsgs.specs.Direct
 use Rattle.wsgs.specs.Pipelined
 use Rattle.wsgs.proofs.Laws.Questions.{none-left, asked-no, asked-yes, all-yes, rest-decides, some-no, DirectLong, PipelinedLong, direct-yes, pipelined-yes}
-use Rattle.questions.specs.Refusals.{StartInRange, on-sizes, sizes-refusal, line-refusal, clock-refusal, direct-sizes-refusal, pipelined-sizes-refusal}
+use Rattle.questions.specs.Refusals.{StartInRange, on-sizes, sizes-refusal, line-refusal, clock-refusal, direct-runs-refusal, pipelined-runs-refusal}
 use Rattle.questions.proofs.Laws.Answers.{said-no, said-yes}
 
 -- DIRECT
@@ -23,31 +23,31 @@ module _ (n f : ℕ) (w : Direct.Runs) where
   long = long-enough (Direct.runs-suffice n w)
 
   -- sizes that are refused
-  pub direct-sized : (r : ℕ) → r ≡ sizes-refusal n f → r ≢ 0 → r ≡ direct-sizes-refusal n f w
-  unfolding sizes-refusal direct-sizes-refusal
+  pub direct-sized : (r : ℕ) → r ≡ sizes-refusal n f → r ≢ 0 → r ≡ direct-runs-refusal n f w
+  unfolding sizes-refusal direct-runs-refusal
   direct-sized r = some-no (on-sizes n f) (long ∷ []) r
 
   module _ (sized : 0 ≡ sizes-refusal n f) where
-    after-sizes : first-no (long ∷ []) ≡ direct-sizes-refusal n f w
-    unfolding sizes-refusal direct-sizes-refusal
+    after-sizes : first-no (long ∷ []) ≡ direct-runs-refusal n f w
+    unfolding sizes-refusal direct-runs-refusal
     after-sizes = rest-decides (on-sizes n f) (long ∷ []) (omega arith) sized
 
     -- a run too short
-    pub direct-short : (b : Bool) → b ≡ Direct.runs-suffice n w → not b ≡ true → 4 ≡ direct-sizes-refusal n f w
+    pub direct-short : (b : Bool) → b ≡ Direct.runs-suffice n w → not b ≡ true → 4 ≡ direct-runs-refusal n f w
     direct-short b e h = asked-no _ _ (said-no e h) ∙ after-sizes
 
     -- none
-    pub direct-long : (b : Bool) → b ≡ Direct.runs-suffice n w → not b ≡ false → 0 ≡ direct-sizes-refusal n f w
+    pub direct-long : (b : Bool) → b ≡ Direct.runs-suffice n w → not b ≡ false → 0 ≡ direct-runs-refusal n f w
     direct-long b e h = none-left ∙ asked-yes _ _ (said-yes e h) ∙ after-sizes
 
 -- A START of it: sizes or runs refuse, and else the line rate decides
 module _ (n f b : ℕ) (w : Direct.Runs) where
-  pub direct-start-sized : (r : ℕ) → r ≡ direct-sizes-refusal n f w → r ≢ 0 → r ≡ Direct.start-refusal n f b w
-  unfolding direct-sizes-refusal Direct.start-refusal
+  pub direct-start-sized : (r : ℕ) → r ≡ direct-runs-refusal n f w → r ≢ 0 → r ≡ Direct.start-refusal n f b w
+  unfolding direct-runs-refusal Direct.start-refusal
   direct-start-sized r = some-no (Direct.questions n f w []) (line-in-range b ∷ []) r
 
-  pub direct-start-line : 0 ≡ direct-sizes-refusal n f w → line-refusal b ≡ Direct.start-refusal n f b w
-  unfolding direct-sizes-refusal Direct.start-refusal line-refusal
+  pub direct-start-line : 0 ≡ direct-runs-refusal n f w → line-refusal b ≡ Direct.start-refusal n f b w
+  unfolding direct-runs-refusal Direct.start-refusal line-refusal
   direct-start-line e = rest-decides (Direct.questions n f w []) (line-in-range b ∷ []) (omega arith) e
 
   -- what has been asked where none refuses
@@ -60,12 +60,12 @@ module _ (n f b : ℕ) (w : Direct.Runs) where
 
 -- A TICK of it: sizes or runs refuse likewise, and else the clock decides
 module _ (c : Clock) (w : Direct.Runs) where
-  pub direct-tick-sized : (r : ℕ) → r ≡ direct-sizes-refusal (c .ports) (c .frame) w → r ≢ 0 → r ≡ Direct.tick-refusal c w
-  unfolding direct-sizes-refusal Direct.tick-refusal
+  pub direct-tick-sized : (r : ℕ) → r ≡ direct-runs-refusal (c .ports) (c .frame) w → r ≢ 0 → r ≡ Direct.tick-refusal c w
+  unfolding direct-runs-refusal Direct.tick-refusal
   direct-tick-sized r = some-no (Direct.questions (c .ports) (c .frame) w []) (clock-can-advance (c .slot) ∷ []) r
 
-  pub direct-tick-clock : 0 ≡ direct-sizes-refusal (c .ports) (c .frame) w → clock-refusal c ≡ Direct.tick-refusal c w
-  unfolding direct-sizes-refusal Direct.tick-refusal clock-refusal
+  pub direct-tick-clock : 0 ≡ direct-runs-refusal (c .ports) (c .frame) w → clock-refusal c ≡ Direct.tick-refusal c w
+  unfolding direct-runs-refusal Direct.tick-refusal clock-refusal
   direct-tick-clock e = rest-decides (Direct.questions (c .ports) (c .frame) w []) (clock-can-advance (c .slot) ∷ []) (omega arith) e
 
 -- the runs of a pipelined switch: those of a direct one, the copy and the words in flight
@@ -103,35 +103,35 @@ module _ (n f : ℕ) (w : Pipelined.Runs) where
   later = frame-covers-ports n f ∷ long-enough (Pipelined.runs-suffice n w) ∷ []
 
   -- sizes that are refused
-  pub pipelined-sized : (r : ℕ) → r ≡ sizes-refusal n f → r ≢ 0 → r ≡ pipelined-sizes-refusal n f w
-  unfolding sizes-refusal pipelined-sizes-refusal
+  pub pipelined-sized : (r : ℕ) → r ≡ sizes-refusal n f → r ≢ 0 → r ≡ pipelined-runs-refusal n f w
+  unfolding sizes-refusal pipelined-runs-refusal
   pipelined-sized r = some-no (on-sizes n f) later r
 
   module _ (sized : 0 ≡ sizes-refusal n f) where
-    later-decides : first-no later ≡ pipelined-sizes-refusal n f w
-    unfolding sizes-refusal pipelined-sizes-refusal
+    later-decides : first-no later ≡ pipelined-runs-refusal n f w
+    unfolding sizes-refusal pipelined-runs-refusal
     later-decides = rest-decides (on-sizes n f) later (omega arith) sized
 
     -- a frame shorter than the ports
-    pub pipelined-uncovered : f < n → 3 ≡ pipelined-sizes-refusal n f w
+    pub pipelined-uncovered : f < n → 3 ≡ pipelined-runs-refusal n f w
     pipelined-uncovered h = asked-no _ _ (lt-leb n f h) ∙ later-decides
 
     -- a run too short
-    pub pipelined-short : n ≤ f → (b : Bool) → b ≡ Pipelined.runs-suffice n w → not b ≡ true → 4 ≡ pipelined-sizes-refusal n f w
+    pub pipelined-short : n ≤ f → (b : Bool) → b ≡ Pipelined.runs-suffice n w → not b ≡ true → 4 ≡ pipelined-runs-refusal n f w
     pipelined-short h b e d = asked-no _ _ (said-no e d) ∙ asked-yes _ _ (le-leb n f h) ∙ later-decides
 
     -- none
-    pub pipelined-long : n ≤ f → (b : Bool) → b ≡ Pipelined.runs-suffice n w → not b ≡ false → 0 ≡ pipelined-sizes-refusal n f w
+    pub pipelined-long : n ≤ f → (b : Bool) → b ≡ Pipelined.runs-suffice n w → not b ≡ false → 0 ≡ pipelined-runs-refusal n f w
     pipelined-long h b e d = none-left ∙ asked-yes _ _ (said-yes e d) ∙ asked-yes _ _ (le-leb n f h) ∙ later-decides
 
 -- A START of it: sizes or runs refuse, and else the line rate decides
 module _ (n f b : ℕ) (w : Pipelined.Runs) where
-  pub pipelined-start-sized : (r : ℕ) → r ≡ pipelined-sizes-refusal n f w → r ≢ 0 → r ≡ Pipelined.start-refusal n f b w
-  unfolding pipelined-sizes-refusal Pipelined.start-refusal
+  pub pipelined-start-sized : (r : ℕ) → r ≡ pipelined-runs-refusal n f w → r ≢ 0 → r ≡ Pipelined.start-refusal n f b w
+  unfolding pipelined-runs-refusal Pipelined.start-refusal
   pipelined-start-sized r = some-no (Pipelined.questions n f w []) (line-in-range b ∷ []) r
 
-  pub pipelined-start-line : 0 ≡ pipelined-sizes-refusal n f w → line-refusal b ≡ Pipelined.start-refusal n f b w
-  unfolding pipelined-sizes-refusal Pipelined.start-refusal line-refusal
+  pub pipelined-start-line : 0 ≡ pipelined-runs-refusal n f w → line-refusal b ≡ Pipelined.start-refusal n f b w
+  unfolding pipelined-runs-refusal Pipelined.start-refusal line-refusal
   pipelined-start-line e = rest-decides (Pipelined.questions n f w []) (line-in-range b ∷ []) (omega arith) e
 
   -- what has been asked where none refuses
@@ -144,10 +144,10 @@ module _ (n f b : ℕ) (w : Pipelined.Runs) where
 
 -- A TICK of it: sizes or runs refuse likewise, and else the clock decides
 module _ (c : Clock) (w : Pipelined.Runs) where
-  pub pipelined-tick-sized : (r : ℕ) → r ≡ pipelined-sizes-refusal (c .ports) (c .frame) w → r ≢ 0 → r ≡ Pipelined.tick-refusal c w
-  unfolding pipelined-sizes-refusal Pipelined.tick-refusal
+  pub pipelined-tick-sized : (r : ℕ) → r ≡ pipelined-runs-refusal (c .ports) (c .frame) w → r ≢ 0 → r ≡ Pipelined.tick-refusal c w
+  unfolding pipelined-runs-refusal Pipelined.tick-refusal
   pipelined-tick-sized r = some-no (Pipelined.questions (c .ports) (c .frame) w []) (clock-can-advance (c .slot) ∷ []) r
 
-  pub pipelined-tick-clock : 0 ≡ pipelined-sizes-refusal (c .ports) (c .frame) w → clock-refusal c ≡ Pipelined.tick-refusal c w
-  unfolding pipelined-sizes-refusal Pipelined.tick-refusal clock-refusal
+  pub pipelined-tick-clock : 0 ≡ pipelined-runs-refusal (c .ports) (c .frame) w → clock-refusal c ≡ Pipelined.tick-refusal c w
+  unfolding pipelined-runs-refusal Pipelined.tick-refusal clock-refusal
   pipelined-tick-clock e = rest-decides (Pipelined.questions (c .ports) (c .frame) w []) (clock-can-advance (c .slot) ∷ []) (omega arith) e

@@ -5,11 +5,11 @@ use Rattle.questions.proofs.Laws.Runs.{direct-start-sized, direct-start
 use Rattle.questions.proofs.direct_start_refusal.Statement.{statement}
 use Rattle.questions.proofs.direct_start_refusal.Tie as tie
 
-direct-sizes-refusal-requires : tie.Need-direct-sizes-refusal-requires
-direct-sizes-refusal-requires c κs = search needs
+direct-runs-refusal-requires : tie.Need-direct-runs-refusal-requires
+direct-runs-refusal-requires c κs = search needs
 
 returns : tie.Need-returns
-returns c = direct-start-sized _ _ _ _ _ (c .before .direct-sizes-refusal .ensures) (c .if1 .taken)
+returns c = direct-start-sized _ _ _ _ _ (c .before .direct-runs-refusal .ensures) (c .if1 .taken)
 
 line-refusal-requires : tie.Need-line-refusal-requires
 line-refusal-requires c κs = search needs
@@ -17,13 +17,13 @@ line-refusal-requires c κs = search needs
 returns-2 : tie.Need-returns-2
 returns-2 c =
     let e = c .before in
-    c .line-refusal .ensures ∙ direct-start-line _ _ _ _ (sym (e .if1 .left) ∙ e .before .direct-sizes-refusal .ensures)
+    c .line-refusal .ensures ∙ direct-start-line _ _ _ _ (sym (e .if1 .left) ∙ e .before .direct-runs-refusal .ensures)
 
 pub direct-start-refusal-spec : {M : Type 1} → statement M
 direct-start-refusal-spec =
     tie.close
     (tie.spec
-    direct-sizes-refusal-requires
+    direct-runs-refusal-requires
     returns
     line-refusal-requires
     returns-2)

@@ -8,14 +8,14 @@ use Rattle.questions.proofs.direct_tick_refusal.Tie as tie
 cast-ports : tie.Need-cast-ports
 cast-ports c = search needs
 
-cast-frame : tie.Need-cast-frame
-cast-frame c = search needs
+cast-direct-runs-refusal : tie.Need-cast-direct-runs-refusal
+cast-direct-runs-refusal c = search needs
 
-direct-sizes-refusal-requires : tie.Need-direct-sizes-refusal-requires
-direct-sizes-refusal-requires c κs = search needs
+direct-runs-refusal-requires : tie.Need-direct-runs-refusal-requires
+direct-runs-refusal-requires c κs = search needs
 
 returns : tie.Need-returns
-returns c = direct-tick-sized _ _ _ (c .before .direct-sizes-refusal .ensures) (c .if1 .taken)
+returns c = direct-tick-sized _ _ _ (c .before .direct-runs-refusal .ensures) (c .if1 .taken)
 
 clock-refusal-requires : tie.Need-clock-refusal-requires
 clock-refusal-requires c κs = search needs
@@ -23,15 +23,15 @@ clock-refusal-requires c κs = search needs
 returns-2 : tie.Need-returns-2
 returns-2 c =
     let e = c .before in
-    c .clock-refusal .ensures ∙ direct-tick-clock _ _ (sym (e .if1 .left) ∙ e .before .direct-sizes-refusal .ensures)
+    c .clock-refusal .ensures ∙ direct-tick-clock _ _ (sym (e .if1 .left) ∙ e .before .direct-runs-refusal .ensures)
 
 pub direct-tick-refusal-spec : {M : Type 1} → statement M
 direct-tick-refusal-spec =
     tie.close
     (tie.spec
     cast-ports
-    cast-frame
-    direct-sizes-refusal-requires
+    cast-direct-runs-refusal
+    direct-runs-refusal-requires
     returns
     clock-refusal-requires
     returns-2)

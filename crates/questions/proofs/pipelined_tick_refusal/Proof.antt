@@ -8,14 +8,14 @@ use Rattle.questions.proofs.pipelined_tick_refusal.Tie as tie
 cast-ports : tie.Need-cast-ports
 cast-ports c = search needs
 
-cast-frame : tie.Need-cast-frame
-cast-frame c = search needs
+cast-pipelined-runs-refusal : tie.Need-cast-pipelined-runs-refusal
+cast-pipelined-runs-refusal c = search needs
 
-pipelined-sizes-refusal-requires : tie.Need-pipelined-sizes-refusal-requires
-pipelined-sizes-refusal-requires c κs = search needs
+pipelined-runs-refusal-requires : tie.Need-pipelined-runs-refusal-requires
+pipelined-runs-refusal-requires c κs = search needs
 
 returns : tie.Need-returns
-returns c = pipelined-tick-sized _ _ _ (c .before .pipelined-sizes-refusal .ensures) (c .if1 .taken)
+returns c = pipelined-tick-sized _ _ _ (c .before .pipelined-runs-refusal .ensures) (c .if1 .taken)
 
 clock-refusal-requires : tie.Need-clock-refusal-requires
 clock-refusal-requires c κs = search needs
@@ -23,15 +23,15 @@ clock-refusal-requires c κs = search needs
 returns-2 : tie.Need-returns-2
 returns-2 c =
     let e = c .before in
-    c .clock-refusal .ensures ∙ pipelined-tick-clock _ _ (sym (e .if1 .left) ∙ e .before .pipelined-sizes-refusal .ensures)
+    c .clock-refusal .ensures ∙ pipelined-tick-clock _ _ (sym (e .if1 .left) ∙ e .before .pipelined-runs-refusal .ensures)
 
 pub pipelined-tick-refusal-spec : {M : Type 1} → statement M
 pipelined-tick-refusal-spec =
     tie.close
     (tie.spec
     cast-ports
-    cast-frame
-    pipelined-sizes-refusal-requires
+    cast-pipelined-runs-refusal
+    pipelined-runs-refusal-requires
     returns
     clock-refusal-requires
     returns-2)

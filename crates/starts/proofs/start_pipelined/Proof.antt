@@ -3,31 +3,33 @@ use mathlib.Core.Path.{_≡_, sym, _∙_}
 use borrow.Author.Needs.{needs}
 use Rattle.wsgs.specs.Answers.{pipelined-runs-of}
 use Rattle.wsgs.specs.Pipelined
-use Rattle.questions.specs.Refusals.{SizesInRange}
+use Rattle.questions.specs.Refusals.{StartInRange}
 use Rattle.questions.proofs.Laws.Runs.{pipelined-asked}
 use Rattle.starts.proofs.Laws.{pipelined-stays, pipelined-clears}
 use Rattle.starts.proofs.start_pipelined.Statement.{statement}
 use Rattle.starts.proofs.start_pipelined.Tie as tie
 
 abbrev start : tie.After-pipelined-start-refusal → tie.Start
-start c = c .before .before .before .before .before .before .before .before .before .before .before
+start c = c .before .before .before .before .before .before .before .before .before .before .before .before .before
 
 abbrev runs : tie.Start → Pipelined.Runs
-runs s = pipelined-runs-of (s .args .bookings .now) (s .args .credits .now) (s .args .queues .now) (s .args .copy .now) (s .args .flight .now)
+runs s =
+    let a = s .args in
+    pipelined-runs-of (a .slots .now) (a .rates .now) (a .credits .now) (a .queues .now) (a .copy .now) (a .flight .now)
 
 -- the start is accepted
-passed : (c : tie.Else1) → let s = start (c .before) in 0 ≡ Pipelined.start-refusal (s .args .ports) (s .args .frame) (runs s)
+passed : (c : tie.Else1) → let s = start (c .before) in 0 ≡ Pipelined.start-refusal (s .args .ports) (s .args .frame) (s .args .line) (runs s)
 passed c = sym (c .if1 .left) ∙ c .before .pipelined-start-refusal .ensures
 
--- so its sizes are in range
-sizes : (c : tie.Else1) → let s = start (c .before) in SizesInRange (s .args .ports) (s .args .frame)
-sizes c = pipelined-asked _ _ _ (passed c) .0
+-- so its numbers are in range
+numbers : (c : tie.Else1) → let s = start (c .before) in StartInRange (s .args .ports) (s .args .frame) (s .args .line)
+numbers c = pipelined-asked _ _ _ _ (passed c) .0
 
 abbrev asked : tie.After-clear-matrices → tie.Else1
-asked c = c .before .before .before .before
+asked c = c .before .before .before .before .before
 
 abbrev matrices : tie.After-clear-pipeline → tie.After-clear-matrices
-matrices c = c .before .before .before .before .before .before .before .before .before
+matrices c = c .before .before .before .before .before .before .before .before .before .before .before
 
 pipelined-start-refusal-requires : tie.Need-pipelined-start-refusal-requires
 pipelined-start-refusal-requires c κs = search needs
@@ -47,20 +49,20 @@ same-length-4 c = search needs
 same-length-5 : tie.Need-same-length-5
 same-length-5 c = search needs
 
-returns : tie.Need-returns
-returns c = pipelined-stays _ _ (runs (start (c .before))) _ _ (c .before .pipelined-start-refusal .ensures) (c .if1 .taken)
-
-clear-matrices-requires : tie.Need-clear-matrices-requires
-clear-matrices-requires c κs = sizes (c .before .before .before) .ports .1
-
-clear-pipeline-requires : tie.Need-clear-pipeline-requires
-clear-pipeline-requires c κs = sizes (asked (c .before .before .before .before .before .before .before .before)) .ports .1
-
-first-clock-requires : tie.Need-first-clock-requires
-first-clock-requires c κs = sizes (asked (matrices (c .before .before .before .before)))
-
 same-length-6 : tie.Need-same-length-6
 same-length-6 c = search needs
+
+returns : tie.Need-returns
+returns c = pipelined-stays _ _ _ (runs (start (c .before))) _ _ (c .before .pipelined-start-refusal .ensures) (c .if1 .taken)
+
+clear-matrices-requires : tie.Need-clear-matrices-requires
+clear-matrices-requires c κs = numbers (c .before .before .before .before) .sizes .ports .1
+
+clear-pipeline-requires : tie.Need-clear-pipeline-requires
+clear-pipeline-requires c κs = numbers (asked (c .before .before .before .before .before .before .before .before .before .before)) .sizes .ports .1
+
+first-clock-requires : tie.Need-first-clock-requires
+first-clock-requires c κs = numbers (asked (matrices (c .before .before .before .before)))
 
 same-length-7 : tie.Need-same-length-7
 same-length-7 c = search needs
@@ -74,13 +76,19 @@ same-length-9 c = search needs
 same-length-10 : tie.Need-same-length-10
 same-length-10 c = search needs
 
+same-length-11 : tie.Need-same-length-11
+same-length-11 c = search needs
+
+same-length-12 : tie.Need-same-length-12
+same-length-12 c = search needs
+
 returns-2 : tie.Need-returns-2
 returns-2 c =
     let v = c .before .before .before .before .before in
     let w = matrices v in
     let e = asked w in
-    pipelined-clears _ _ (runs (start (e .before))) _ (passed e) _ (c .first-clock .ensures)
-    _ _ _ _ _ (w .clear-matrices .ensures) (v .clear-pipeline .ensures)
+    pipelined-clears _ _ _ (runs (start (e .before))) _ (passed e) _ (c .first-clock .ensures)
+    _ _ _ _ _ _ (w .clear-matrices .ensures) (v .clear-pipeline .ensures)
 
 pub start-pipelined-spec : {M : Type 1} → statement M
 start-pipelined-spec =
@@ -92,13 +100,15 @@ start-pipelined-spec =
     same-length-3
     same-length-4
     same-length-5
+    same-length-6
     returns
     clear-matrices-requires
     clear-pipeline-requires
     first-clock-requires
-    same-length-6
     same-length-7
     same-length-8
     same-length-9
     same-length-10
+    same-length-11
+    same-length-12
     returns-2)

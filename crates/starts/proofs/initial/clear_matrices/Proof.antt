@@ -6,7 +6,7 @@ use Rattle.starts.proofs.initial.clear_matrices.Statement.{statement}
 use Rattle.starts.proofs.initial.clear_matrices.Tie as tie
 
 mul-words : tie.Need-mul-words
-mul-words c = let s = c .before .before .before in omega (arith, square-small (s .args .ports) (s .pre))
+mul-words c = let s = c .before .before .before .before in omega (arith, square-small (s .args .ports) (s .pre))
 
 clear-words-requires : tie.Need-clear-words-requires
 clear-words-requires c κs = search needs
@@ -17,6 +17,9 @@ clear-words-requires-2 c κs = search needs
 clear-words-requires-3 : tie.Need-clear-words-requires-3
 clear-words-requires-3 c κs = search needs
 
+clear-words-requires-4 : tie.Need-clear-words-requires-4
+clear-words-requires-4 c κs = search needs
+
 same-length : tie.Need-same-length
 same-length c = search needs
 
@@ -26,8 +29,16 @@ same-length-2 c = search needs
 same-length-3 : tie.Need-same-length-3
 same-length-3 c = search needs
 
+same-length-4 : tie.Need-same-length-4
+same-length-4 c = search needs
+
 returns : tie.Need-returns
-returns c = search needs
+returns c =
+    let q = c .before .before in
+    let k = q .before .before .before .before in
+    let r = k .before .before .before .before in
+    let s = r .before .before .before .before in
+    (s .clear-words .ensures, (r .clear-words2 .ensures, (k .clear-words3 .ensures, q .clear-words4 .ensures)))
 
 pub clear-matrices-spec : {M : Type 1} → statement M
 clear-matrices-spec =
@@ -37,7 +48,9 @@ clear-matrices-spec =
     clear-words-requires
     clear-words-requires-2
     clear-words-requires-3
+    clear-words-requires-4
     same-length
     same-length-2
     same-length-3
+    same-length-4
     returns)

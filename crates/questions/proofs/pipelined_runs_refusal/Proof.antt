@@ -1,11 +1,11 @@
--- `questions::pipelined_sizes_refusal` meets its contract: the sizes refuse, or the frame is too short, or else the runs decide.
+-- `questions::pipelined_runs_refusal` meets its contract: the sizes refuse, or the frame is too short, or else the runs decide.
 -- Assumes nothing.
 use mathlib.Core.Path.{sym, _∙_}
 use borrow.Author.Needs.{needs}
 use Rattle.questions.proofs.Laws.Pairs.{sizes-asked}
 use Rattle.questions.proofs.Laws.Runs.{pipelined-sized, pipelined-uncovered, pipelined-short, pipelined-long}
-use Rattle.questions.proofs.pipelined_sizes_refusal.Statement.{statement}
-use Rattle.questions.proofs.pipelined_sizes_refusal.Tie as tie
+use Rattle.questions.proofs.pipelined_runs_refusal.Statement.{statement}
+use Rattle.questions.proofs.pipelined_runs_refusal.Tie as tie
 
 sizes-refusal-requires : tie.Need-sizes-refusal-requires
 sizes-refusal-requires c κs = search needs
@@ -37,8 +37,8 @@ returns-4 c =
     pipelined-long _ _ _ (sym (e .if1 .left) ∙ e .before .sizes-refusal .ensures) (d .if2 .left)
     _ (c .before .pipelined-runs-suffice .ensures) (c .if3 .left)
 
-pub pipelined-sizes-refusal-spec : {M : Type 1} → statement M
-pipelined-sizes-refusal-spec =
+pub pipelined-runs-refusal-spec : {M : Type 1} → statement M
+pipelined-runs-refusal-spec =
     tie.close
     (tie.spec
     sizes-refusal-requires

@@ -1,9 +1,9 @@
--- `questions::direct_sizes_refusal` meets its contract: the sizes refuse, or else the runs decide. Assumes nothing.
+-- `questions::direct_runs_refusal` meets its contract: the sizes refuse, or else the runs decide. Assumes nothing.
 use mathlib.Core.Path.{sym, _∙_}
 use borrow.Author.Needs.{needs}
 use Rattle.questions.proofs.Laws.Runs.{direct-sized, direct-short, direct-long}
-use Rattle.questions.proofs.direct_sizes_refusal.Statement.{statement}
-use Rattle.questions.proofs.direct_sizes_refusal.Tie as tie
+use Rattle.questions.proofs.direct_runs_refusal.Statement.{statement}
+use Rattle.questions.proofs.direct_runs_refusal.Tie as tie
 
 sizes-refusal-requires : tie.Need-sizes-refusal-requires
 sizes-refusal-requires c κs = search needs
@@ -24,7 +24,7 @@ returns-3 c =
     let e = c .before .before in
     direct-long _ _ _ (sym (e .if1 .left) ∙ e .before .sizes-refusal .ensures) _ (c .before .direct-runs-suffice .ensures) (c .if2 .left)
 
-pub direct-sizes-refusal-spec : {M : Type 1} → statement M
-direct-sizes-refusal-spec =
+pub direct-runs-refusal-spec : {M : Type 1} → statement M
+direct-runs-refusal-spec =
     tie.close
     (tie.spec sizes-refusal-requires returns direct-runs-suffice-requires returns-2 returns-3)
