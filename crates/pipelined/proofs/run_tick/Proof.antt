@@ -9,10 +9,10 @@ use Rattle.pipelined.proofs.run_tick.Tie as tie
 abbrev turned : tie.After-hand-out-arg → tie.After-all-turns
 turned c = c .before .before .before .before .before .before .before
 
-abbrev copied : tie.After-all-turns → tie.After-copy-bookings
+abbrev copied : tie.After-all-turns → tie.After-renew-copy
 copied c = c .before .before .before .before .before .before .before
 
-abbrev looked : tie.After-copy-bookings → tie.After-look-ahead
+abbrev looked : tie.After-renew-copy → tie.After-look-ahead
 looked c = c .before .before
 
 abbrev start : tie.After-all-turns → tie.Start
@@ -33,8 +33,8 @@ cast-look-ahead c = search needs
 look-ahead-requires : tie.Need-look-ahead-requires
 look-ahead-requires c κs = search needs
 
-copy-bookings-requires : tie.Need-copy-bookings-requires
-copy-bookings-requires c κs = search needs
+renew-copy-requires : tie.Need-renew-copy-requires
+renew-copy-requires c κs = search needs
 
 all-turns-requires : tie.Need-all-turns-requires
 all-turns-requires c κs = search needs
@@ -67,7 +67,7 @@ returns c =
     let t = turned (h .before) in
     let b = copied t in
     let a = looked b .look-ahead .ensures in
-    ticked-left _ _ _ _ _ _ _ _ (b .copy-bookings .ensures _ _ (a .place) _ _ _) (t .all-turns .ensures _ a) (h .hand-out .ensures) (e .clear-row .ensures)
+    ticked-left _ _ _ _ _ _ _ _ (b .renew-copy .ensures _ _ (a .place) _ _ _) (t .all-turns .ensures _ a) (h .hand-out .ensures) (e .clear-row .ensures)
 
 pub run-tick-spec : {M : Type 1} → statement M
 run-tick-spec =
@@ -78,7 +78,7 @@ run-tick-spec =
     cast-time
     cast-look-ahead
     look-ahead-requires
-    copy-bookings-requires
+    renew-copy-requires
     all-turns-requires
     hand-out-requires
     add-clear-row

@@ -1,0 +1,36 @@
+-- `pipelined::renew_copy` meets its contract: both runs are long enough, so the copy is whole. Assumes nothing.
+use mathlib.Core.Path.{_∙_}
+use native.Mathlib.Omega.{arith}
+use borrow.Author.Needs.{needs}
+use Rattle.words.proofs.Laws.{copy-fits}
+use Rattle.pipelined.proofs.PipelinedTick.{copies, stands}
+use Rattle.pipelined.proofs.renew_copy.Statement.{statement}
+use Rattle.pipelined.proofs.renew_copy.Tie as tie
+
+mul-pairs : tie.Need-mul-pairs
+mul-pairs c = search needs
+
+copy-bookings-requires : tie.Need-copy-bookings-requires
+copy-bookings-requires c κs = search needs
+
+same-length : tie.Need-same-length
+same-length c = search needs
+
+returns : tie.Need-returns
+returns c = λ frame time place cr q f.
+    let w = c .before .before in
+    let t = w .before .before in
+    copies _ frame time _ _ place _ (omega arith) (w .copy-bookings .ensures ∙ copy-fits _ _ _ (omega arith) (omega arith))
+
+returns-2 : tie.Need-returns-2
+returns-2 c = λ frame time place cr q f. stands _ frame time _ _ place (c .if1 .left)
+
+pub renew-copy-spec : {M : Type 1} → statement M
+renew-copy-spec =
+    tie.close
+    (tie.spec
+    mul-pairs
+    copy-bookings-requires
+    same-length
+    returns
+    returns-2)
