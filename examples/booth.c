@@ -14,10 +14,14 @@ enum { PORTS = 4, PAIRS = PORTS * PORTS, FLIGHT = 2 * PAIRS, FRAME = 8 };
 enum { PANEL = 1, PLAYER = 2, ARCHIVE = 3 };
 enum { DESK = 1, WALL = 2 };
 
+/* A line of 1 Gbit/s, in kbit/s. */
+enum { LINE = 1000000 };
+
 /* All memory of a switch; a direct one does without copy and flight. */
 typedef struct {
     uint32_t clock[KIVDRAG_CLOCK_WORDS];
-    uint32_t bookings[PAIRS];
+    uint32_t slots[PAIRS];
+    uint32_t rates[PAIRS];
     uint32_t credits[PAIRS];
     uint32_t queues[PAIRS];
     uint32_t copy[PAIRS];
@@ -31,20 +35,25 @@ typedef struct {
 } Pairs;
 
 static uint32_t start_direct(Switch *s, unsigned frame) {
-    return kivdrag_start_direct(PORTS, frame, s->clock, s->bookings, PAIRS, s->credits, PAIRS, s->queues, PAIRS);
+    return kivdrag_start_direct(PORTS, frame, LINE, s->clock, s->slots, PAIRS, s->rates, PAIRS, s->credits, PAIRS,
+                                s->queues, PAIRS);
 }
 
 static uint32_t start_pipelined(Switch *s, unsigned frame) {
-    return kivdrag_start_pipelined(PORTS, frame, s->clock, s->bookings, PAIRS, s->credits, PAIRS, s->queues, PAIRS,
-                                   s->copy, PAIRS, s->flight, FLIGHT);
+    return kivdrag_start_pipelined(PORTS, frame, LINE, s->clock, s->slots, PAIRS, s->rates, PAIRS, s->credits, PAIRS,
+                                   s->queues, PAIRS, s->copy, PAIRS, s->flight, FLIGHT);
 }
 
-static uint32_t book(Switch *s, unsigned input, unsigned output, unsigned slots) {
-    return kivdrag_book(s->clock, s->bookings, PAIRS, input, output, slots);
+static uint32_t book(Switch *s, unsigned input, unsigned output, unsigned amount) {
+    return kivdrag_book(s->clock, s->slots, PAIRS, s->rates, PAIRS, input, output, amount);
 }
 
-static uint32_t book_rate(Switch *s, unsigned input, unsigned output, unsigned line, unsigned rate) {
-    return kivdrag_book_rate(s->clock, s->bookings, PAIRS, input, output, line, rate);
+static uint32_t book_rate(Switch *s, unsigned input, unsigned output, unsigned rate) {
+    return kivdrag_book_rate(s->clock, s->slots, PAIRS, s->rates, PAIRS, input, output, rate);
+}
+
+static uint32_t release_rate(Switch *s, unsigned input, unsigned output, unsigned rate) {
+    return kivdrag_release_rate(s->clock, s->slots, PAIRS, s->rates, PAIRS, input, output, rate);
 }
 
 static uint32_t arrive(Switch *s, unsigned input, unsigned output, unsigned packets) {
@@ -52,13 +61,19 @@ static uint32_t arrive(Switch *s, unsigned input, unsigned output, unsigned pack
 }
 
 static uint32_t tick_direct(Switch *s, Pairs *p) {
-    return kivdrag_tick_direct(s->clock, s->bookings, PAIRS, s->credits, PAIRS, s->queues, PAIRS, p->outputs,
-                               &p->first_pass);
+    return kivdrag_tick_direct(s->clock, s->slots, PAIRS, s->rates, PAIRS, s->credits, PAIRS, s->queues, PAIRS,
+                               p->outputs, &p->first_pass);
 }
 
 static uint32_t tick_pipelined(Switch *s, Pairs *p) {
-    return kivdrag_tick_pipelined(s->clock, s->bookings, PAIRS, s->credits, PAIRS, s->queues, PAIRS, s->copy, PAIRS,
-                                  s->flight, FLIGHT, p->outputs, &p->first_pass);
+    return kivdrag_tick_pipelined(s->clock, s->slots, PAIRS, s->rates, PAIRS, s->credits, PAIRS, s->queues, PAIRS,
+                                  s->copy, PAIRS, s->flight, FLIGHT, p->outputs, &p->first_pass);
+}
+
+/* A pair's booking: its slots, and the slots that the sum of its rates needs, rounded up. */
+static unsigned booking(const Switch *s, unsigned input, unsigned output) {
+    unsigned at = (input - 1) * PORTS + (output - 1);
+    return s->slots[at] + (unsigned)(((uint64_t)s->rates[at] * FRAME + LINE - 1) / LINE);
 }
 
 static void say(const char *what, uint32_t refusal) {
@@ -85,10 +100,13 @@ static void print_pairs(unsigned slot, const Pairs *p) {
 static void direct(void) {
     static Switch s;
     Pairs p;
-    say("start a direct switch of 4 ports, frames of 8 slots", start_direct(&s, FRAME));
+    say("start a direct switch of 4 ports, frames of 8 slots, lines of 1,000 Mbit/s", start_direct(&s, FRAME));
     say("book 2 slots from the panel to the desk", book(&s, PANEL, DESK, 2));
-    say("book 250 of 1,000 Mbit/s from the player to the wall", book_rate(&s, PLAYER, WALL, 1000000, 250000));
-    printf("  these are %u slots\n", (unsigned)s.bookings[(PLAYER - 1) * PORTS + (WALL - 1)]);
+    /* a slot carries 125 Mbit/s: each stream alone needs one, and all three need two */
+    for (unsigned stream = 1; stream <= 3; stream++) {
+        say("book a stream of 80 Mbit/s from the player to the wall", book_rate(&s, PLAYER, WALL, 80000));
+        printf("  slots booked: %u\n", booking(&s, PLAYER, WALL));
+    }
     /* the desk would have 5 slots booked, and 2 * 5 is above 8 + 1 */
     say("book 3 slots from the archive to the desk", book(&s, ARCHIVE, DESK, 3));
     say("queue 6 packets of a film from the player to the wall", arrive(&s, PLAYER, WALL, 6));
@@ -104,6 +122,8 @@ static void direct(void) {
         }
         print_pairs(s.clock[KIVDRAG_CLOCK_SLOT], &p);
     }
+    say("release two of the streams", release_rate(&s, PLAYER, WALL, 160000));
+    printf("  slots booked: %u\n", booking(&s, PLAYER, WALL));
 }
 
 static void pipelined(void) {

@@ -27,29 +27,32 @@ static_assert(KIVDRAG_REFUSED_OUTPUT == 9, "output");
 static_assert(KIVDRAG_REFUSED_RELEASE == 10, "release");
 static_assert(KIVDRAG_REFUSED_QUEUE == 11, "queue");
 static_assert(KIVDRAG_PORTS_MAX == 32, "most ports");
-static_assert(KIVDRAG_CLOCK_WORDS == 3, "words of a clock");
+static_assert(KIVDRAG_CLOCK_WORDS == 4, "words of a clock");
 static_assert(KIVDRAG_PAIR_WORDS(3) == 9 && KIVDRAG_PAIR_WORDS(1 + 1) == 4, "words of a run");
 static_assert(KIVDRAG_FLIGHT_WORDS(3) == 18 && KIVDRAG_FLIGHT_WORDS(1 + 1) == 8, "words in flight");
-static_assert(KIVDRAG_CLOCK_PORTS == 0 && KIVDRAG_CLOCK_FRAME == 1 && KIVDRAG_CLOCK_SLOT == 2, "places in a clock");
+static_assert(KIVDRAG_CLOCK_PORTS == 0 && KIVDRAG_CLOCK_FRAME == 1, "places in a clock");
+static_assert(KIVDRAG_CLOCK_SLOT == 2 && KIVDRAG_CLOCK_LINE == 3, "places in a clock");
 
 /* THE TYPES of the functions. Calls by position go through these pointers. */
-typedef uint32_t StartDirect(uint64_t, uint64_t, uint32_t *, uint32_t *, size_t, uint32_t *, size_t,
-                             uint32_t *, size_t);
-typedef uint32_t StartPipelined(uint64_t, uint64_t, uint32_t *, uint32_t *, size_t, uint32_t *, size_t,
-                                uint32_t *, size_t, uint32_t *, size_t, uint32_t *, size_t);
-typedef uint32_t OnPair(const uint32_t *, uint32_t *, size_t, uint64_t, uint64_t, uint64_t);
-typedef uint32_t OnPairByRate(const uint32_t *, uint32_t *, size_t, uint64_t, uint64_t, uint64_t, uint64_t);
-typedef uint32_t TickDirect(uint32_t *, const uint32_t *, size_t, uint32_t *, size_t, uint32_t *, size_t,
-                            uint8_t *, uint32_t *);
-typedef uint32_t TickPipelined(uint32_t *, const uint32_t *, size_t, uint32_t *, size_t, uint32_t *, size_t,
-                               uint32_t *, size_t, uint32_t *, size_t, uint8_t *, uint32_t *);
+typedef uint32_t StartDirect(uint64_t, uint64_t, uint64_t, uint32_t *, uint32_t *, size_t, uint32_t *, size_t,
+                             uint32_t *, size_t, uint32_t *, size_t);
+typedef uint32_t StartPipelined(uint64_t, uint64_t, uint64_t, uint32_t *, uint32_t *, size_t, uint32_t *, size_t,
+                                uint32_t *, size_t, uint32_t *, size_t, uint32_t *, size_t, uint32_t *, size_t);
+typedef uint32_t OnSlots(const uint32_t *, uint32_t *, size_t, const uint32_t *, size_t, uint64_t, uint64_t, uint64_t);
+typedef uint32_t OnRates(const uint32_t *, const uint32_t *, size_t, uint32_t *, size_t, uint64_t, uint64_t, uint64_t);
+typedef uint32_t OnQueues(const uint32_t *, uint32_t *, size_t, uint64_t, uint64_t, uint64_t);
+typedef uint32_t TickDirect(uint32_t *, const uint32_t *, size_t, const uint32_t *, size_t, uint32_t *, size_t,
+                            uint32_t *, size_t, uint8_t *, uint32_t *);
+typedef uint32_t TickPipelined(uint32_t *, const uint32_t *, size_t, const uint32_t *, size_t, uint32_t *, size_t,
+                               uint32_t *, size_t, uint32_t *, size_t, uint32_t *, size_t, uint8_t *, uint32_t *);
 
 static StartDirect *const p_start_direct = kivdrag_start_direct;
 static StartPipelined *const p_start_pipelined = kivdrag_start_pipelined;
-static OnPair *const p_book = kivdrag_book;
-static OnPairByRate *const p_book_rate = kivdrag_book_rate;
-static OnPair *const p_release = kivdrag_release;
-static OnPair *const p_arrive = kivdrag_arrive;
+static OnSlots *const p_book = kivdrag_book;
+static OnRates *const p_book_rate = kivdrag_book_rate;
+static OnSlots *const p_release = kivdrag_release;
+static OnRates *const p_release_rate = kivdrag_release_rate;
+static OnQueues *const p_arrive = kivdrag_arrive;
 static TickDirect *const p_tick_direct = kivdrag_tick_direct;
 static TickPipelined *const p_tick_pipelined = kivdrag_tick_pipelined;
 
@@ -60,6 +63,7 @@ typedef enum {
     BOOK,
     BOOK_RATE,
     RELEASE,
+    RELEASE_RATE,
     ARRIVE,
     TICK_DIRECT,
     TICK_PIPELINED,
@@ -77,11 +81,12 @@ static const struct {
     const char *name;
     unsigned answers;
 } listed[FUNCTIONS] = {
-    {"kivdrag_start_direct", ON_SWITCH},
-    {"kivdrag_start_pipelined", ON_SWITCH | BIT(KIVDRAG_REFUSED_PIPELINE)},
+    {"kivdrag_start_direct", ON_SWITCH | BIT(KIVDRAG_REFUSED_AMOUNT)},
+    {"kivdrag_start_pipelined", ON_SWITCH | BIT(KIVDRAG_REFUSED_PIPELINE) | BIT(KIVDRAG_REFUSED_AMOUNT)},
     {"kivdrag_book", ON_PAIR | BIT(KIVDRAG_REFUSED_INPUT) | BIT(KIVDRAG_REFUSED_OUTPUT)},
     {"kivdrag_book_rate", ON_PAIR | BIT(KIVDRAG_REFUSED_INPUT) | BIT(KIVDRAG_REFUSED_OUTPUT)},
     {"kivdrag_release", ON_PAIR | BIT(KIVDRAG_REFUSED_RELEASE)},
+    {"kivdrag_release_rate", ON_PAIR | BIT(KIVDRAG_REFUSED_RELEASE)},
     {"kivdrag_arrive", ON_PAIR | BIT(KIVDRAG_REFUSED_QUEUE)},
     {"kivdrag_tick_direct", ON_SWITCH | BIT(KIVDRAG_REFUSED_CLOCK)},
     {"kivdrag_tick_pipelined", ON_SWITCH | BIT(KIVDRAG_REFUSED_PIPELINE) | BIT(KIVDRAG_REFUSED_CLOCK)},
@@ -92,11 +97,12 @@ static const struct {
  * beyond, and is lent with `lengths` words. Each word begins with a value of its own, so that a wrong place shows.
  */
 #define MOST KIVDRAG_PORTS_MAX
-#define BEYOND 5
+#define BEYOND 6
 
 typedef struct {
     uint32_t clock[KIVDRAG_CLOCK_WORDS];
-    uint32_t bookings[KIVDRAG_PAIR_WORDS(MOST) + BEYOND];
+    uint32_t slots[KIVDRAG_PAIR_WORDS(MOST) + BEYOND];
+    uint32_t rates[KIVDRAG_PAIR_WORDS(MOST) + BEYOND];
     uint32_t credits[KIVDRAG_PAIR_WORDS(MOST) + BEYOND];
     uint32_t queues[KIVDRAG_PAIR_WORDS(MOST) + BEYOND];
     uint32_t copy[KIVDRAG_PAIR_WORDS(MOST) + BEYOND];
@@ -108,38 +114,41 @@ typedef struct {
 static Memory is, should;
 
 static struct {
-    size_t bookings, credits, queues, copy, flight;
+    size_t slots, rates, credits, queues, copy, flight;
 } lengths;
 
 /* The numbers that a caller brings. */
 typedef struct {
-    uint64_t ports, frame, input, output, slots, line, rate, packets;
+    uint64_t ports, frame, line, input, output, amount, rate, packets;
 } Numbers;
 
 static uint32_t by_position(Function called, const Numbers *n) {
     switch (called) {
     case START_DIRECT:
-        return p_start_direct(n->ports, n->frame, is.clock, is.bookings, lengths.bookings,
+        return p_start_direct(n->ports, n->frame, n->line, is.clock, is.slots, lengths.slots, is.rates, lengths.rates,
                               is.credits, lengths.credits, is.queues, lengths.queues);
     case START_PIPELINED:
-        return p_start_pipelined(n->ports, n->frame, is.clock, is.bookings, lengths.bookings,
-                                 is.credits, lengths.credits, is.queues, lengths.queues,
+        return p_start_pipelined(n->ports, n->frame, n->line, is.clock, is.slots, lengths.slots,
+                                 is.rates, lengths.rates, is.credits, lengths.credits, is.queues, lengths.queues,
                                  is.copy, lengths.copy, is.flight, lengths.flight);
     case BOOK:
-        return p_book(is.clock, is.bookings, lengths.bookings, n->input, n->output, n->slots);
+        return p_book(is.clock, is.slots, lengths.slots, is.rates, lengths.rates, n->input, n->output, n->amount);
     case BOOK_RATE:
-        return p_book_rate(is.clock, is.bookings, lengths.bookings, n->input, n->output, n->line, n->rate);
+        return p_book_rate(is.clock, is.slots, lengths.slots, is.rates, lengths.rates, n->input, n->output, n->rate);
     case RELEASE:
-        return p_release(is.clock, is.bookings, lengths.bookings, n->input, n->output, n->slots);
+        return p_release(is.clock, is.slots, lengths.slots, is.rates, lengths.rates, n->input, n->output, n->amount);
+    case RELEASE_RATE:
+        return p_release_rate(is.clock, is.slots, lengths.slots, is.rates, lengths.rates,
+                              n->input, n->output, n->rate);
     case ARRIVE:
         return p_arrive(is.clock, is.queues, lengths.queues, n->input, n->output, n->packets);
     case TICK_DIRECT:
-        return p_tick_direct(is.clock, is.bookings, lengths.bookings, is.credits, lengths.credits,
+        return p_tick_direct(is.clock, is.slots, lengths.slots, is.rates, lengths.rates, is.credits, lengths.credits,
                              is.queues, lengths.queues, is.outputs, &is.first_pass);
     case TICK_PIPELINED:
-        return p_tick_pipelined(is.clock, is.bookings, lengths.bookings, is.credits, lengths.credits,
-                                is.queues, lengths.queues, is.copy, lengths.copy, is.flight, lengths.flight,
-                                is.outputs, &is.first_pass);
+        return p_tick_pipelined(is.clock, is.slots, lengths.slots, is.rates, lengths.rates,
+                                is.credits, lengths.credits, is.queues, lengths.queues,
+                                is.copy, lengths.copy, is.flight, lengths.flight, is.outputs, &is.first_pass);
     case FUNCTIONS:
         break;
     }
@@ -151,25 +160,25 @@ static uint32_t by_position(Function called, const Numbers *n) {
  * The same call with its arguments put in order by the header's own names, which no compiler looks at otherwise. The
  * header is included once more, with its types defined away, and its prototype
  *
- *   uint32_t kivdrag_book(const uint32_t clock[3], uint32_t *bookings, .., uint64_t slots);
+ *   uint32_t kivdrag_book(const uint32_t clock[4], uint32_t *slots, .., uint64_t amount);
  *
- * then reads kivdrag_book(clock[3], *bookings, .., slots); which is a call on variables of these names. Where two
+ * then reads kivdrag_book(clock[4], *slots, .., amount); which is a call on variables of these names. Where two
  * names have changed places in a prototype, the call is the wrong one. (Not in C++: extern "C" cannot stand in a
  * function.)
  */
 static uint32_t by_name(Function called, const Numbers *n) {
     uint32_t refusal = UINT32_MAX;
-    uint64_t ports = n->ports, frame = n->frame, input = n->input, output = n->output;
-    uint64_t slots = n->slots, line = n->line, rate = n->rate, packets = n->packets;
-    size_t bookings_length = lengths.bookings, credits_length = lengths.credits, queues_length = lengths.queues;
-    size_t copy_length = lengths.copy, flight_length = lengths.flight;
-    /* what clock[3] and outputs[32] are, and what * is put before */
-    uint32_t *clock[3 + 1] = {0};
+    uint64_t ports = n->ports, frame = n->frame, line = n->line, input = n->input, output = n->output;
+    uint64_t amount = n->amount, rate = n->rate, packets = n->packets;
+    size_t slots_length = lengths.slots, rates_length = lengths.rates, credits_length = lengths.credits;
+    size_t queues_length = lengths.queues, copy_length = lengths.copy, flight_length = lengths.flight;
+    /* what clock[4] and outputs[32] are, and what * is put before */
+    uint32_t *clock[4 + 1] = {0};
     uint8_t *outputs[32 + 1] = {0};
-    uint32_t *lent[] = {is.bookings, is.credits, is.queues, is.copy, is.flight, &is.first_pass};
-    uint32_t **bookings = &lent[0], **credits = &lent[1], **queues = &lent[2], **copy = &lent[3], **flight = &lent[4];
-    uint32_t **first_pass = &lent[5];
-    clock[3] = is.clock;
+    uint32_t *lent[] = {is.slots, is.rates, is.credits, is.queues, is.copy, is.flight, &is.first_pass};
+    uint32_t **slots = &lent[0], **rates = &lent[1], **credits = &lent[2], **queues = &lent[3];
+    uint32_t **copy = &lent[4], **flight = &lent[5], **first_pass = &lent[6];
+    clock[4] = is.clock;
     outputs[32] = is.outputs;
 
 #undef KIVDRAG_H
@@ -183,6 +192,7 @@ static uint32_t by_name(Function called, const Numbers *n) {
 #define kivdrag_book(...) if (called == BOOK) refusal = kivdrag_book(__VA_ARGS__)
 #define kivdrag_book_rate(...) if (called == BOOK_RATE) refusal = kivdrag_book_rate(__VA_ARGS__)
 #define kivdrag_release(...) if (called == RELEASE) refusal = kivdrag_release(__VA_ARGS__)
+#define kivdrag_release_rate(...) if (called == RELEASE_RATE) refusal = kivdrag_release_rate(__VA_ARGS__)
 #define kivdrag_arrive(...) if (called == ARRIVE) refusal = kivdrag_arrive(__VA_ARGS__)
 #define kivdrag_tick_direct(...) if (called == TICK_DIRECT) refusal = kivdrag_tick_direct(__VA_ARGS__)
 #define kivdrag_tick_pipelined(...) if (called == TICK_PIPELINED) refusal = kivdrag_tick_pipelined(__VA_ARGS__)
@@ -239,37 +249,43 @@ static Call call_of(Function function, uint64_t input, uint64_t output) {
     return c;
 }
 
-static Call on_switch(Function function, uint64_t ports, uint64_t frame) {
+static Call start(Function function, uint64_t ports, uint64_t frame, uint64_t line) {
     Call c = call_of(function, UINT64_MAX, UINT64_MAX);
     c.numbers.ports = ports;
     c.numbers.frame = frame;
-    return c;
-}
-
-static Call start_direct(uint64_t ports, uint64_t frame) {
-    return on_switch(START_DIRECT, ports, frame);
-}
-
-static Call start_pipelined(uint64_t ports, uint64_t frame) {
-    return on_switch(START_PIPELINED, ports, frame);
-}
-
-static Call book(uint64_t input, uint64_t output, uint64_t slots) {
-    Call c = call_of(BOOK, input, output);
-    c.numbers.slots = slots;
-    return c;
-}
-
-static Call book_rate(uint64_t input, uint64_t output, uint64_t line, uint64_t rate) {
-    Call c = call_of(BOOK_RATE, input, output);
     c.numbers.line = line;
+    return c;
+}
+
+static Call start_direct(uint64_t ports, uint64_t frame, uint64_t line) {
+    return start(START_DIRECT, ports, frame, line);
+}
+
+static Call start_pipelined(uint64_t ports, uint64_t frame, uint64_t line) {
+    return start(START_PIPELINED, ports, frame, line);
+}
+
+static Call book(uint64_t input, uint64_t output, uint64_t amount) {
+    Call c = call_of(BOOK, input, output);
+    c.numbers.amount = amount;
+    return c;
+}
+
+static Call book_rate(uint64_t input, uint64_t output, uint64_t rate) {
+    Call c = call_of(BOOK_RATE, input, output);
     c.numbers.rate = rate;
     return c;
 }
 
-static Call release(uint64_t input, uint64_t output, uint64_t slots) {
+static Call release(uint64_t input, uint64_t output, uint64_t amount) {
     Call c = call_of(RELEASE, input, output);
-    c.numbers.slots = slots;
+    c.numbers.amount = amount;
+    return c;
+}
+
+static Call release_rate(uint64_t input, uint64_t output, uint64_t rate) {
+    Call c = call_of(RELEASE_RATE, input, output);
+    c.numbers.rate = rate;
     return c;
 }
 
@@ -298,7 +314,8 @@ static void check(int line, const char *call, uint32_t wanted, Call c) {
         differs(line, call, "the answer", SIZE_MAX, refusal, wanted);
     }
     SAME(clock);
-    SAME(bookings);
+    SAME(slots);
+    SAME(rates);
     SAME(credits);
     SAME(queues);
     SAME(copy);
@@ -318,12 +335,14 @@ static void check(int line, const char *call, uint32_t wanted, Call c) {
 #define CHECK(wanted, call) check(__LINE__, #call, (wanted), (call))
 
 /* WHAT A CALL SHOULD DO, written into `should` */
-static void should_start(uint32_t ports, uint32_t frame, int pipelined) {
+static void should_start(uint32_t ports, uint32_t frame, uint32_t line, int pipelined) {
     size_t pairs = KIVDRAG_PAIR_WORDS(ports) * sizeof(uint32_t);
     should.clock[KIVDRAG_CLOCK_PORTS] = ports;
     should.clock[KIVDRAG_CLOCK_FRAME] = frame;
     should.clock[KIVDRAG_CLOCK_SLOT] = 0;
-    memset(should.bookings, 0, pairs);
+    should.clock[KIVDRAG_CLOCK_LINE] = line;
+    memset(should.slots, 0, pairs);
+    memset(should.rates, 0, pairs);
     memset(should.credits, 0, pairs);
     memset(should.queues, 0, pairs);
     if (pipelined) {
@@ -366,19 +385,21 @@ static void fill(uint32_t *words, size_t length, uint32_t from) {
 /* Memory that somebody has used before. The runs are lent with a few words more than so many ports need. */
 static void fresh(size_t ports) {
     FILL(clock, 4000000000u);
-    FILL(bookings, 1000000);
-    FILL(credits, 2000000);
-    FILL(queues, 3000000);
-    FILL(copy, 4000000);
-    FILL(flight, 5000000);
+    FILL(slots, 1000000);
+    FILL(rates, 2000000);
+    FILL(credits, 3000000);
+    FILL(queues, 4000000);
+    FILL(copy, 5000000);
+    FILL(flight, 6000000);
     memset(is.outputs, 0xA5, sizeof is.outputs);
     is.first_pass = 0xA5A5A5A5;
     should = is;
-    lengths.bookings = KIVDRAG_PAIR_WORDS(ports) + 1;
-    lengths.credits = KIVDRAG_PAIR_WORDS(ports) + 2;
-    lengths.queues = KIVDRAG_PAIR_WORDS(ports) + 3;
-    lengths.copy = KIVDRAG_PAIR_WORDS(ports) + 4;
-    lengths.flight = KIVDRAG_FLIGHT_WORDS(ports) + 5;
+    lengths.slots = KIVDRAG_PAIR_WORDS(ports) + 1;
+    lengths.rates = KIVDRAG_PAIR_WORDS(ports) + 2;
+    lengths.credits = KIVDRAG_PAIR_WORDS(ports) + 3;
+    lengths.queues = KIVDRAG_PAIR_WORDS(ports) + 4;
+    lengths.copy = KIVDRAG_PAIR_WORDS(ports) + 5;
+    lengths.flight = KIVDRAG_FLIGHT_WORDS(ports) + 6;
 }
 
 /* THE CHECKS */
@@ -412,66 +433,104 @@ static void check_clock(int line, const char *call, Call c) {
 
 #define CHECK_CLOCK(call) check_clock(__LINE__, #call, (call))
 
+#define LINE_MAX 100000000u
+
 static void starts(void) {
     fresh(3);
-    CHECK(KIVDRAG_REFUSED_PORTS, start_direct(0, 7));
-    CHECK(KIVDRAG_REFUSED_PORTS, start_direct(33, 7));
-    CHECK(KIVDRAG_REFUSED_PORTS, start_direct(((uint64_t)1 << 32) + 3, 7));
-    CHECK(KIVDRAG_REFUSED_PORTS, start_direct(0, 0));
-    CHECK(KIVDRAG_REFUSED_FRAME, start_direct(3, 0));
-    CHECK(KIVDRAG_REFUSED_FRAME, start_direct(3, 10001));
-    CHECK(KIVDRAG_REFUSED_FRAME, start_direct(3, ((uint64_t)1 << 32) + 7));
-    CHECK(KIVDRAG_REFUSED_FRAME, start_direct(4, 0));
-    CHECK(KIVDRAG_REFUSED_RUNS, start_direct(4, 7));
-    CHECK_SHORT(bookings, 9, start_direct(3, 7));
-    CHECK_SHORT(credits, 9, start_direct(3, 7));
-    CHECK_SHORT(queues, 9, start_direct(3, 7));
-    should_start(3, 7, 0);
-    CHECK(KIVDRAG_ACCEPTED, start_direct(3, 7));
-    should_start(2, 1, 0);
-    CHECK(KIVDRAG_ACCEPTED, start_direct(2, 1));
+    CHECK(KIVDRAG_REFUSED_PORTS, start_direct(0, 7, 9));
+    CHECK(KIVDRAG_REFUSED_PORTS, start_direct(33, 7, 9));
+    CHECK(KIVDRAG_REFUSED_PORTS, start_direct(((uint64_t)1 << 32) + 3, 7, 9));
+    CHECK(KIVDRAG_REFUSED_PORTS, start_direct(0, 0, 9));
+    CHECK(KIVDRAG_REFUSED_FRAME, start_direct(3, 0, 9));
+    CHECK(KIVDRAG_REFUSED_FRAME, start_direct(3, 10001, 9));
+    CHECK(KIVDRAG_REFUSED_FRAME, start_direct(3, ((uint64_t)1 << 32) + 7, 9));
+    CHECK(KIVDRAG_REFUSED_FRAME, start_direct(4, 0, 9));
+    CHECK(KIVDRAG_REFUSED_RUNS, start_direct(4, 7, 9));
+    CHECK_SHORT(slots, 9, start_direct(3, 7, 9));
+    CHECK_SHORT(rates, 9, start_direct(3, 7, 9));
+    CHECK_SHORT(credits, 9, start_direct(3, 7, 9));
+    CHECK_SHORT(queues, 9, start_direct(3, 7, LINE_MAX + 1)); /* 4 before 6 */
+    CHECK(KIVDRAG_REFUSED_AMOUNT, start_direct(3, 7, LINE_MAX + 1));
+    CHECK(KIVDRAG_REFUSED_AMOUNT, start_direct(3, 7, ((uint64_t)1 << 32) + 9));
+    should_start(3, 7, 9, 0);
+    CHECK(KIVDRAG_ACCEPTED, start_direct(3, 7, 9));
+    should_start(2, 1, 0, 0);
+    CHECK(KIVDRAG_ACCEPTED, start_direct(2, 1, 0));
 
     fresh(3);
-    CHECK(KIVDRAG_REFUSED_PORTS, start_pipelined(0, 7));
-    CHECK(KIVDRAG_REFUSED_PORTS, start_pipelined(33, 7));
-    CHECK(KIVDRAG_REFUSED_PORTS, start_pipelined(((uint64_t)1 << 32) + 3, 7));
-    CHECK(KIVDRAG_REFUSED_FRAME, start_pipelined(3, 0));
-    CHECK(KIVDRAG_REFUSED_FRAME, start_pipelined(3, 10001));
-    CHECK(KIVDRAG_REFUSED_PIPELINE, start_pipelined(3, 2));
-    CHECK(KIVDRAG_REFUSED_PIPELINE, start_pipelined(4, 3));
-    CHECK(KIVDRAG_REFUSED_RUNS, start_pipelined(4, 4));
-    CHECK_SHORT(bookings, 9, start_pipelined(3, 7));
-    CHECK_SHORT(credits, 9, start_pipelined(3, 7));
-    CHECK_SHORT(queues, 9, start_pipelined(3, 7));
-    CHECK_SHORT(copy, 9, start_pipelined(3, 7));
-    CHECK_SHORT(flight, 18, start_pipelined(3, 7));
-    should_start(3, 3, 1);
-    CHECK(KIVDRAG_ACCEPTED, start_pipelined(3, 3));
+    CHECK(KIVDRAG_REFUSED_PORTS, start_pipelined(0, 7, 9));
+    CHECK(KIVDRAG_REFUSED_PORTS, start_pipelined(33, 7, 9));
+    CHECK(KIVDRAG_REFUSED_PORTS, start_pipelined(((uint64_t)1 << 32) + 3, 7, 9));
+    CHECK(KIVDRAG_REFUSED_FRAME, start_pipelined(3, 0, 9));
+    CHECK(KIVDRAG_REFUSED_FRAME, start_pipelined(3, 10001, 9));
+    CHECK(KIVDRAG_REFUSED_PIPELINE, start_pipelined(3, 2, 9));
+    CHECK(KIVDRAG_REFUSED_PIPELINE, start_pipelined(4, 3, LINE_MAX + 1));
+    CHECK(KIVDRAG_REFUSED_RUNS, start_pipelined(4, 4, 9));
+    CHECK_SHORT(slots, 9, start_pipelined(3, 7, 9));
+    CHECK_SHORT(rates, 9, start_pipelined(3, 7, 9));
+    CHECK_SHORT(credits, 9, start_pipelined(3, 7, 9));
+    CHECK_SHORT(queues, 9, start_pipelined(3, 7, 9));
+    CHECK_SHORT(copy, 9, start_pipelined(3, 7, 9));
+    CHECK_SHORT(flight, 18, start_pipelined(3, 7, LINE_MAX + 1)); /* 4 before 6 */
+    CHECK(KIVDRAG_REFUSED_AMOUNT, start_pipelined(3, 7, LINE_MAX + 1));
+    CHECK(KIVDRAG_REFUSED_AMOUNT, start_pipelined(3, 7, UINT64_MAX));
+    should_start(3, 3, 0, 1);
+    CHECK(KIVDRAG_ACCEPTED, start_pipelined(3, 3, 0));
 
     /* runs of just the length that is needed */
     fresh(3);
-    lengths.bookings = lengths.credits = lengths.queues = lengths.copy = 9;
+    lengths.slots = lengths.rates = lengths.credits = lengths.queues = lengths.copy = 9;
     lengths.flight = 18;
-    should_start(3, 10000, 0);
-    CHECK(KIVDRAG_ACCEPTED, start_direct(3, 10000));
-    should_start(3, 10000, 1);
-    CHECK(KIVDRAG_ACCEPTED, start_pipelined(3, 10000));
+    should_start(3, 10000, LINE_MAX, 0);
+    CHECK(KIVDRAG_ACCEPTED, start_direct(3, 10000, LINE_MAX));
+    should_start(3, 10000, LINE_MAX, 1);
+    CHECK(KIVDRAG_ACCEPTED, start_pipelined(3, 10000, LINE_MAX));
 }
 
-/* Bookings, releases and arrivals on a switch of 3 ports and frames of 7 slots, of which a line can sell 4. */
-static void calls_on_pairs(int pipelined) {
-    fresh(3);
-    should_start(3, 7, pipelined);
+/* A switch of either form, on memory that somebody has used before. */
+static void started(uint32_t ports, uint32_t frame, uint32_t line, int pipelined) {
+    fresh(ports);
+    should_start(ports, frame, line, pipelined);
     if (pipelined) {
-        CHECK(KIVDRAG_ACCEPTED, start_pipelined(3, 7));
+        CHECK(KIVDRAG_ACCEPTED, start_pipelined(ports, frame, line));
     } else {
-        CHECK(KIVDRAG_ACCEPTED, start_direct(3, 7));
+        CHECK(KIVDRAG_ACCEPTED, start_direct(ports, frame, line));
     }
+}
 
-    should.bookings[at(1, 3)] = 2;
-    CHECK(KIVDRAG_ACCEPTED, book(1, 3, 2));
+/* accepted bookings, releases and arrivals, and the word that each changes */
+static void check_book(uint32_t i, uint32_t j, uint32_t amount) {
+    should.slots[at(i, j)] += amount;
+    CHECK(KIVDRAG_ACCEPTED, book(i, j, amount));
+}
+
+static void check_book_rate(uint32_t i, uint32_t j, uint32_t rate) {
+    should.rates[at(i, j)] += rate;
+    CHECK(KIVDRAG_ACCEPTED, book_rate(i, j, rate));
+}
+
+static void check_release(uint32_t i, uint32_t j, uint32_t amount) {
+    should.slots[at(i, j)] -= amount;
+    CHECK(KIVDRAG_ACCEPTED, release(i, j, amount));
+}
+
+static void check_release_rate(uint32_t i, uint32_t j, uint32_t rate) {
+    should.rates[at(i, j)] -= rate;
+    CHECK(KIVDRAG_ACCEPTED, release_rate(i, j, rate));
+}
+
+static void check_arrive(uint32_t i, uint32_t j, uint32_t packets) {
+    should.queues[at(i, j)] += packets;
+    CHECK(KIVDRAG_ACCEPTED, arrive(i, j, packets));
+}
+
+/* On a switch of 3 ports, frames of 7 slots, of which a line can sell 4, and lines of 7,000: a slot carries 1,000. */
+static void bookings_by_slots(int pipelined) {
+    started(3, 7, 7000, pipelined);
+    check_book(1, 3, 2);
     CHECK_CLOCK(book(1, 3, 1));
-    CHECK_SHORT(bookings, 9, book(1, 3, 1));
+    CHECK_SHORT(slots, 9, book(1, 3, 1));
+    CHECK_SHORT(rates, 9, book(1, 4, 0));
     CHECK(KIVDRAG_REFUSED_PAIR, book(0, 3, 1));
     CHECK(KIVDRAG_REFUSED_PAIR, book(4, 3, 1));
     CHECK(KIVDRAG_REFUSED_PAIR, book(1, 0, 1));
@@ -484,42 +543,123 @@ static void calls_on_pairs(int pipelined) {
     CHECK(KIVDRAG_REFUSED_OUTPUT, book(2, 3, 3));
     CHECK(KIVDRAG_REFUSED_INPUT, book(1, 3, 3)); /* the output's sum would be too much too */
     CHECK(KIVDRAG_REFUSED_INPUT, book(2, 1, 7));
-    should.bookings[at(1, 1)] = 2;
-    CHECK(KIVDRAG_ACCEPTED, book(1, 1, 2));
+    check_book(1, 1, 2);
     CHECK(KIVDRAG_REFUSED_INPUT, book(1, 2, 1));
 
-    should.bookings[at(2, 3)] = 2; /* 1,001 * 7 / 7,000 is a little more than 1 */
-    CHECK(KIVDRAG_ACCEPTED, book_rate(2, 3, 7000, 1001));
-    CHECK_CLOCK(book_rate(2, 1, 7000, 1000));
-    CHECK_SHORT(bookings, 9, book_rate(2, 1, 7000, 1000));
-    CHECK(KIVDRAG_REFUSED_PAIR, book_rate(0, 1, 7000, 1000));
-    CHECK(KIVDRAG_REFUSED_PAIR, book_rate(2, 4, 0, 0));
-    CHECK(KIVDRAG_REFUSED_AMOUNT, book_rate(2, 1, 0, 1));
-    CHECK(KIVDRAG_REFUSED_AMOUNT, book_rate(2, 1, 100000001, 1));
-    CHECK(KIVDRAG_REFUSED_AMOUNT, book_rate(2, 1, 7000, 0));
-    CHECK(KIVDRAG_REFUSED_AMOUNT, book_rate(2, 1, 7000, 7001));
-    CHECK(KIVDRAG_REFUSED_OUTPUT, book_rate(3, 3, 7000, 1000));
-    CHECK(KIVDRAG_REFUSED_INPUT, book_rate(1, 2, 7000, 1000));
-    CHECK(KIVDRAG_REFUSED_INPUT, book_rate(2, 1, 7000, 7000));
-    should.bookings[at(2, 1)] = 1;
-    CHECK(KIVDRAG_ACCEPTED, book_rate(2, 1, 7000, 1000));
-    should.bookings[at(2, 1)] = 2;
-    CHECK(KIVDRAG_ACCEPTED, book_rate(2, 1, 100000000, 1));
-
-    CHECK_CLOCK(release(2, 3, 1));
-    CHECK_SHORT(bookings, 9, release(2, 3, 1));
+    CHECK_CLOCK(release(1, 3, 1));
+    CHECK_SHORT(slots, 9, release(1, 3, 1));
+    CHECK_SHORT(rates, 9, release(1, 4, 0));
     CHECK(KIVDRAG_REFUSED_PAIR, release(4, 3, 1));
-    CHECK(KIVDRAG_REFUSED_PAIR, release(2, 0, 0));
-    CHECK(KIVDRAG_REFUSED_AMOUNT, release(2, 3, 0));
-    CHECK(KIVDRAG_REFUSED_AMOUNT, release(2, 3, 8));
-    CHECK(KIVDRAG_REFUSED_RELEASE, release(2, 3, 3));
+    CHECK(KIVDRAG_REFUSED_PAIR, release(1, 0, 0));
+    CHECK(KIVDRAG_REFUSED_AMOUNT, release(1, 3, 0));
+    CHECK(KIVDRAG_REFUSED_AMOUNT, release(1, 3, 8));
+    CHECK(KIVDRAG_REFUSED_RELEASE, release(1, 3, 3));
     CHECK(KIVDRAG_REFUSED_RELEASE, release(3, 2, 1));
-    should.bookings[at(2, 3)] = 1;
-    CHECK(KIVDRAG_ACCEPTED, release(2, 3, 1));
-    should.bookings[at(2, 3)] = 0;
-    CHECK(KIVDRAG_ACCEPTED, release(2, 3, 1));
-    CHECK(KIVDRAG_REFUSED_RELEASE, release(2, 3, 1));
+    check_release(1, 3, 1);
+    check_release(1, 3, 1);
+    CHECK(KIVDRAG_REFUSED_RELEASE, release(1, 3, 1));
+}
 
+static void bookings_by_rate(int pipelined) {
+    started(3, 7, 7000, pipelined);
+    check_book(1, 3, 2);
+    check_book(1, 1, 2);
+    check_book_rate(2, 3, 1001); /* 1,001 * 7 / 7,000 is a little more than 1, and so 2 slots */
+    CHECK_CLOCK(book_rate(2, 1, 1000));
+    CHECK_SHORT(slots, 9, book_rate(2, 1, 1000));
+    CHECK_SHORT(rates, 9, book_rate(0, 1, 0));
+    CHECK(KIVDRAG_REFUSED_PAIR, book_rate(0, 1, 1000));
+    CHECK(KIVDRAG_REFUSED_PAIR, book_rate(2, 4, 0));
+    CHECK(KIVDRAG_REFUSED_AMOUNT, book_rate(2, 1, 0));
+    CHECK(KIVDRAG_REFUSED_AMOUNT, book_rate(2, 1, 7001));
+    CHECK(KIVDRAG_REFUSED_AMOUNT, book_rate(2, 1, ((uint64_t)1 << 32) + 1000));
+    CHECK(KIVDRAG_REFUSED_OUTPUT, book_rate(3, 3, 1));
+    CHECK(KIVDRAG_REFUSED_OUTPUT, book(3, 3, 1));
+    CHECK(KIVDRAG_REFUSED_INPUT, book_rate(1, 2, 1));
+    CHECK(KIVDRAG_REFUSED_INPUT, book_rate(2, 1, 7000));
+    CHECK(KIVDRAG_REFUSED_INPUT, book_rate(2, 1, 2001));
+    check_book_rate(2, 1, 1000); /* 1 slot */
+    check_book_rate(2, 1, 1);    /* 2 slots now, and input 2 has none left */
+    CHECK(KIVDRAG_REFUSED_INPUT, book(2, 2, 1));
+    CHECK(KIVDRAG_REFUSED_INPUT, book_rate(2, 2, 1));
+
+    CHECK_CLOCK(release_rate(2, 3, 1));
+    CHECK_SHORT(slots, 9, release_rate(2, 3, 1));
+    CHECK_SHORT(rates, 9, release_rate(2, 0, 0));
+    CHECK(KIVDRAG_REFUSED_PAIR, release_rate(4, 3, 1));
+    CHECK(KIVDRAG_REFUSED_PAIR, release_rate(2, 0, 0));
+    CHECK(KIVDRAG_REFUSED_AMOUNT, release_rate(2, 3, 0));
+    CHECK(KIVDRAG_REFUSED_AMOUNT, release_rate(2, 3, 7001));
+    CHECK(KIVDRAG_REFUSED_AMOUNT, release_rate(2, 3, ((uint64_t)1 << 32) + 1));
+    CHECK(KIVDRAG_REFUSED_RELEASE, release_rate(2, 3, 1002));
+    CHECK(KIVDRAG_REFUSED_RELEASE, release_rate(3, 2, 1));
+    CHECK(KIVDRAG_REFUSED_RELEASE, release_rate(1, 3, 1)); /* its 2 slots are not seen */
+    CHECK(KIVDRAG_REFUSED_RELEASE, release(2, 3, 1));      /* its rate of 2 slots is not seen */
+    check_release_rate(2, 3, 1);
+    check_book(3, 3, 1);
+    check_release_rate(2, 3, 1000);
+    CHECK(KIVDRAG_REFUSED_RELEASE, release_rate(2, 3, 1));
+    check_release_rate(2, 1, 500); /* of two bookings a part */
+}
+
+/* Small streams of a pair share slots: frames of 3 slots, of which a line can sell 2, and lines of 1,000. */
+static void small_streams(int pipelined) {
+    started(2, 3, 1000, pipelined);
+    check_book_rate(1, 1, 200); /* 1 slot */
+    check_book_rate(1, 1, 200); /* 2 slots: 400 * 3 / 1,000 is more than 1 */
+    check_book_rate(1, 1, 200); /* still 2: a rise of 0, where input and output have nothing left */
+    CHECK(KIVDRAG_REFUSED_INPUT, book_rate(1, 1, 200));
+    check_book_rate(1, 1, 66); /* 666 * 3 / 1,000 is less than 2, and 667 * 3 / 1,000 is more */
+    CHECK(KIVDRAG_REFUSED_INPUT, book_rate(1, 1, 1));
+    CHECK(KIVDRAG_REFUSED_INPUT, book(1, 2, 1));
+    CHECK(KIVDRAG_REFUSED_OUTPUT, book(2, 1, 1));
+    CHECK(KIVDRAG_REFUSED_OUTPUT, book_rate(2, 1, 1));
+    check_release_rate(1, 1, 332); /* 334 is 2 slots, and 333 is 1 */
+    CHECK(KIVDRAG_REFUSED_INPUT, book(1, 2, 1));
+    check_release_rate(1, 1, 1);
+    check_book(1, 2, 1);
+    check_release(1, 2, 1);
+    check_book(1, 1, 1); /* slots and rate of a pair are added */
+    CHECK(KIVDRAG_REFUSED_INPUT, book_rate(1, 1, 1));
+    CHECK(KIVDRAG_REFUSED_RELEASE, release(1, 1, 2));
+    check_release(1, 1, 1);
+    check_release_rate(1, 1, 333);
+
+    /* above the limit, as no calls leave it, a rise of 0 is asked too */
+    SET(rates[at(1, 1)], 700);
+    CHECK(KIVDRAG_REFUSED_INPUT, book_rate(1, 1, 1));
+    SET(rates[at(1, 1)], 500);
+    SET(slots[at(2, 1)], 1);
+    CHECK(KIVDRAG_REFUSED_OUTPUT, book_rate(1, 1, 1));
+}
+
+/* A line rate of 0, and one that only a clock of any contents holds. */
+static void line_rates(int pipelined) {
+    started(2, 3, 0, pipelined);
+    SET(rates[at(1, 1)], UINT32_MAX);
+    CHECK(KIVDRAG_REFUSED_AMOUNT, book_rate(1, 1, 1));
+    CHECK(KIVDRAG_REFUSED_AMOUNT, book_rate(1, 1, 0));
+    CHECK(KIVDRAG_REFUSED_AMOUNT, release_rate(1, 1, 1));
+    CHECK(KIVDRAG_REFUSED_AMOUNT, release_rate(1, 1, 0));
+    check_book(1, 1, 2); /* the rates count as 0 slots */
+    check_release(1, 1, 2);
+
+    SET(rates[at(1, 1)], LINE_MAX);
+    SET(clock[KIVDRAG_CLOCK_LINE], LINE_MAX + 1);
+    CHECK(KIVDRAG_REFUSED_AMOUNT, book_rate(1, 1, 1));
+    CHECK(KIVDRAG_REFUSED_AMOUNT, release_rate(1, 1, 1));
+    CHECK(KIVDRAG_REFUSED_INPUT, book(1, 2, 1)); /* these rates count as 3 slots */
+    SET(clock[KIVDRAG_CLOCK_LINE], UINT32_MAX);
+    CHECK(KIVDRAG_REFUSED_AMOUNT, book_rate(1, 1, 1));
+    CHECK(KIVDRAG_REFUSED_AMOUNT, release_rate(1, 1, 1));
+    check_book(1, 2, 1); /* now as 1 */
+    SET(clock[KIVDRAG_CLOCK_LINE], LINE_MAX);
+    check_release_rate(1, 1, LINE_MAX);
+    check_book_rate(1, 1, 1);
+}
+
+static void arrivals(int pipelined) {
+    started(3, 7, 0, pipelined);
     CHECK_CLOCK(arrive(3, 1, 1));
     CHECK_SHORT(queues, 9, arrive(3, 1, 1));
     CHECK(KIVDRAG_REFUSED_PAIR, arrive(0, 1, 1));
@@ -527,40 +667,29 @@ static void calls_on_pairs(int pipelined) {
     CHECK(KIVDRAG_REFUSED_AMOUNT, arrive(3, 1, 0));
     CHECK(KIVDRAG_REFUSED_AMOUNT, arrive(3, 1, 65536));
     for (unsigned times = 0; times < 15; times++) {
-        should.queues[at(3, 1)] += 65535;
-        CHECK(KIVDRAG_ACCEPTED, arrive(3, 1, 65535));
+        check_arrive(3, 1, 65535);
     }
     CHECK(KIVDRAG_REFUSED_QUEUE, arrive(3, 1, 16976));
-    should.queues[at(3, 1)] = 1000000;
-    CHECK(KIVDRAG_ACCEPTED, arrive(3, 1, 16975));
+    check_arrive(3, 1, 16975);
     CHECK(KIVDRAG_REFUSED_QUEUE, arrive(3, 1, 1));
-    should.queues[at(1, 3)] = 1;
-    CHECK(KIVDRAG_ACCEPTED, arrive(1, 3, 1));
+    check_arrive(1, 3, 1);
 }
 
 static void direct_ticks(void) {
-    fresh(3);
-    should_start(3, 7, 0);
-    CHECK(KIVDRAG_ACCEPTED, start_direct(3, 7));
-    should.bookings[at(1, 1)] = 1;
-    CHECK(KIVDRAG_ACCEPTED, book(1, 1, 1));
-    should.bookings[at(1, 3)] = 2;
-    CHECK(KIVDRAG_ACCEPTED, book(1, 3, 2));
-    should.bookings[at(2, 1)] = 1;
-    CHECK(KIVDRAG_ACCEPTED, book(2, 1, 1));
-    should.queues[at(1, 1)] = 5;
-    CHECK(KIVDRAG_ACCEPTED, arrive(1, 1, 5));
-    should.queues[at(1, 3)] = 1;
-    CHECK(KIVDRAG_ACCEPTED, arrive(1, 3, 1));
-    should.queues[at(2, 1)] = 5;
-    CHECK(KIVDRAG_ACCEPTED, arrive(2, 1, 5));
-    should.queues[at(3, 1)] = 1;
-    CHECK(KIVDRAG_ACCEPTED, arrive(3, 1, 1));
-    should.queues[at(3, 2)] = 2;
-    CHECK(KIVDRAG_ACCEPTED, arrive(3, 2, 2));
+    started(3, 7, 7000, 0);
+    check_book_rate(1, 1, 1); /* 1 slot */
+    check_book(1, 3, 1);
+    check_book_rate(1, 3, 1000); /* 2 slots with the other one */
+    check_book(2, 1, 1);
+    check_arrive(1, 1, 5);
+    check_arrive(1, 3, 1);
+    check_arrive(2, 1, 5);
+    check_arrive(3, 1, 1);
+    check_arrive(3, 2, 2);
 
     CHECK_CLOCK(tick_direct());
-    CHECK_SHORT(bookings, 9, tick_direct());
+    CHECK_SHORT(slots, 9, tick_direct());
+    CHECK_SHORT(rates, 9, tick_direct());
     CHECK_SHORT(credits, 9, tick_direct());
     CHECK_SHORT(queues, 9, tick_direct());
 
@@ -584,8 +713,10 @@ static void direct_ticks(void) {
     should_answer(3, 1, 0, 0, 0);
     CHECK(KIVDRAG_ACCEPTED, tick_direct());
 
-    /* the last slot that runs is 4,000,000,000; with frames of 3 slots it is the first of one */
+    /* the last slot that runs is 4,000,000,000; with frames of 3 slots it is the first of one, and with lines of 3,000
+       a slot carries 1,000 as before */
     SET(clock[KIVDRAG_CLOCK_FRAME], 3);
+    SET(clock[KIVDRAG_CLOCK_LINE], 3000);
     SET(clock[KIVDRAG_CLOCK_SLOT], UINT32_MAX);
     CHECK(KIVDRAG_REFUSED_CLOCK, tick_direct());
     SET(clock[KIVDRAG_CLOCK_SLOT], 4000000000u);
@@ -600,22 +731,53 @@ static void direct_ticks(void) {
     CHECK(KIVDRAG_REFUSED_CLOCK, tick_direct());
 }
 
+/* The booking that the credits become, where words are such as no calls leave: rates with a line rate of 0, more than
+   the largest word, and just that. */
+static void large_bookings(void) {
+    started(2, 3, 0, 0);
+    SET(slots[at(1, 1)], UINT32_MAX - 3);
+    SET(slots[at(1, 2)], UINT32_MAX - 2);
+    SET(slots[at(2, 1)], UINT32_MAX);
+    for (size_t p = 0; p < 4; p++) {
+        SET(rates[p], UINT32_MAX);
+        should.credits[p] = should.slots[p];
+    }
+    should_answer(1, 0, 0, 0, 0);
+    CHECK(KIVDRAG_ACCEPTED, tick_direct());
+
+    SET(clock[KIVDRAG_CLOCK_SLOT], 0);
+    SET(clock[KIVDRAG_CLOCK_LINE], UINT32_MAX); /* 3 slots each */
+    should.credits[at(1, 1)] = UINT32_MAX;
+    should.credits[at(1, 2)] = UINT32_MAX;
+    should.credits[at(2, 1)] = UINT32_MAX;
+    should.credits[at(2, 2)] = 3;
+    should_answer(1, 0, 0, 0, 0);
+    CHECK(KIVDRAG_ACCEPTED, tick_direct());
+
+    SET(clock[KIVDRAG_CLOCK_SLOT], 0);
+    SET(clock[KIVDRAG_CLOCK_LINE], 2); /* 3 * 4,294,967,295 / 2, and so above the largest word */
+    should.credits[at(2, 2)] = UINT32_MAX;
+    should_answer(1, 0, 0, 0, 0);
+    CHECK(KIVDRAG_ACCEPTED, tick_direct());
+}
+
+/* what the copy becomes at a reading: the bookings, 0 or 1 slot for every pair of two ports */
+static void should_copy(uint32_t word_11, uint32_t word_12, uint32_t word_21, uint32_t word_22) {
+    should.copy[at(1, 1)] = word_11;
+    should.copy[at(1, 2)] = word_12;
+    should.copy[at(2, 1)] = word_21;
+    should.copy[at(2, 2)] = word_22;
+}
+
 static void pipelined_ticks(void) {
-    fresh(2);
-    should_start(2, 4, 1);
-    CHECK(KIVDRAG_ACCEPTED, start_pipelined(2, 4));
-    should.bookings[at(1, 2)] = 1;
-    CHECK(KIVDRAG_ACCEPTED, book(1, 2, 1));
-    should.bookings[at(2, 1)] = 1;
-    CHECK(KIVDRAG_ACCEPTED, book(2, 1, 1));
-    should.bookings[at(2, 2)] = 1;
-    CHECK(KIVDRAG_ACCEPTED, book(2, 2, 1));
-    should.queues[at(1, 2)] = 3;
-    CHECK(KIVDRAG_ACCEPTED, arrive(1, 2, 3));
-    should.queues[at(2, 1)] = 2;
-    CHECK(KIVDRAG_ACCEPTED, arrive(2, 1, 2));
-    should.queues[at(2, 2)] = 2;
-    CHECK(KIVDRAG_ACCEPTED, arrive(2, 2, 2));
+    started(2, 4, 1000, 1);
+    check_book(1, 2, 1);
+    check_book_rate(2, 1, 100); /* 1 slot */
+    check_book_rate(2, 1, 150); /* still 1 */
+    check_book(2, 2, 1);
+    check_arrive(1, 2, 3);
+    check_arrive(2, 1, 2);
+    check_arrive(2, 2, 2);
 
     CHECK_CLOCK(tick_pipelined());
     SET(clock[KIVDRAG_CLOCK_FRAME], 1);
@@ -624,7 +786,8 @@ static void pipelined_ticks(void) {
     CHECK(KIVDRAG_REFUSED_PIPELINE, tick_pipelined());
     lengths.flight++;
     SET(clock[KIVDRAG_CLOCK_FRAME], 4);
-    CHECK_SHORT(bookings, 4, tick_pipelined());
+    CHECK_SHORT(slots, 4, tick_pipelined());
+    CHECK_SHORT(rates, 4, tick_pipelined());
     CHECK_SHORT(credits, 4, tick_pipelined());
     CHECK_SHORT(queues, 4, tick_pipelined());
     CHECK_SHORT(copy, 4, tick_pipelined());
@@ -632,15 +795,14 @@ static void pipelined_ticks(void) {
 
     /* time 1: slot 5 is the first of a frame, so the copy becomes the bookings and input 1 loads its credits; it takes
        output 2 for slot 5, and for slot 3 */
-    memcpy(should.copy, should.bookings, 4 * sizeof(uint32_t));
+    should_copy(0, 1, 1, 1);
     should.flight[in_flight(5, 1)] = 102;
     should.flight[in_flight(3, 1)] = 2;
     should.queues[at(1, 2)] = 1;
     should_answer(1, 0, 0, 0, 0);
     CHECK(KIVDRAG_ACCEPTED, tick_pipelined());
     /* what is released now still counts for the frame that has been read */
-    should.bookings[at(2, 1)] = 0;
-    CHECK(KIVDRAG_ACCEPTED, release(2, 1, 1));
+    check_release_rate(2, 1, 250);
     /* time 2: input 1 takes output 2 for slot 4; input 2 loads its credits and takes output 1 for slot 5, and for slot
        3, which is handed out */
     should.flight[in_flight(4, 1)] = 2;
@@ -667,7 +829,7 @@ static void pipelined_ticks(void) {
     CHECK(KIVDRAG_ACCEPTED, tick_pipelined());
     /* time 5: slot 9 is the first of a frame, so the copy is renewed and input 1 loads its credits; slot 6 is handed
        out */
-    memcpy(should.copy, should.bookings, 4 * sizeof(uint32_t));
+    should_copy(0, 1, 0, 1);
     should.credits[at(1, 2)] = 1;
     should.flight[in_flight(6, 2)] = 0;
     should_answer(5, 0, 2, 0, 2);
@@ -691,24 +853,23 @@ static void pipelined_ticks(void) {
 /* A switch of 32 ports and frames of 10,000 slots: the last input and output have the last place, number and bit. */
 static void most_ports(void) {
     fresh(32);
-    CHECK(KIVDRAG_REFUSED_PORTS, start_direct(33, 10000));
-    CHECK(KIVDRAG_REFUSED_FRAME, start_direct(32, 10001));
-    should_start(32, 10000, 0);
-    CHECK(KIVDRAG_ACCEPTED, start_direct(32, 10000));
+    CHECK(KIVDRAG_REFUSED_PORTS, start_direct(33, 10000, LINE_MAX));
+    CHECK(KIVDRAG_REFUSED_FRAME, start_direct(32, 10001, LINE_MAX));
+    started(32, 10000, LINE_MAX, 0);
     CHECK(KIVDRAG_REFUSED_INPUT, book(32, 32, 5001));
-    should.bookings[1023] = 5000;
-    CHECK(KIVDRAG_ACCEPTED, book(32, 32, 5000));
-    should.queues[1023] = 1;
-    CHECK(KIVDRAG_ACCEPTED, arrive(32, 32, 1));
+    CHECK(KIVDRAG_REFUSED_INPUT, book_rate(32, 32, 50000001));
+    check_book(32, 32, 2500);
+    check_book_rate(32, 32, 25000000);
+    CHECK(KIVDRAG_REFUSED_INPUT, book_rate(32, 32, 1));
+    check_arrive(32, 32, 1);
     should.credits[1023] = 4999;
     should.queues[1023] = 0;
     should_answer(1, 0, 0, 0, 0x80000000u);
     should.outputs[31] = 32;
     CHECK(KIVDRAG_ACCEPTED, tick_direct());
 
-    CHECK(KIVDRAG_REFUSED_PIPELINE, start_pipelined(32, 31));
-    should_start(32, 32, 1);
-    CHECK(KIVDRAG_ACCEPTED, start_pipelined(32, 32));
+    CHECK(KIVDRAG_REFUSED_PIPELINE, start_pipelined(32, 31, LINE_MAX));
+    started(32, 32, LINE_MAX, 1);
     SET(flight[in_flight(2, 32)], 132);
     should.flight[in_flight(2, 32)] = 0;
     should_answer(1, 0, 0, 0, 0x80000000u);
@@ -716,12 +877,70 @@ static void most_ports(void) {
     CHECK(KIVDRAG_ACCEPTED, tick_pipelined());
 }
 
+/*
+ * WHAT A CALL TAKES AS CONST is not written, not even with the value that it has: here it stands in memory that cannot
+ * be written, so that a store ends the program. Two ports, frames of 3 slots, of which a line can sell 2, and lines of
+ * 1,000; (1, 2) and (2, 1) hold a slot by either run.
+ */
+static const uint32_t const_clock[KIVDRAG_CLOCK_WORDS] = {2, 3, 0, 1000};
+static const uint32_t const_slots[4] = {0, 1, 1, 0}, const_rates[4] = {0, 333, 333, 0};
+
+static void expect(int line, const char *call, uint32_t wanted, uint32_t refusal) {
+    if (refusal != wanted) {
+        differs(line, call, "the answer", SIZE_MAX, refusal, wanted);
+    }
+    calls++;
+}
+
+#define EXPECT(wanted, call) expect(__LINE__, #call, (wanted), (call))
+
+static void calls_on_const(void) {
+    uint32_t slots[4] = {0, 0, 0, 0}, rates[4] = {0, 0, 0, 0}, queues[4] = {0, 0, 0, 0};
+    EXPECT(KIVDRAG_ACCEPTED, p_book(const_clock, slots, 4, const_rates, 4, 1, 1, 1));
+    EXPECT(KIVDRAG_REFUSED_INPUT, p_book(const_clock, slots, 4, const_rates, 4, 1, 1, 1));
+    EXPECT(KIVDRAG_ACCEPTED, p_release(const_clock, slots, 4, const_rates, 4, 1, 1, 1));
+    EXPECT(KIVDRAG_REFUSED_RELEASE, p_release(const_clock, slots, 4, const_rates, 4, 1, 2, 1));
+    EXPECT(KIVDRAG_ACCEPTED, p_book_rate(const_clock, const_slots, 4, rates, 4, 1, 1, 333));
+    EXPECT(KIVDRAG_REFUSED_INPUT, p_book_rate(const_clock, const_slots, 4, rates, 4, 1, 1, 1));
+    EXPECT(KIVDRAG_ACCEPTED, p_release_rate(const_clock, const_slots, 4, rates, 4, 1, 1, 333));
+    EXPECT(KIVDRAG_REFUSED_RELEASE, p_release_rate(const_clock, const_slots, 4, rates, 4, 1, 2, 1));
+    EXPECT(KIVDRAG_ACCEPTED, p_arrive(const_clock, queues, 4, 1, 1, 1));
+    EXPECT(KIVDRAG_REFUSED_AMOUNT, p_arrive(const_clock, queues, 4, 1, 1, 0));
+}
+
+static uint32_t tick_on_const(int pipelined, uint32_t slot) {
+    uint32_t clock[KIVDRAG_CLOCK_WORDS] = {2, 3, slot, 1000};
+    uint32_t credits[4] = {0, 0, 0, 0}, queues[4] = {0, 0, 0, 0}, copy[4] = {0, 0, 0, 0};
+    uint32_t flight[8] = {0, 0, 0, 0, 0, 0, 0, 0}, first_pass;
+    uint8_t outputs[32];
+    if (pipelined) {
+        return p_tick_pipelined(clock, const_slots, 4, const_rates, 4, credits, 4, queues, 4, copy, 4, flight, 8,
+                                outputs, &first_pass);
+    }
+    return p_tick_direct(clock, const_slots, 4, const_rates, 4, credits, 4, queues, 4, outputs, &first_pass);
+}
+
+static void ticks_on_const(void) {
+    EXPECT(KIVDRAG_ACCEPTED, tick_on_const(0, 0)); /* the first of a frame */
+    EXPECT(KIVDRAG_ACCEPTED, tick_on_const(0, 1));
+    EXPECT(KIVDRAG_REFUSED_CLOCK, tick_on_const(0, 4000000000u));
+    EXPECT(KIVDRAG_ACCEPTED, tick_on_const(1, 1));
+    EXPECT(KIVDRAG_ACCEPTED, tick_on_const(1, 2)); /* slot 7, 4 ahead, is the first of a frame */
+    EXPECT(KIVDRAG_REFUSED_CLOCK, tick_on_const(1, 4000000000u));
+}
+
 static void all(void) {
     memset(met, 0, sizeof met);
     starts();
-    calls_on_pairs(0);
-    calls_on_pairs(1);
+    for (int pipelined = 0; pipelined <= 1; pipelined++) {
+        bookings_by_slots(pipelined);
+        bookings_by_rate(pipelined);
+        small_streams(pipelined);
+        line_rates(pipelined);
+        arrivals(pipelined);
+    }
     direct_ticks();
+    large_bookings();
     pipelined_ticks();
     most_ports();
     for (int f = 0; f < FUNCTIONS; f++) {
@@ -732,6 +951,8 @@ static void all(void) {
 }
 
 int main(void) {
+    calls_on_const();
+    ticks_on_const();
     all();
 #ifndef __cplusplus
     make = by_name;

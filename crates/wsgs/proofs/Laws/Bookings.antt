@@ -41,7 +41,7 @@ module _ (f b : ℕ) where
 
   -- RATES
   -- nothing takes nothing
-  rate-slots-none : rate-slots f b 0 ≡ 0
+  pub rate-slots-none : rate-slots f b 0 ≡ 0
   unfolding rate-slots
   rate-slots-none = go (ℕ-discrete b 0)
     where
