@@ -1,26 +1,24 @@
-// Whether lent runs are long enough for the words of so many ports.
+// Whether the lent runs of a form are long enough for the words of so many ports.
 ghost use mathlib.Core.Path.{_≡_};
 ghost use Prim.Native.Nat.{_≤_};
-ghost use Rattle.wsgs.specs.Questions.{holds-pairs};
 ghost use Rattle.wsgs.specs.Answers.{direct-runs-of, pipelined-runs-of};
 ghost use Rattle.wsgs.specs.Direct;
 ghost use Rattle.wsgs.specs.Pipelined;
-
-// Whether a run holds the words of all pairs.
-pub fn holds_pairs(ports: u64, run: &[u32]) -> bool
-    requires ports_in_range { ⌜ ports ≤ 32 ⌝ }
-    ensures result { λ r. ⌜ r ≡ holds-pairs ports (now (run .entry)) ⌝ }
-{
-    (ports * ports) as usize <= run.len()
-}
+use crate::holds_book;
+use crate::holds_pairs;
 
 // Whether the runs of a direct switch are long enough.
-pub fn direct_runs_suffice(ports: u64, bookings: &[u32], credits: &[u32], queues: &[u32]) -> bool
-    requires ports_in_range { ⌜ ports ≤ 32 ⌝ }
+pub fn direct_runs_suffice(
+    ports: u64,
+    slots: &[u32],
+    rates: &[u32],
+    credits: &[u32],
+    queues: &[u32],
+) -> bool
     ensures result { λ r. ⌜ r ≡ Direct.runs-suffice ports
-        (direct-runs-of (now (bookings .entry)) (now (credits .entry)) (now (queues .entry))) ⌝ }
+        (direct-runs-of (now (slots .entry)) (now (rates .entry)) (now (credits .entry)) (now (queues .entry))) ⌝ }
 {
-    if !holds_pairs(ports, bookings) {
+    if !holds_book(ports, slots, rates) {
         return false;
     }
     if !holds_pairs(ports, credits) {
@@ -32,7 +30,8 @@ pub fn direct_runs_suffice(ports: u64, bookings: &[u32], credits: &[u32], queues
 // Whether those of a pipelined switch are.
 pub fn pipelined_runs_suffice(
     ports: u64,
-    bookings: &[u32],
+    slots: &[u32],
+    rates: &[u32],
     credits: &[u32],
     queues: &[u32],
     copy: &[u32],
@@ -40,10 +39,10 @@ pub fn pipelined_runs_suffice(
 ) -> bool
     requires ports_in_range { ⌜ ports ≤ 32 ⌝ }
     ensures result { λ r. ⌜ r ≡ Pipelined.runs-suffice ports
-        (pipelined-runs-of (now (bookings .entry)) (now (credits .entry)) (now (queues .entry))
+        (pipelined-runs-of (now (slots .entry)) (now (rates .entry)) (now (credits .entry)) (now (queues .entry))
         (now (copy .entry)) (now (flight .entry))) ⌝ }
 {
-    if !direct_runs_suffice(ports, bookings, credits, queues) {
+    if !direct_runs_suffice(ports, slots, rates, credits, queues) {
         return false;
     }
     if !holds_pairs(ports, copy) {

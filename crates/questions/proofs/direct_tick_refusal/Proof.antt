@@ -11,11 +11,11 @@ cast-ports c = search needs
 cast-frame : tie.Need-cast-frame
 cast-frame c = search needs
 
-direct-start-refusal-requires : tie.Need-direct-start-refusal-requires
-direct-start-refusal-requires c κs = search needs
+direct-sizes-refusal-requires : tie.Need-direct-sizes-refusal-requires
+direct-sizes-refusal-requires c κs = search needs
 
 returns : tie.Need-returns
-returns c = direct-tick-sized _ _ _ (c .before .direct-start-refusal .ensures) (c .if1 .taken)
+returns c = direct-tick-sized _ _ _ (c .before .direct-sizes-refusal .ensures) (c .if1 .taken)
 
 clock-refusal-requires : tie.Need-clock-refusal-requires
 clock-refusal-requires c κs = search needs
@@ -23,7 +23,7 @@ clock-refusal-requires c κs = search needs
 returns-2 : tie.Need-returns-2
 returns-2 c =
     let e = c .before in
-    c .clock-refusal .ensures ∙ direct-tick-clock _ _ (sym (e .if1 .left) ∙ e .before .direct-start-refusal .ensures)
+    c .clock-refusal .ensures ∙ direct-tick-clock _ _ (sym (e .if1 .left) ∙ e .before .direct-sizes-refusal .ensures)
 
 pub direct-tick-refusal-spec : {M : Type 1} → statement M
 direct-tick-refusal-spec =
@@ -31,7 +31,7 @@ direct-tick-refusal-spec =
     (tie.spec
     cast-ports
     cast-frame
-    direct-start-refusal-requires
+    direct-sizes-refusal-requires
     returns
     clock-refusal-requires
     returns-2)

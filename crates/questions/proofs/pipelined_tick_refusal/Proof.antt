@@ -11,11 +11,11 @@ cast-ports c = search needs
 cast-frame : tie.Need-cast-frame
 cast-frame c = search needs
 
-pipelined-start-refusal-requires : tie.Need-pipelined-start-refusal-requires
-pipelined-start-refusal-requires c κs = search needs
+pipelined-sizes-refusal-requires : tie.Need-pipelined-sizes-refusal-requires
+pipelined-sizes-refusal-requires c κs = search needs
 
 returns : tie.Need-returns
-returns c = pipelined-tick-sized _ _ _ (c .before .pipelined-start-refusal .ensures) (c .if1 .taken)
+returns c = pipelined-tick-sized _ _ _ (c .before .pipelined-sizes-refusal .ensures) (c .if1 .taken)
 
 clock-refusal-requires : tie.Need-clock-refusal-requires
 clock-refusal-requires c κs = search needs
@@ -23,7 +23,7 @@ clock-refusal-requires c κs = search needs
 returns-2 : tie.Need-returns-2
 returns-2 c =
     let e = c .before in
-    c .clock-refusal .ensures ∙ pipelined-tick-clock _ _ (sym (e .if1 .left) ∙ e .before .pipelined-start-refusal .ensures)
+    c .clock-refusal .ensures ∙ pipelined-tick-clock _ _ (sym (e .if1 .left) ∙ e .before .pipelined-sizes-refusal .ensures)
 
 pub pipelined-tick-refusal-spec : {M : Type 1} → statement M
 pipelined-tick-refusal-spec =
@@ -31,7 +31,7 @@ pipelined-tick-refusal-spec =
     (tie.spec
     cast-ports
     cast-frame
-    pipelined-start-refusal-requires
+    pipelined-sizes-refusal-requires
     returns
     clock-refusal-requires
     returns-2)

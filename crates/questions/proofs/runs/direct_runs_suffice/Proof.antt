@@ -4,36 +4,36 @@ use Rattle.questions.proofs.Laws.Answers.{said-no, said-yes}
 use Rattle.questions.proofs.runs.direct_runs_suffice.Statement.{statement}
 use Rattle.questions.proofs.runs.direct_runs_suffice.Tie as tie
 
-holds-pairs-requires : tie.Need-holds-pairs-requires
-holds-pairs-requires c κs = search needs
+holds-book-requires : tie.Need-holds-book-requires
+holds-book-requires c κs = search needs
 
 returns : tie.Need-returns
-returns c = rw (said-no (c .before .holds-pairs .ensures) (c .if1 .taken))
+returns c = rw (said-no (c .before .holds-book .ensures) (c .if1 .taken))
 
-holds-pairs-requires-2 : tie.Need-holds-pairs-requires-2
-holds-pairs-requires-2 c κs = search needs
+holds-pairs-requires : tie.Need-holds-pairs-requires
+holds-pairs-requires c κs = search needs
 
 returns-2 : tie.Need-returns-2
 returns-2 c =
     let e = c .before .before in
-    rw (said-yes (e .before .holds-pairs .ensures) (e .if1 .left), said-no (c .before .holds-pairs2 .ensures) (c .if2 .taken))
+    rw (said-yes (e .before .holds-book .ensures) (e .if1 .left), said-no (c .before .holds-pairs .ensures) (c .if2 .taken))
 
-holds-pairs-requires-3 : tie.Need-holds-pairs-requires-3
-holds-pairs-requires-3 c κs = search needs
+holds-pairs-requires-2 : tie.Need-holds-pairs-requires-2
+holds-pairs-requires-2 c κs = search needs
 
 returns-3 : tie.Need-returns-3
 returns-3 c =
     let d = c .before in
     let e = d .before .before in
-    rw (said-yes (e .before .holds-pairs .ensures) (e .if1 .left), said-yes (d .before .holds-pairs2 .ensures) (d .if2 .left)) (c .holds-pairs3 .ensures)
+    rw (said-yes (e .before .holds-book .ensures) (e .if1 .left), said-yes (d .before .holds-pairs .ensures) (d .if2 .left)) (c .holds-pairs2 .ensures)
 
 pub direct-runs-suffice-spec : {M : Type 1} → statement M
 direct-runs-suffice-spec =
     tie.close
     (tie.spec
-    holds-pairs-requires
+    holds-book-requires
     returns
-    holds-pairs-requires-2
+    holds-pairs-requires
     returns-2
-    holds-pairs-requires-3
+    holds-pairs-requires-2
     returns-3)

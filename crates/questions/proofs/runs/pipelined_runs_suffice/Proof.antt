@@ -9,10 +9,10 @@ use Rattle.questions.proofs.runs.pipelined_runs_suffice.Statement.{stat
 use Rattle.questions.proofs.runs.pipelined_runs_suffice.Tie as tie
 
 abbrev start : tie.After-direct-runs-suffice → tie.Start
-start c = c .before .before .before .before .before .before
+start c = c .before .before .before .before .before .before .before
 
 abbrev runs : tie.Start → Pipelined.Runs
-runs s = pipelined-runs-of (s .args .bookings .now) (s .args .credits .now) (s .args .queues .now) (s .args .copy .now) (s .args .flight .now)
+runs s = pipelined-runs-of (s .args .slots .now) (s .args .rates .now) (s .args .credits .now) (s .args .queues .now) (s .args .copy .now) (s .args .flight .now)
 
 direct-runs-suffice-requires : tie.Need-direct-runs-suffice-requires
 direct-runs-suffice-requires c κs = search needs
