@@ -8,7 +8,7 @@ use Rattle.pipelined.proofs.tick.Statement.{statement}
 use Rattle.pipelined.proofs.tick.Tie as tie
 
 -- what an accepted tick found
-found : (c : tie.Else1) → let a = c .before .before .before .before .before .before .before .before .before .before .before .args in
+found : (c : tie.Else1) → let a = c .before .before .before .before .before .before .before .before .before .before .before .before .args in
     TickConditions (a .clock) (pipelined-runs-of (a .slots .now) (a .rates .now) (a .credits .now) (a .queues .now) (a .copy .now) (a .flight .now))
 found c = accepted-found _ _ (sym (c .before .pipelined-tick-refusal .ensures) ∙ omega arith)
 
