@@ -3,6 +3,8 @@ ghost use mathlib.Core.Path.{_≡_};
 ghost use Prim.Native.Nat.{_-_, _^_, _≤_, _<_};
 ghost use lib.ListN.{length, getD, set};
 ghost use Rattle.wsgs.specs.Words.{copied};
+ghost use Rattle.wsgs.specs.Bookings.{booking-words};
+use bookings::booking;
 use wsgs::BookedSlots;
 use wsgs::Credits;
 
@@ -56,5 +58,26 @@ pub fn load_first(booked: &[u32], credits: &mut [u32], count: usize)
     for at in 0..count {
         let slots = booked_at(booked, at);
         put_credits(credits, at, credits_for(slots));
+    }
+}
+
+// The credits at the first count places are those for the bookings there, where all runs have as many.
+pub fn load_first_bookings(
+    frame: u32,
+    line: u32,
+    slots: &[u32],
+    rates: &[u32],
+    credits: &mut [u32],
+    count: usize,
+)
+    requires slots_long { ⌜ count ≤ length (now slots) ⌝ }
+    requires rates_long { ⌜ count ≤ length (now rates) ⌝ }
+    requires credits_long { ⌜ count ≤ length (now credits) ⌝ }
+    ensures loaded { λ _. ⌜ now (credits .exit)
+        ≡ copied count (booking-words frame line (now (slots .entry)) (now (rates .entry))) (now (credits .entry)) ⌝ }
+{
+    for at in 0..count {
+        let booked = booking(frame, line, slots[at], rates[at]);
+        put_credits(credits, at, credits_for(booked));
     }
 }

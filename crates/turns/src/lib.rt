@@ -8,6 +8,7 @@ mod search;
 ghost use mathlib.Core.Path.{_≡_};
 ghost use Prim.Native.Nat.{_-_, _*_};
 ghost use Rattle.wsgs.specs.Basics.{lowest};
+ghost use Rattle.wsgs.specs.Bookings.{booking-words};
 ghost use Rattle.words.specs.Runs.{copy-words};
 ghost use Rattle.turns.specs.Masks.{powers, is-open, ready-mask};
 ghost use Rattle.turns.specs.Requests.{Turn, first-output, first-waiting, waiting-output, second-output};
@@ -15,6 +16,7 @@ ghost use Rattle.turns.specs.Charges.{charged};
 use charges::spend_credit;
 use charges::take_packet;
 use credits::load_first;
+use credits::load_first_bookings;
 use search::has_turn;
 use search::lowest_open;
 use search::requests_of;
@@ -66,6 +68,28 @@ pub fn load_credits(booked: &[u32], credits: &mut [u32], count: usize)
     if count <= booked.len() {
         if count <= credits.len() {
             load_first(booked, credits, count);
+        }
+    }
+}
+
+// The credits at the first count places become those for the bookings there, worked out from slots and rates; where a run has fewer, all stay as
+// they are.
+pub fn load_bookings(
+    frame: u32,
+    line: u32,
+    slots: &[u32],
+    rates: &[u32],
+    credits: &mut [u32],
+    count: usize,
+)
+    ensures credits_exit { λ _. ⌜ now (credits .exit)
+        ≡ copy-words count (booking-words frame line (now (slots .entry)) (now (rates .entry))) (now (credits .entry)) ⌝ }
+{
+    if count <= slots.len() {
+        if count <= rates.len() {
+            if count <= credits.len() {
+                load_first_bookings(frame, line, slots, rates, credits, count);
+            }
         }
     }
 }
