@@ -10,7 +10,7 @@ use Rattle.direct.proofs.tick.Tie as tie
 
 -- where the tick begins, and what an accepted one found
 abbrev begun : tie.Else1 → tie.Start
-begun c = c .before .before .before .before .before .before .before
+begun c = c .before .before .before .before .before .before .before .before
 
 found : (c : tie.Else1) → let a = begun c .args in TickConditions (a .clock) (direct-runs-of (a .slots .now) (a .rates .now) (a .credits .now) (a .queues .now))
 found c = accepted-found _ _ (sym (c .before .direct-tick-refusal .ensures) ∙ omega arith)
