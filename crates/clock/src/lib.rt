@@ -17,10 +17,8 @@ pub fn tick_direct(
     credits: &mut [u32],
     queues: &mut [u32],
 ) -> Answer
-    ensures outcome { λ r. ⌜ effect r (
-      now (clock .exit),
-      direct-runs-of (now (slots .entry)) (now (rates .entry)) (now (credits .exit)) (now (queues .exit)),
-    )
+    ensures outcome { λ r. ⌜ effect r
+        (now (clock .exit), direct-runs-of (now (slots .entry)) (now (rates .entry)) (now (credits .exit)) (now (queues .exit)))
         ≡ answer-effect (Direct.tick (now (clock .entry))
         (direct-runs-of (now (slots .entry)) (now (rates .entry)) (now (credits .entry)) (now (queues .entry)))) ⌝ }
 {
