@@ -2,7 +2,7 @@
 //!
 //! The list opens with an accepted start; its starts and ticks are direct for an even seed, pipelined for an odd one. The lines are:
 //!
-//! - `clock N F SLOT` and `run NAME WORD ..`: the switch that the list finds, of any words, in runs for three ports;
+//! - `clock N F SLOT LINE` and `run NAME WORD ..`: the switch that the list finds, of any words, in runs for three ports;
 //! - `call REFUSAL CALL`: the calls in turn, written as crates/wsgs/specs/Switch.antt has them;
 //! - `claim I J FIRST A M B SERVED`: every pair in every frame since the last accepted start.
 
@@ -43,10 +43,11 @@ impl Random {
 
 #[derive(Clone, Copy)]
 enum Call {
-    Start { form: Form, ports: u64, frame: u64 },
+    Start { form: Form, ports: u64, frame: u64, line: u64 },
     Book { input: u64, output: u64, slots: u64 },
-    BookRate { input: u64, output: u64, line: u64, rate: u64 },
+    BookRate { input: u64, output: u64, rate: u64 },
     Release { input: u64, output: u64, slots: u64 },
+    ReleaseRate { input: u64, output: u64, rate: u64 },
     Arrive { input: u64, output: u64, packets: u64 },
     Tick { form: Form },
 }
@@ -61,10 +62,11 @@ fn name(form: Form) -> &'static str {
 impl fmt::Display for Call {
     fn fmt(&self, to: &mut fmt::Formatter) -> fmt::Result {
         match *self {
-            Call::Start { form, ports, frame } => write!(to, "start {} {ports} {frame}", name(form)),
+            Call::Start { form, ports, frame, line } => write!(to, "start {} {ports} {frame} {line}", name(form)),
             Call::Book { input, output, slots } => write!(to, "book {input} {output} {slots}"),
-            Call::BookRate { input, output, line, rate } => write!(to, "book-rate {input} {output} {line} {rate}"),
+            Call::BookRate { input, output, rate } => write!(to, "book-rate {input} {output} {rate}"),
             Call::Release { input, output, slots } => write!(to, "release {input} {output} {slots}"),
+            Call::ReleaseRate { input, output, rate } => write!(to, "release-rate {input} {output} {rate}"),
             Call::Arrive { input, output, packets } => write!(to, "arrive {input} {output} {packets}"),
             Call::Tick { form } => write!(to, "tick {}", name(form)),
         }
@@ -86,23 +88,25 @@ impl List {
         let (form, s) = (self.form, &mut self.switch);
         let number = |refusal| Answer { refusal, ..Answer::nobody() };
         let answer = match call {
-            Call::Start { form: Form::Direct, ports, frame } => number(s.start_direct(ports, frame, 0, false, false)),
-            Call::Start { form: Form::Pipelined, ports, frame } => number(s.start_pipelined(ports, frame, 0, false)),
+            Call::Start { form: Form::Direct, ports, frame, line } => number(s.start_direct(ports, frame, line, false, false)),
+            Call::Start { form: Form::Pipelined, ports, frame, line } => number(s.start_pipelined(ports, frame, line, false)),
             Call::Book { input, output, slots } => number(s.book(form, input, output, slots)),
-            Call::BookRate { input, output, line, rate } => number(s.book_rate(form, input, output, line, rate)),
+            Call::BookRate { input, output, rate } => number(s.book_rate(form, input, output, 0, rate)),
             Call::Release { input, output, slots } => number(s.release(input, output, slots)),
+            Call::ReleaseRate { input, output, rate } => number(s.release_rate(input, output, rate)),
             Call::Arrive { input, output, packets } => number(s.arrive(input, output, packets)),
             Call::Tick { form: Form::Direct } => s.tick_direct(),
             Call::Tick { form: Form::Pipelined } => s.tick_pipelined(),
         };
         let no = answer.refusal;
         match (call, &mut self.ledger) {
-            (Call::Start { form, ports, frame }, ledger) if no == 0 => *ledger = Some(Ledger::start(s.rules, form, ports, frame, 0)),
+            (Call::Start { form, ports, frame, line }, ledger) if no == 0 => *ledger = Some(Ledger::start(s.rules, form, ports, frame, line)),
             (Call::Start { .. }, _) => (),
             (_, None) => panic!("a list opens with an accepted start"),
             (Call::Book { input, output, slots }, Some(l)) => l.book(no, input, output, slots),
-            (Call::BookRate { input, output, line, rate }, Some(l)) => l.book_rate(no, input, output, line, rate),
+            (Call::BookRate { input, output, rate }, Some(l)) => l.book_rate(no, input, output, 0, rate),
             (Call::Release { input, output, slots }, Some(l)) => l.release(no, input, output, slots),
+            (Call::ReleaseRate { input, output, rate }, Some(l)) => l.release_rate(no, input, output, rate),
             (Call::Arrive { input, output, packets }, Some(l)) => l.arrive(no, input, output, packets),
             (Call::Tick { .. }, Some(l)) => l.tick(answer),
         }
@@ -120,11 +124,13 @@ impl List {
         if self.random.one_in(4) { self.random.within(1, most) } else { 1 }
     }
 
+    /// A line rate of 0 seldom.
     fn start(&mut self) {
         let ports = self.random.of(&[1, 2, 2, MOST_PORTS, MOST_PORTS]);
         let shortest = if self.form == Form::Pipelined { ports } else { self.random.of(&[1, 2, 3]) };
         let frame = self.random.within(shortest, LONGEST_FRAME);
-        self.put(Call::Start { form: self.form, ports, frame });
+        let line = if self.random.one_in(8) { 0 } else { self.random.of(&[7, 1_000, 1_000, 99_999_999, MAX_LINE_RATE]) };
+        self.put(Call::Start { form: self.form, ports, frame, line });
     }
 
     fn book(&mut self) {
@@ -132,21 +138,46 @@ impl List {
         self.put(Call::Book { input, output, slots });
     }
 
-    /// A rate that is just so many slots, or a little more.
-    fn book_rate(&mut self) {
-        let (input, output, slots) = (self.port(), self.port(), self.slots());
-        let line = self.random.of(&[1, 7, 1_000, 99_999_999, MAX_LINE_RATE]);
-        let rate = (line * slots / self.switch.f() + self.random.of(&[0, 0, 1])).clamp(1, line);
-        self.put(Call::BookRate { input, output, line, rate });
+    /// A rate of a third of a slot or more, or a little above, within the line rate.
+    fn rate(&mut self) -> u64 {
+        let (line, f) = (self.switch.clock.line as u64, self.switch.f());
+        let thirds = self.random.of(&[1, 1, 1, 1, 2, 3]);
+        (line * thirds / (3 * f) + self.random.of(&[0, 0, 1])).clamp(1, line.max(1))
     }
 
-    /// Mostly of a pair that has a booking.
-    fn release(&mut self) {
+    fn book_rate(&mut self) {
+        let (input, output, rate) = (self.port(), self.port(), self.rate());
+        self.put(Call::BookRate { input, output, rate });
+    }
+
+    /// Several small rates on one pair, which share slots.
+    fn streams(&mut self) {
+        let (input, output) = (self.port(), self.port());
+        for _ in 0..self.random.within(2, 4) {
+            let rate = self.rate();
+            self.put(Call::BookRate { input, output, rate });
+        }
+    }
+
+    /// Mostly a pair that holds something in the run.
+    fn pair(&mut self, run: Run) -> (u64, u64) {
         let s = &self.switch;
-        let booked: Vec<_> = s.pairs().into_iter().filter(|&(i, j)| s.words.slots[s.at(i, j)] > 0).collect();
-        let (input, output) = if booked.is_empty() || self.random.one_in(4) { (self.port(), self.port()) } else { self.random.of(&booked) };
-        let slots = self.slots();
+        let holding: Vec<_> = s.pairs().into_iter().filter(|&(i, j)| s.words.run(run)[s.at(i, j)] > 0).collect();
+        if holding.is_empty() || self.random.one_in(4) { (self.port(), self.port()) } else { self.random.of(&holding) }
+    }
+
+    fn release(&mut self) {
+        let ((input, output), slots) = (self.pair(Run::Slots), self.slots());
         self.put(Call::Release { input, output, slots });
+    }
+
+    /// A part of what the pair holds, all of it, or a little more.
+    fn release_rate(&mut self) {
+        let (input, output) = self.pair(Run::Rates);
+        let held = self.switch.words.rates[self.switch.at(input, output)] as u64;
+        let part = self.rate().min(held.max(1));
+        let rate = self.random.of(&[part, part, part, held.max(1), held + 1]);
+        self.put(Call::ReleaseRate { input, output, rate });
     }
 
     /// At most so many packets, and at least half of them.
@@ -157,24 +188,26 @@ impl List {
 
     /// A call with a number out of range.
     fn out_of_range(&mut self) {
-        let (form, n, f) = (self.form, self.switch.n(), self.switch.f());
+        let (form, n, f, line) = (self.form, self.switch.n(), self.switch.f(), self.switch.clock.line as u64);
         let (input, output) = (self.port(), self.port());
         let r = &mut self.random;
         let far = r.of(&[0, n + 1, (1 << 32) + 1]);
         let (i, j) = r.of(&[(input, far), (far, output)]);
         let short = if form == Form::Pipelined { n - 1 } else { 0 };
-        let call = match r.within(0, 12) {
-            0 => Call::Start { form, ports: r.of(&[0, MAX_PORTS + 1]), frame: f },
-            1 => Call::Start { form, ports: n, frame: r.of(&[0, short, short, MAX_FRAME + 1]) },
-            2 => Call::Start { form, ports: r.within(MOST_PORTS + 1, MAX_PORTS), frame: MAX_PORTS },
-            3 => Call::Book { input: i, output: j, slots: 1 },
-            4 => Call::Book { input, output, slots: r.of(&[0, f + 1]) },
-            5 => Call::BookRate { input: i, output: j, line: 1_000, rate: 1 },
-            6 => Call::BookRate { input, output, line: r.of(&[0, MAX_LINE_RATE + 1]), rate: 1 },
-            7 => Call::BookRate { input, output, line: 1_000, rate: r.of(&[0, 1_001]) },
+        let call = match r.within(0, 13) {
+            0 => Call::Start { form, ports: r.of(&[0, MAX_PORTS + 1]), frame: f, line },
+            1 => Call::Start { form, ports: n, frame: r.of(&[0, short, short, MAX_FRAME + 1]), line },
+            2 => Call::Start { form, ports: r.within(MOST_PORTS + 1, MAX_PORTS), frame: MAX_PORTS, line },
+            3 => Call::Start { form, ports: n, frame: f, line: MAX_LINE_RATE + 1 },
+            4 => Call::Book { input: i, output: j, slots: 1 },
+            5 => Call::Book { input, output, slots: r.of(&[0, f + 1]) },
+            6 => Call::BookRate { input: i, output: j, rate: 1 },
+            7 => Call::BookRate { input, output, rate: r.of(&[0, line + 1]) },
             8 => Call::Release { input: i, output: j, slots: 1 },
             9 => Call::Release { input, output, slots: r.of(&[0, f + 1]) },
-            10 => Call::Arrive { input: i, output: j, packets: 1 },
+            10 => Call::ReleaseRate { input: i, output: j, rate: 1 },
+            11 => Call::ReleaseRate { input, output, rate: r.of(&[0, line + 1]) },
+            12 => Call::Arrive { input: i, output: j, packets: 1 },
             _ => Call::Arrive { input, output, packets: r.of(&[0, MAX_PACKETS + 1, MAX_PACKETS + 1]) },
         };
         self.put(call);
@@ -196,7 +229,11 @@ impl List {
         let pairs = self.switch.n() * self.switch.n();
         let most = self.random.of(&[2, 5, 12, 90]);
         for _ in 0..self.random.within(self.switch.n(), pairs) {
-            if self.random.one_in(2) { self.book_rate() } else { self.book() }
+            match self.random.within(1, 4) {
+                1 => self.book_rate(),
+                2 | 3 => self.streams(),
+                _ => self.book(),
+            }
         }
         if self.random.one_in(12) {
             self.fill_queue();
@@ -206,12 +243,13 @@ impl List {
         }
         let mut run = 0;
         while run < ticks {
-            match self.random.within(1, 24) {
+            match self.random.within(1, 26) {
                 1 => self.book(),
                 2 => self.book_rate(),
                 3 => self.release(),
-                4 | 5 => self.out_of_range(),
-                6..=9 => self.arrive(most),
+                4 | 5 => self.release_rate(),
+                6 | 7 => self.out_of_range(),
+                8..=11 => self.arrive(most),
                 _ => {
                     self.put(Call::Tick { form: self.form });
                     run += 1;
@@ -224,11 +262,12 @@ impl List {
 /// A clock and words that no calls have to have left: the runs of both forms at the level, with something in each word.
 fn any_switch(r: &mut Random, rules: Rules) -> Switch {
     let (ports, frame, last) = (r.of(&[0, 1, 2, 3, 9, 33]), r.of(&[0, 1, 2, 5, 10_001]), r.of(&[0, 1, 5, 77, 4_000_000_000]));
+    let line = r.of(&[0, 1, 1_000, 100_000_001]);
     let mut words = Words::default();
     for run in EVERY_RUN {
         *words.run_mut(run) = (0..length(rules, run)).map(|_| r.of(&[1, 1, 2, 2, 3, 4, 7, 101, 102, 103, 104])).collect();
     }
-    Switch { rules, clock: Clock { ports, frame, last, ..Clock::default() }, words }
+    Switch { rules, clock: Clock { ports, frame, last, line, ..Clock::default() }, words }
 }
 
 /// How many words of a run a switch of either form uses.
@@ -241,8 +280,8 @@ fn main() {
     let &[level, seed] = &arguments[..] else { panic!("usage: ledgers LEVEL SEED") };
     let mut random = Random(seed);
     let switch = any_switch(&mut random, Rules { upto: level as u32 });
-    let Clock { ports, frame, last, .. } = switch.clock;
-    println!("clock {ports} {frame} {last}");
+    let Clock { ports, frame, last, line, .. } = switch.clock;
+    println!("clock {ports} {frame} {last} {line}");
     for run in EVERY_RUN.into_iter().filter(|&run| !switch.words.run(run).is_empty()) {
         let words: Vec<String> = switch.words.run(run).iter().map(u32::to_string).collect();
         println!("run {} {}", format!("{run:?}").to_lowercase(), words.join(" "));

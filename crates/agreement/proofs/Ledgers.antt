@@ -5,12 +5,13 @@ use mathlib.Core.Path.{_≡_, refl}
 use mathlib.Core.List.{List, [], _∷_}
 use Rattle.wsgs.specs.Clocks.{clock-of}
 use Rattle.wsgs.specs.Basics.{sum, some-of, least}
-use Rattle.wsgs.specs.Words.{word, row-sum, column-sum}
+use Rattle.wsgs.specs.Words.{word}
+use Rattle.wsgs.specs.Bookings.{book-of, booking, bookings, row-sum, column-sum}
 use Rattle.wsgs.specs.Frames.{into-frame}
-use Rattle.wsgs.specs.Book.{book-words, rate-words, release-words, arrive-words}
+use Rattle.wsgs.specs.Book.{book-words, rate-words, release-words, release-rate-words, arrive-words}
 use Rattle.wsgs.specs.Direct
 use Rattle.wsgs.specs.Pipelined
-use Rattle.wsgs.specs.Switch.{direct, pipelined, start, book, book-rate, release, arrive, tick, apply, entries}
+use Rattle.wsgs.specs.Switch.{direct, pipelined, start, book, book-rate, release, release-rate, arrive, tick, apply, entries}
 use Rattle.agreement.specs.Ledgers.{claim, Case, first-wrong}
 
 abbrev list-1 : Case
@@ -18,117 +19,85 @@ list-1 =
     record {
       switch =
           record {
-            clock = clock-of 33 10001 0;
-            bookings = 101 ∷ 101 ∷ 1 ∷ 1 ∷ 2 ∷ 1 ∷ 2 ∷ 101 ∷ 4 ∷ [];
-            credits = 1 ∷ 1 ∷ 104 ∷ 104 ∷ 103 ∷ 1 ∷ 104 ∷ 2 ∷ 1 ∷ [];
-            queues = 4 ∷ 2 ∷ 1 ∷ 2 ∷ 7 ∷ 4 ∷ 102 ∷ 103 ∷ 7 ∷ [];
-            copy = 1 ∷ 7 ∷ 4 ∷ 101 ∷ 4 ∷ 101 ∷ 101 ∷ 1 ∷ 1 ∷ [];
-            flight = 102 ∷ 2 ∷ 4 ∷ 7 ∷ 103 ∷ 102 ∷ 1 ∷ 102 ∷ 3 ∷ 103 ∷ 1 ∷ 101 ∷ 103 ∷ 2 ∷ 102 ∷ 2 ∷ 101 ∷ 3 ∷ [];
+            clock = clock-of 33 10001 0 100000001;
+            book = book-of (101 ∷ 1 ∷ 1 ∷ 2 ∷ 1 ∷ 2 ∷ 101 ∷ 4 ∷ 1 ∷ []) (1 ∷ 104 ∷ 104 ∷ 103 ∷ 1 ∷ 104 ∷ 2 ∷ 1 ∷ 4 ∷ []);
+            credits = 2 ∷ 1 ∷ 2 ∷ 7 ∷ 4 ∷ 102 ∷ 103 ∷ 7 ∷ 1 ∷ [];
+            queues = 7 ∷ 4 ∷ 101 ∷ 4 ∷ 101 ∷ 101 ∷ 1 ∷ 1 ∷ 102 ∷ [];
+            copy = 2 ∷ 4 ∷ 7 ∷ 103 ∷ 102 ∷ 1 ∷ 102 ∷ 3 ∷ 103 ∷ [];
+            flight = 1 ∷ 101 ∷ 103 ∷ 2 ∷ 102 ∷ 2 ∷ 101 ∷ 3 ∷ 102 ∷ 7 ∷ 101 ∷ 1 ∷ 7 ∷ 3 ∷ 104 ∷ 7 ∷ 1 ∷ 103 ∷ [];
           };
       calls =
-          start pipelined 2 2
-          ∷ book 1 1 1
-          ∷ book 2 2 1
-          ∷ book 2 2 1
+          start pipelined 2 7 7
           ∷ book 2 1 1
-          ∷ arrive 2 2 87
-          ∷ arrive 2 2 48
-          ∷ arrive 1 1 75
-          ∷ arrive 1 1 59
-          ∷ arrive 2 1 87
-          ∷ arrive 2 1 87
-          ∷ arrive 2 2 46
-          ∷ tick pipelined
-          ∷ tick pipelined
-          ∷ tick pipelined
-          ∷ book 2 1 0
+          ∷ book-rate 2 2 1
+          ∷ book-rate 2 2 1
+          ∷ book-rate 1 1 1
+          ∷ book-rate 1 1 1
+          ∷ book-rate 1 1 1
+          ∷ book-rate 1 1 1
+          ∷ book-rate 2 2 1
+          ∷ book-rate 2 2 1
+          ∷ book-rate 2 2 1
+          ∷ book-rate 2 2 1
           ∷ arrive 1 2 57
+          ∷ arrive 2 1 59
+          ∷ arrive 2 1 75
+          ∷ arrive 2 1 61
+          ∷ arrive 2 2 69
+          ∷ arrive 2 1 64
+          ∷ arrive 1 1 78
+          ∷ tick pipelined
+          ∷ book-rate 2 1 8
+          ∷ arrive 2 1 48
           ∷ tick pipelined
           ∷ tick pipelined
-          ∷ start pipelined 1 1
-          ∷ book-rate 1 1 1000 1000
-          ∷ arrive 1 1 12
-          ∷ arrive 1 1 12
-          ∷ book-rate 2 1 1000 1
-          ∷ tick pipelined
-          ∷ arrive 1 1 10
-          ∷ release 1 1 0
-          ∷ tick pipelined
-          ∷ arrive 1 1 6
-          ∷ arrive 1 1 7
-          ∷ release 1 1 1
-          ∷ arrive 1 1 8
-          ∷ arrive 1 1 8
-          ∷ tick pipelined
-          ∷ arrive 1 1 0
-          ∷ arrive 1 1 7
-          ∷ tick pipelined
-          ∷ book 1 1 1
-          ∷ tick pipelined
-          ∷ tick pipelined
-          ∷ arrive 1 1 12
+          ∷ book 2 2 1
           ∷ tick pipelined
           ∷ tick pipelined
           ∷ tick pipelined
+          ∷ release 2 0 1
           ∷ tick pipelined
-          ∷ arrive 1 1 12
-          ∷ tick pipelined
-          ∷ book-rate 1 1 100000001 1
-          ∷ book-rate 2 1 1000 1
-          ∷ tick pipelined
-          ∷ arrive 1 1 11
-          ∷ book-rate 1 1 7 7
-          ∷ book 1 1 1
-          ∷ arrive 1 1 12
-          ∷ arrive 1 1 10
+          ∷ arrive 1 2 70
           ∷ tick pipelined
           ∷ tick pipelined
-          ∷ book-rate 1 1 100000001 1
+          ∷ tick pipelined
+          ∷ release-rate 1 2 1
           ∷ tick pipelined
           ∷ tick pipelined
-          ∷ release 1 1 1
-          ∷ book 1 1 1
+          ∷ arrive 2 2 56
           ∷ tick pipelined
           ∷ tick pipelined
-          ∷ arrive 1 1 10
           ∷ tick pipelined
-          ∷ arrive 1 1 12
+          ∷ release-rate 2 2 1
+          ∷ book 1 1 2
           ∷ tick pipelined
+          ∷ release 2 1 4
           ∷ tick pipelined
-          ∷ book-rate 1 1 1 1
+          ∷ arrive 2 2 68
+          ∷ book 2 2 1
+          ∷ tick pipelined
+          ∷ release-rate 2 1 8
           ∷ tick pipelined
           ∷ tick pipelined
           ∷ [];
       expected =
-          claim 1 1 1 0 0 0 0
-          ∷ claim 1 1 2 0 0 0 0
-          ∷ claim 1 1 3 1 0 1 1
-          ∷ claim 1 1 4 1 0 1 1
-          ∷ claim 1 1 5 0 0 1 0
-          ∷ claim 1 1 6 0 0 1 0
-          ∷ claim 1 1 7 1 0 1 1
-          ∷ claim 1 1 8 1 0 1 1
-          ∷ claim 1 1 9 1 0 1 1
-          ∷ claim 1 1 10 1 0 1 1
-          ∷ claim 1 1 11 1 0 1 1
-          ∷ claim 1 1 12 1 0 1 1
-          ∷ claim 1 1 13 1 0 1 1
-          ∷ claim 1 1 14 1 0 1 1
-          ∷ claim 1 1 15 1 0 1 1
-          ∷ claim 1 1 16 1 0 1 1
-          ∷ claim 1 1 17 1 0 1 1
-          ∷ claim 1 1 18 1 0 1 1
-          ∷ claim 1 1 19 1 0 1 1
-          ∷ claim 1 1 20 1 0 1 1
-          ∷ claim 1 1 21 1 0 1 1
-          ∷ claim 1 1 22 1 0 1 1
-          ∷ claim 1 1 23 1 0 1 1
-          ∷ claim 1 1 24 1 0 1 1
+          claim 1 1 1 0 0 3 0
+          ∷ claim 1 1 8 3 1 7 3
+          ∷ claim 1 1 15 3 1 7 3
+          ∷ claim 1 2 1 0 0 3 0
+          ∷ claim 1 2 8 0 6 7 0
+          ∷ claim 1 2 15 0 6 7 0
+          ∷ claim 2 1 1 0 0 3 0
+          ∷ claim 2 1 8 1 6 7 1
+          ∷ claim 2 1 15 1 6 7 1
+          ∷ claim 2 2 1 0 0 3 0
+          ∷ claim 2 2 8 3 1 7 3
+          ∷ claim 2 2 15 3 1 7 3
           ∷ [];
     }
 
 pub agrees-1 : first-wrong list-1 ≡ 0
-unfolding first-wrong entries apply Direct.start Direct.tick Pipelined.start Pipelined.tick book-words rate-words release-words arrive-words into-frame row-sum column-sum sum least some-of word
+unfolding first-wrong entries apply Direct.start Direct.tick Pipelined.start Pipelined.tick book-words rate-words release-words release-rate-words arrive-words into-frame booking bookings row-sum column-sum sum least some-of word
 agrees-1 = refl
 
 abbrev list-2 : Case
@@ -136,69 +105,103 @@ list-2 =
     record {
       switch =
           record {
-            clock = clock-of 9 1 1;
-            bookings = 103 ∷ 104 ∷ 3 ∷ 101 ∷ 104 ∷ 3 ∷ 3 ∷ 1 ∷ 103 ∷ [];
-            credits = 2 ∷ 103 ∷ 1 ∷ 104 ∷ 104 ∷ 4 ∷ 102 ∷ 7 ∷ 2 ∷ [];
-            queues = 2 ∷ 102 ∷ 1 ∷ 4 ∷ 7 ∷ 104 ∷ 1 ∷ 104 ∷ 2 ∷ [];
-            copy = 3 ∷ 104 ∷ 7 ∷ 104 ∷ 103 ∷ 2 ∷ 3 ∷ 1 ∷ 4 ∷ [];
-            flight = 1 ∷ 4 ∷ 104 ∷ 4 ∷ 4 ∷ 3 ∷ 3 ∷ 101 ∷ 2 ∷ 2 ∷ 3 ∷ 1 ∷ 2 ∷ 104 ∷ 2 ∷ 7 ∷ 2 ∷ 1 ∷ [];
+            clock = clock-of 9 1 1 0;
+            book = book-of (104 ∷ 3 ∷ 101 ∷ 104 ∷ 3 ∷ 3 ∷ 1 ∷ 103 ∷ 2 ∷ []) (103 ∷ 1 ∷ 104 ∷ 104 ∷ 4 ∷ 102 ∷ 7 ∷ 2 ∷ 2 ∷ []);
+            credits = 102 ∷ 1 ∷ 4 ∷ 7 ∷ 104 ∷ 1 ∷ 104 ∷ 2 ∷ 3 ∷ [];
+            queues = 104 ∷ 7 ∷ 104 ∷ 103 ∷ 2 ∷ 3 ∷ 1 ∷ 4 ∷ 1 ∷ [];
+            copy = 4 ∷ 104 ∷ 4 ∷ 4 ∷ 3 ∷ 3 ∷ 101 ∷ 2 ∷ 2 ∷ [];
+            flight = 3 ∷ 1 ∷ 2 ∷ 104 ∷ 2 ∷ 7 ∷ 2 ∷ 1 ∷ 104 ∷ 101 ∷ 2 ∷ 101 ∷ 102 ∷ 3 ∷ 103 ∷ 1 ∷ 102 ∷ 3 ∷ [];
           };
       calls =
-          start direct 2 5
-          ∷ book-rate 1 2 100000000 20000000
-          ∷ book-rate 2 2 99999999 20000000
-          ∷ book 1 1 1
-          ∷ arrive 1 2 1
-          ∷ arrive 2 2 2
-          ∷ arrive 1 1 1
-          ∷ arrive 1 1 1
+          start direct 3 5 1000
+          ∷ book-rate 1 3 67
+          ∷ book-rate 1 3 134
+          ∷ book-rate 3 2 200
+          ∷ book-rate 3 2 66
+          ∷ book-rate 3 2 133
+          ∷ book-rate 3 2 66
+          ∷ book-rate 3 2 66
+          ∷ book-rate 3 3 66
+          ∷ arrive 1 2 83
+          ∷ arrive 1 1 66
+          ∷ arrive 1 2 50
+          ∷ arrive 1 2 88
           ∷ tick direct
-          ∷ start direct 33 5
-          ∷ tick direct
-          ∷ release 2 1 0
-          ∷ start direct 0 5
-          ∷ tick direct
-          ∷ tick direct
-          ∷ tick direct
-          ∷ tick direct
-          ∷ book-rate 1 1 7 2
-          ∷ book 2 2 1
-          ∷ release 2 2 1
+          ∷ book 2 2 6
+          ∷ release-rate 3 2 67
+          ∷ release-rate 3 2 465
           ∷ tick direct
           ∷ tick direct
           ∷ tick direct
           ∷ tick direct
-          ∷ arrive 1 2 1
+          ∷ tick direct
+          ∷ book-rate 1 3 67
+          ∷ tick direct
+          ∷ arrive 3 3 82
+          ∷ release-rate 1 3 269
+          ∷ tick direct
+          ∷ release-rate 1 3 66
+          ∷ release-rate 3 2 200
+          ∷ tick direct
+          ∷ tick direct
+          ∷ arrive 1 3 78
+          ∷ release 2 4294967297 1
           ∷ tick direct
           ∷ tick direct
           ∷ tick direct
           ∷ tick direct
-          ∷ book 1 1 1
+          ∷ book 3 3 1
+          ∷ tick direct
+          ∷ tick direct
+          ∷ tick direct
+          ∷ release 4294967297 2 1
+          ∷ book-rate 1 1 66
+          ∷ arrive 3 3 84
           ∷ tick direct
           ∷ tick direct
           ∷ [];
       expected =
-          claim 1 1 1 1 1 3 1
-          ∷ claim 1 1 6 1 1 0 0
-          ∷ claim 1 1 11 1 1 0 0
-          ∷ claim 1 1 16 2 1 0 0
-          ∷ claim 1 2 1 1 3 2 1
-          ∷ claim 1 2 6 1 3 0 0
-          ∷ claim 1 2 11 1 2 1 1
-          ∷ claim 1 2 16 1 3 0 0
-          ∷ claim 2 1 1 0 3 0 0
-          ∷ claim 2 1 6 0 3 0 0
-          ∷ claim 2 1 11 0 2 0 0
-          ∷ claim 2 1 16 0 3 0 0
-          ∷ claim 2 2 1 2 1 3 2
-          ∷ claim 2 2 6 2 1 0 0
-          ∷ claim 2 2 11 1 1 0 0
-          ∷ claim 2 2 16 1 1 0 0
+          claim 1 1 1 0 2 5 0
+          ∷ claim 1 1 6 0 2 5 0
+          ∷ claim 1 1 11 0 2 5 0
+          ∷ claim 1 1 16 0 2 4 0
+          ∷ claim 1 2 1 0 5 5 0
+          ∷ claim 1 2 6 0 5 5 0
+          ∷ claim 1 2 11 0 4 5 0
+          ∷ claim 1 2 16 0 4 4 0
+          ∷ claim 1 3 1 2 0 0 0
+          ∷ claim 1 3 6 2 0 0 0
+          ∷ claim 1 3 11 2 0 5 2
+          ∷ claim 1 3 16 2 1 4 2
+          ∷ claim 2 1 1 0 0 0 0
+          ∷ claim 2 1 6 0 0 0 0
+          ∷ claim 2 1 11 0 0 0 0
+          ∷ claim 2 1 16 0 0 0 0
+          ∷ claim 2 2 1 0 3 0 0
+          ∷ claim 2 2 6 0 3 0 0
+          ∷ claim 2 2 11 0 2 0 0
+          ∷ claim 2 2 16 0 2 0 0
+          ∷ claim 2 3 1 0 2 0 0
+          ∷ claim 2 3 6 0 2 0 0
+          ∷ claim 2 3 11 0 2 0 0
+          ∷ claim 2 3 16 0 3 0 0
+          ∷ claim 3 1 1 0 3 0 0
+          ∷ claim 3 1 6 0 3 0 0
+          ∷ claim 3 1 11 0 2 0 0
+          ∷ claim 3 1 16 0 3 0 0
+          ∷ claim 3 2 1 3 0 0 0
+          ∷ claim 3 2 6 3 0 0 0
+          ∷ claim 3 2 11 2 0 0 0
+          ∷ claim 3 2 16 2 1 0 0
+          ∷ claim 3 3 1 0 5 0 0
+          ∷ claim 3 3 6 0 5 3 0
+          ∷ claim 3 3 11 0 4 5 0
+          ∷ claim 3 3 16 1 4 4 1
           ∷ [];
     }
 
 pub agrees-2 : first-wrong list-2 ≡ 0
-unfolding first-wrong entries apply Direct.start Direct.tick Pipelined.start Pipelined.tick book-words rate-words release-words arrive-words into-frame row-sum column-sum sum least some-of word
+unfolding first-wrong entries apply Direct.start Direct.tick Pipelined.start Pipelined.tick book-words rate-words release-words release-rate-words arrive-words into-frame booking bookings row-sum column-sum sum least some-of word
 agrees-2 = refl
 
 abbrev list-3 : Case
@@ -206,86 +209,171 @@ list-3 =
     record {
       switch =
           record {
-            clock = clock-of 3 1 4000000000;
-            bookings = 7 ∷ 1 ∷ 103 ∷ 1 ∷ 2 ∷ 2 ∷ 2 ∷ 3 ∷ 2 ∷ [];
-            credits = 1 ∷ 2 ∷ 104 ∷ 104 ∷ 101 ∷ 101 ∷ 1 ∷ 102 ∷ 104 ∷ [];
-            queues = 1 ∷ 2 ∷ 1 ∷ 7 ∷ 104 ∷ 101 ∷ 103 ∷ 2 ∷ 103 ∷ [];
-            copy = 102 ∷ 4 ∷ 7 ∷ 2 ∷ 7 ∷ 101 ∷ 102 ∷ 101 ∷ 2 ∷ [];
-            flight = 104 ∷ 1 ∷ 103 ∷ 102 ∷ 1 ∷ 104 ∷ 2 ∷ 103 ∷ 2 ∷ 1 ∷ 103 ∷ 1 ∷ 4 ∷ 1 ∷ 102 ∷ 104 ∷ 3 ∷ 103 ∷ [];
+            clock = clock-of 3 1 4000000000 100000001;
+            book = book-of (1 ∷ 103 ∷ 1 ∷ 2 ∷ 2 ∷ 2 ∷ 3 ∷ 2 ∷ 1 ∷ []) (2 ∷ 104 ∷ 104 ∷ 101 ∷ 101 ∷ 1 ∷ 102 ∷ 104 ∷ 1 ∷ []);
+            credits = 2 ∷ 1 ∷ 7 ∷ 104 ∷ 101 ∷ 103 ∷ 2 ∷ 103 ∷ 102 ∷ [];
+            queues = 4 ∷ 7 ∷ 2 ∷ 7 ∷ 101 ∷ 102 ∷ 101 ∷ 2 ∷ 104 ∷ [];
+            copy = 1 ∷ 103 ∷ 102 ∷ 1 ∷ 104 ∷ 2 ∷ 103 ∷ 2 ∷ 1 ∷ [];
+            flight = 103 ∷ 1 ∷ 4 ∷ 1 ∷ 102 ∷ 104 ∷ 3 ∷ 103 ∷ 1 ∷ 101 ∷ 102 ∷ 7 ∷ 1 ∷ 3 ∷ 2 ∷ 2 ∷ 2 ∷ 3 ∷ [];
           };
       calls =
-          start pipelined 3 6
-          ∷ book 2 3 1
-          ∷ book-rate 3 3 1000 167
-          ∷ book 3 2 1
+          start pipelined 2 7 99999999
+          ∷ book-rate 1 2 4761904
+          ∷ book-rate 1 2 4761904
+          ∷ book 1 1 1
+          ∷ book-rate 1 2 4761904
+          ∷ book-rate 1 2 4761904
+          ∷ book-rate 1 2 4761905
+          ∷ book-rate 1 2 4761904
+          ∷ book 2 1 3
           ∷ arrive 1 2 2
-          ∷ arrive 1 3 1
-          ∷ arrive 2 3 2
-          ∷ arrive 3 3 2
-          ∷ arrive 2 2 1
-          ∷ arrive 1 2 1
           ∷ arrive 1 1 2
-          ∷ arrive 3 3 1
-          ∷ arrive 1 2 1
-          ∷ arrive 2 1 1
+          ∷ arrive 1 2 5
+          ∷ arrive 2 2 2
+          ∷ arrive 1 1 3
+          ∷ arrive 1 1 3
+          ∷ book-rate 2 2 4761904
           ∷ tick pipelined
+          ∷ book-rate 1 2 100000000
           ∷ tick pipelined
-          ∷ arrive 0 1 1
-          ∷ book 1 3 1
-          ∷ release 3 3 1
-          ∷ tick pipelined
+          ∷ arrive 2 1 4
+          ∷ arrive 2 1 2
+          ∷ release 1 1 1
           ∷ arrive 1 2 2
-          ∷ release 2 4 1
-          ∷ book-rate 3 2 100000000 16666666
           ∷ tick pipelined
           ∷ tick pipelined
           ∷ tick pipelined
-          ∷ arrive 1 1 1
+          ∷ start pipelined 2 7 100000001
+          ∷ release-rate 1 2 28571426
+          ∷ arrive 2 1 5
+          ∷ tick pipelined
+          ∷ start pipelined 3 5 7
+          ∷ book-rate 1 3 1
+          ∷ book-rate 1 3 1
+          ∷ book-rate 1 3 1
+          ∷ book-rate 3 2 1
+          ∷ book 2 3 1
+          ∷ book-rate 1 3 1
+          ∷ book 1 1 1
+          ∷ book-rate 3 2 1
+          ∷ book-rate 3 2 1
+          ∷ book-rate 3 2 1
+          ∷ book-rate 3 2 1
+          ∷ book-rate 3 2 1
+          ∷ book-rate 3 2 1
+          ∷ arrive 1 1 3
+          ∷ arrive 3 1 5
+          ∷ arrive 3 3 3
+          ∷ arrive 2 1 4
+          ∷ arrive 1 2 2
+          ∷ arrive 2 2 4
+          ∷ arrive 2 2 4
+          ∷ arrive 1 2 4
+          ∷ arrive 3 1 2
+          ∷ arrive 1 2 5
+          ∷ arrive 3 1 4
+          ∷ arrive 2 3 5
+          ∷ arrive 3 3 4
+          ∷ arrive 3 3 5
+          ∷ arrive 2 2 3
+          ∷ arrive 1 3 3
+          ∷ arrive 1 1 4
+          ∷ arrive 3 2 4
+          ∷ tick pipelined
+          ∷ arrive 2 1 4
+          ∷ tick pipelined
+          ∷ book 2 2 1
+          ∷ release-rate 1 1 1
           ∷ tick pipelined
           ∷ tick pipelined
+          ∷ tick pipelined
+          ∷ arrive 2 2 4
+          ∷ arrive 3 1 4
+          ∷ tick pipelined
+          ∷ arrive 2 3 5
+          ∷ tick pipelined
+          ∷ tick pipelined
+          ∷ arrive 1 1 2
+          ∷ book-rate 3 2 1
+          ∷ tick pipelined
+          ∷ release-rate 3 2 4
+          ∷ release-rate 3 2 0
+          ∷ tick pipelined
+          ∷ arrive 2 1 4
+          ∷ arrive 2 2 4
+          ∷ arrive 2 3 4
+          ∷ tick pipelined
+          ∷ tick pipelined
+          ∷ tick pipelined
+          ∷ arrive 2 2 5
+          ∷ tick pipelined
+          ∷ tick pipelined
+          ∷ tick pipelined
+          ∷ tick pipelined
+          ∷ release-rate 2 4294967297 1
+          ∷ tick pipelined
+          ∷ tick pipelined
+          ∷ arrive 3 2 4
+          ∷ tick pipelined
+          ∷ tick pipelined
+          ∷ release 1 2 1
+          ∷ tick pipelined
+          ∷ arrive 2 2 2
           ∷ tick pipelined
           ∷ arrive 2 3 2
-          ∷ tick pipelined
-          ∷ tick pipelined
-          ∷ tick pipelined
-          ∷ tick pipelined
-          ∷ tick pipelined
-          ∷ arrive 1 1 65536
           ∷ tick pipelined
           ∷ [];
       expected =
           claim 1 1 1 0 0 0 0
-          ∷ claim 1 1 7 0 0 2 0
-          ∷ claim 1 1 13 0 0 1 0
+          ∷ claim 1 1 6 0 0 4 0
+          ∷ claim 1 1 11 0 3 4 0
+          ∷ claim 1 1 16 0 3 3 0
+          ∷ claim 1 1 21 0 3 0 0
           ∷ claim 1 2 1 0 0 0 0
-          ∷ claim 1 2 7 0 1 6 0
-          ∷ claim 1 2 13 0 2 3 0
+          ∷ claim 1 2 6 0 0 4 0
+          ∷ claim 1 2 11 0 6 5 0
+          ∷ claim 1 2 16 0 3 5 0
+          ∷ claim 1 2 21 0 3 5 0
           ∷ claim 1 3 1 0 0 0 0
-          ∷ claim 1 3 7 0 3 6 0
-          ∷ claim 1 3 13 0 2 4 0
+          ∷ claim 1 3 6 0 0 4 0
+          ∷ claim 1 3 11 3 0 3 3
+          ∷ claim 1 3 16 3 0 0 0
+          ∷ claim 1 3 21 3 0 0 0
           ∷ claim 2 1 1 0 0 0 0
-          ∷ claim 2 1 7 0 1 3 0
-          ∷ claim 2 1 13 0 1 0 0
+          ∷ claim 2 1 6 0 0 4 0
+          ∷ claim 2 1 11 0 0 5 0
+          ∷ claim 2 1 16 0 0 5 0
+          ∷ claim 2 1 21 0 0 5 0
           ∷ claim 2 2 1 0 0 0 0
-          ∷ claim 2 2 7 0 2 1 0
-          ∷ claim 2 2 13 0 3 0 0
+          ∷ claim 2 2 6 0 0 4 0
+          ∷ claim 2 2 11 0 3 5 0
+          ∷ claim 2 2 16 0 0 5 0
+          ∷ claim 2 2 21 0 0 5 0
           ∷ claim 2 3 1 0 0 0 0
-          ∷ claim 2 3 7 1 2 2 1
-          ∷ claim 2 3 13 1 1 1 1
+          ∷ claim 2 3 6 0 0 4 0
+          ∷ claim 2 3 11 0 3 5 0
+          ∷ claim 2 3 16 0 3 5 0
+          ∷ claim 2 3 21 0 3 5 0
           ∷ claim 3 1 1 0 0 0 0
-          ∷ claim 3 1 7 0 3 0 0
-          ∷ claim 3 1 13 0 3 0 0
+          ∷ claim 3 1 6 0 0 4 0
+          ∷ claim 3 1 11 0 3 5 0
+          ∷ claim 3 1 16 0 0 5 0
+          ∷ claim 3 1 21 0 0 5 0
           ∷ claim 3 2 1 0 0 0 0
-          ∷ claim 3 2 7 1 2 0 0
-          ∷ claim 3 2 13 2 1 0 0
+          ∷ claim 3 2 6 0 0 4 0
+          ∷ claim 3 2 11 3 0 5 3
+          ∷ claim 3 2 16 0 0 5 0
+          ∷ claim 3 2 21 0 0 5 0
           ∷ claim 3 3 1 0 0 0 0
-          ∷ claim 3 3 7 2 2 3 2
-          ∷ claim 3 3 13 1 3 0 0
+          ∷ claim 3 3 6 0 0 4 0
+          ∷ claim 3 3 11 0 6 5 0
+          ∷ claim 3 3 16 0 3 5 0
+          ∷ claim 3 3 21 0 3 1 0
           ∷ [];
     }
 
 pub agrees-3 : first-wrong list-3 ≡ 0
-unfolding first-wrong entries apply Direct.start Direct.tick Pipelined.start Pipelined.tick book-words rate-words release-words arrive-words into-frame row-sum column-sum sum least some-of word
+unfolding first-wrong entries apply Direct.start Direct.tick Pipelined.start Pipelined.tick book-words rate-words release-words release-rate-words arrive-words into-frame booking bookings row-sum column-sum sum least some-of word
 agrees-3 = refl
 
 abbrev list-4 : Case
@@ -293,290 +381,146 @@ list-4 =
     record {
       switch =
           record {
-            clock = clock-of 9 10001 5;
-            bookings = 2 ∷ 101 ∷ 4 ∷ 1 ∷ 103 ∷ 104 ∷ 101 ∷ 4 ∷ 103 ∷ [];
-            credits = 101 ∷ 1 ∷ 2 ∷ 102 ∷ 2 ∷ 2 ∷ 103 ∷ 101 ∷ 2 ∷ [];
-            queues = 3 ∷ 102 ∷ 2 ∷ 101 ∷ 104 ∷ 1 ∷ 1 ∷ 103 ∷ 4 ∷ [];
-            copy = 102 ∷ 103 ∷ 103 ∷ 102 ∷ 2 ∷ 1 ∷ 1 ∷ 1 ∷ 102 ∷ [];
-            flight = 2 ∷ 104 ∷ 103 ∷ 7 ∷ 101 ∷ 4 ∷ 2 ∷ 102 ∷ 104 ∷ 102 ∷ 104 ∷ 7 ∷ 1 ∷ 2 ∷ 104 ∷ 2 ∷ 3 ∷ 4 ∷ [];
+            clock = clock-of 9 10001 5 1000;
+            book = book-of (101 ∷ 4 ∷ 1 ∷ 103 ∷ 104 ∷ 101 ∷ 4 ∷ 103 ∷ 101 ∷ []) (1 ∷ 2 ∷ 102 ∷ 2 ∷ 2 ∷ 103 ∷ 101 ∷ 2 ∷ 3 ∷ []);
+            credits = 102 ∷ 2 ∷ 101 ∷ 104 ∷ 1 ∷ 1 ∷ 103 ∷ 4 ∷ 102 ∷ [];
+            queues = 103 ∷ 103 ∷ 102 ∷ 2 ∷ 1 ∷ 1 ∷ 1 ∷ 102 ∷ 2 ∷ [];
+            copy = 104 ∷ 103 ∷ 7 ∷ 101 ∷ 4 ∷ 2 ∷ 102 ∷ 104 ∷ 102 ∷ [];
+            flight = 104 ∷ 7 ∷ 1 ∷ 2 ∷ 104 ∷ 2 ∷ 3 ∷ 4 ∷ 1 ∷ 102 ∷ 104 ∷ 7 ∷ 101 ∷ 3 ∷ 1 ∷ 4 ∷ 1 ∷ 3 ∷ [];
           };
       calls =
-          start direct 3 1
-          ∷ book-rate 3 1 100000000 100000000
-          ∷ book 3 1 1
-          ∷ book-rate 1 2 7 7
-          ∷ book-rate 3 2 100000000 100000000
-          ∷ book-rate 2 1 1000 1000
-          ∷ book-rate 1 1 1 1
-          ∷ book 2 2 1
-          ∷ book 2 2 1
-          ∷ book-rate 2 2 7 7
-          ∷ arrive 2 3 2
-          ∷ arrive 2 1 1
-          ∷ arrive 1 1 2
-          ∷ arrive 1 2 2
-          ∷ arrive 1 1 2
-          ∷ arrive 1 3 2
-          ∷ arrive 3 1 2
-          ∷ arrive 1 2 1
-          ∷ arrive 2 3 1
-          ∷ arrive 1 2 2
-          ∷ arrive 2 3 2
-          ∷ arrive 3 1 2
-          ∷ arrive 1 2 2
-          ∷ arrive 1 1 1
-          ∷ arrive 3 1 1
-          ∷ arrive 2 1 1
-          ∷ arrive 3 1 2
-          ∷ arrive 2 3 2
-          ∷ arrive 3 3 1
-          ∷ arrive 1 3 1
+          start direct 3 2 99999999
+          ∷ book-rate 2 2 49999999
+          ∷ book-rate 2 1 33333333
+          ∷ book-rate 2 1 33333333
+          ∷ book-rate 3 2 16666666
+          ∷ book-rate 3 2 16666666
+          ∷ book-rate 3 2 49999999
+          ∷ book-rate 2 1 16666666
+          ∷ book-rate 2 1 16666666
+          ∷ book-rate 2 1 16666666
+          ∷ book-rate 2 1 16666667
+          ∷ book-rate 2 1 16666667
+          ∷ book-rate 2 1 16666666
+          ∷ book-rate 2 1 16666666
+          ∷ book-rate 2 1 16666666
+          ∷ book-rate 2 1 16666667
+          ∷ arrive 1 2 11
+          ∷ arrive 2 2 7
+          ∷ arrive 3 1 11
+          ∷ arrive 2 3 10
+          ∷ arrive 3 3 12
+          ∷ arrive 1 2 12
+          ∷ arrive 2 2 6
+          ∷ arrive 1 2 8
+          ∷ arrive 1 1 8
+          ∷ arrive 1 3 9
+          ∷ arrive 1 3 6
+          ∷ arrive 3 1 12
+          ∷ arrive 3 3 8
+          ∷ arrive 2 1 7
+          ∷ arrive 3 2 10
+          ∷ arrive 3 1 10
+          ∷ arrive 3 1 10
+          ∷ arrive 1 3 10
+          ∷ book-rate 2 2 33333333
+          ∷ book 3 3 1
+          ∷ tick direct
+          ∷ book-rate 2 2 16666666
           ∷ tick direct
           ∷ tick direct
+          ∷ release 3 3 1
+          ∷ tick direct
+          ∷ arrive 3 3 11
+          ∷ arrive 3 4 1
+          ∷ arrive 1 1 10
+          ∷ tick direct
+          ∷ arrive 2 3 10
           ∷ tick direct
           ∷ tick direct
+          ∷ arrive 2 3 12
           ∷ tick direct
           ∷ tick direct
+          ∷ book 1 0 1
+          ∷ book-rate 2 1 16666666
+          ∷ arrive 1 2 8
+          ∷ tick direct
+          ∷ arrive 1 3 6
+          ∷ tick direct
+          ∷ release-rate 2 2 33333333
           ∷ tick direct
           ∷ tick direct
-          ∷ tick direct
-          ∷ arrive 3 3 2
-          ∷ arrive 2 2 1
-          ∷ tick direct
-          ∷ tick direct
-          ∷ tick direct
-          ∷ tick direct
-          ∷ tick direct
-          ∷ tick direct
-          ∷ book-rate 1 1 7 7
-          ∷ tick direct
-          ∷ tick direct
-          ∷ arrive 1 2 2
-          ∷ arrive 3 2 2
-          ∷ tick direct
-          ∷ tick direct
-          ∷ arrive 1 3 2
-          ∷ tick direct
-          ∷ tick direct
-          ∷ release 3 1 1
-          ∷ tick direct
-          ∷ book-rate 1 1 100000000 100000000
-          ∷ start direct 0 1
           ∷ tick direct
           ∷ [];
       expected =
-          claim 1 1 1 0 2 1 0
-          ∷ claim 1 1 2 0 2 1 0
-          ∷ claim 1 1 3 0 2 1 0
-          ∷ claim 1 1 4 0 2 1 0
-          ∷ claim 1 1 5 0 2 1 0
-          ∷ claim 1 1 6 0 2 1 0
-          ∷ claim 1 1 7 0 2 1 0
-          ∷ claim 1 1 8 0 2 1 0
-          ∷ claim 1 1 9 0 2 1 0
-          ∷ claim 1 1 10 0 2 1 0
-          ∷ claim 1 1 11 0 2 1 0
-          ∷ claim 1 1 12 0 2 1 0
-          ∷ claim 1 1 13 0 2 0 0
-          ∷ claim 1 1 14 0 2 0 0
-          ∷ claim 1 1 15 0 2 0 0
-          ∷ claim 1 1 16 0 2 0 0
-          ∷ claim 1 1 17 0 2 0 0
-          ∷ claim 1 1 18 0 2 0 0
-          ∷ claim 1 1 19 0 2 0 0
-          ∷ claim 1 1 20 0 2 0 0
-          ∷ claim 1 1 21 0 2 0 0
-          ∷ claim 1 1 22 0 1 0 0
-          ∷ claim 1 1 23 0 1 0 0
-          ∷ claim 1 2 1 1 0 1 1
-          ∷ claim 1 2 2 1 0 1 1
-          ∷ claim 1 2 3 1 0 1 1
-          ∷ claim 1 2 4 1 0 1 1
-          ∷ claim 1 2 5 1 0 1 1
-          ∷ claim 1 2 6 1 0 1 1
-          ∷ claim 1 2 7 1 0 1 1
-          ∷ claim 1 2 8 1 0 0 0
-          ∷ claim 1 2 9 1 0 0 0
-          ∷ claim 1 2 10 1 0 0 0
-          ∷ claim 1 2 11 1 0 0 0
-          ∷ claim 1 2 12 1 0 0 0
-          ∷ claim 1 2 13 1 0 0 0
-          ∷ claim 1 2 14 1 0 0 0
-          ∷ claim 1 2 15 1 0 0 0
-          ∷ claim 1 2 16 1 0 0 0
-          ∷ claim 1 2 17 1 0 0 0
-          ∷ claim 1 2 18 1 0 1 1
-          ∷ claim 1 2 19 1 0 1 1
-          ∷ claim 1 2 20 1 0 0 0
-          ∷ claim 1 2 21 1 0 0 0
-          ∷ claim 1 2 22 1 0 0 0
-          ∷ claim 1 2 23 1 0 0 0
-          ∷ claim 1 3 1 0 1 1 0
-          ∷ claim 1 3 2 0 1 1 0
-          ∷ claim 1 3 3 0 1 1 0
-          ∷ claim 1 3 4 0 1 1 0
-          ∷ claim 1 3 5 0 1 1 0
-          ∷ claim 1 3 6 0 1 1 0
-          ∷ claim 1 3 7 0 1 1 0
-          ∷ claim 1 3 8 0 1 1 0
-          ∷ claim 1 3 9 0 1 1 0
-          ∷ claim 1 3 10 0 1 1 0
-          ∷ claim 1 3 11 0 1 1 0
-          ∷ claim 1 3 12 0 1 1 0
-          ∷ claim 1 3 13 0 1 1 0
-          ∷ claim 1 3 14 0 1 1 0
-          ∷ claim 1 3 15 0 1 1 0
-          ∷ claim 1 3 16 0 1 0 0
-          ∷ claim 1 3 17 0 1 0 0
-          ∷ claim 1 3 18 0 1 0 0
-          ∷ claim 1 3 19 0 1 0 0
-          ∷ claim 1 3 20 0 1 1 0
-          ∷ claim 1 3 21 0 1 1 0
-          ∷ claim 1 3 22 0 1 0 0
-          ∷ claim 1 3 23 0 1 0 0
-          ∷ claim 2 1 1 0 1 1 0
-          ∷ claim 2 1 2 0 1 1 0
-          ∷ claim 2 1 3 0 1 1 0
-          ∷ claim 2 1 4 0 1 1 0
-          ∷ claim 2 1 5 0 1 1 0
-          ∷ claim 2 1 6 0 1 1 0
-          ∷ claim 2 1 7 0 1 1 0
-          ∷ claim 2 1 8 0 1 1 0
-          ∷ claim 2 1 9 0 1 1 0
-          ∷ claim 2 1 10 0 1 1 0
-          ∷ claim 2 1 11 0 1 1 0
-          ∷ claim 2 1 12 0 1 1 0
-          ∷ claim 2 1 13 0 1 1 0
-          ∷ claim 2 1 14 0 1 1 0
-          ∷ claim 2 1 15 0 1 0 0
-          ∷ claim 2 1 16 0 1 0 0
-          ∷ claim 2 1 17 0 1 0 0
-          ∷ claim 2 1 18 0 1 0 0
-          ∷ claim 2 1 19 0 1 0 0
-          ∷ claim 2 1 20 0 1 0 0
-          ∷ claim 2 1 21 0 1 0 0
-          ∷ claim 2 1 22 0 0 0 0
-          ∷ claim 2 1 23 0 0 0 0
-          ∷ claim 2 2 1 0 1 0 0
-          ∷ claim 2 2 2 0 1 0 0
-          ∷ claim 2 2 3 0 1 0 0
-          ∷ claim 2 2 4 0 1 0 0
-          ∷ claim 2 2 5 0 1 0 0
-          ∷ claim 2 2 6 0 1 0 0
-          ∷ claim 2 2 7 0 1 0 0
-          ∷ claim 2 2 8 0 1 0 0
-          ∷ claim 2 2 9 0 1 0 0
-          ∷ claim 2 2 10 0 1 1 0
-          ∷ claim 2 2 11 0 1 0 0
-          ∷ claim 2 2 12 0 1 0 0
-          ∷ claim 2 2 13 0 1 0 0
-          ∷ claim 2 2 14 0 1 0 0
-          ∷ claim 2 2 15 0 1 0 0
-          ∷ claim 2 2 16 0 1 0 0
-          ∷ claim 2 2 17 0 1 0 0
-          ∷ claim 2 2 18 0 1 0 0
-          ∷ claim 2 2 19 0 1 0 0
-          ∷ claim 2 2 20 0 1 0 0
-          ∷ claim 2 2 21 0 1 0 0
-          ∷ claim 2 2 22 0 1 0 0
-          ∷ claim 2 2 23 0 1 0 0
-          ∷ claim 2 3 1 0 0 1 0
-          ∷ claim 2 3 2 0 0 1 0
-          ∷ claim 2 3 3 0 0 1 0
-          ∷ claim 2 3 4 0 0 1 0
-          ∷ claim 2 3 5 0 0 1 0
-          ∷ claim 2 3 6 0 0 1 0
-          ∷ claim 2 3 7 0 0 1 0
-          ∷ claim 2 3 8 0 0 0 0
-          ∷ claim 2 3 9 0 0 0 0
-          ∷ claim 2 3 10 0 0 0 0
-          ∷ claim 2 3 11 0 0 0 0
-          ∷ claim 2 3 12 0 0 0 0
-          ∷ claim 2 3 13 0 0 0 0
-          ∷ claim 2 3 14 0 0 0 0
-          ∷ claim 2 3 15 0 0 0 0
-          ∷ claim 2 3 16 0 0 0 0
-          ∷ claim 2 3 17 0 0 0 0
-          ∷ claim 2 3 18 0 0 0 0
-          ∷ claim 2 3 19 0 0 0 0
-          ∷ claim 2 3 20 0 0 0 0
-          ∷ claim 2 3 21 0 0 0 0
-          ∷ claim 2 3 22 0 0 0 0
-          ∷ claim 2 3 23 0 0 0 0
-          ∷ claim 3 1 1 1 0 1 1
-          ∷ claim 3 1 2 1 0 1 1
-          ∷ claim 3 1 3 1 0 1 1
-          ∷ claim 3 1 4 1 0 1 1
-          ∷ claim 3 1 5 1 0 1 1
-          ∷ claim 3 1 6 1 0 1 1
-          ∷ claim 3 1 7 1 0 1 1
-          ∷ claim 3 1 8 1 0 0 0
-          ∷ claim 3 1 9 1 0 0 0
-          ∷ claim 3 1 10 1 0 0 0
-          ∷ claim 3 1 11 1 0 0 0
-          ∷ claim 3 1 12 1 0 0 0
-          ∷ claim 3 1 13 1 0 0 0
-          ∷ claim 3 1 14 1 0 0 0
-          ∷ claim 3 1 15 1 0 0 0
-          ∷ claim 3 1 16 1 0 0 0
-          ∷ claim 3 1 17 1 0 0 0
-          ∷ claim 3 1 18 1 0 0 0
-          ∷ claim 3 1 19 1 0 0 0
-          ∷ claim 3 1 20 1 0 0 0
-          ∷ claim 3 1 21 1 0 0 0
-          ∷ claim 3 1 22 0 0 0 0
-          ∷ claim 3 1 23 0 0 0 0
-          ∷ claim 3 2 1 0 2 0 0
-          ∷ claim 3 2 2 0 2 0 0
-          ∷ claim 3 2 3 0 2 0 0
-          ∷ claim 3 2 4 0 2 0 0
-          ∷ claim 3 2 5 0 2 0 0
-          ∷ claim 3 2 6 0 2 0 0
-          ∷ claim 3 2 7 0 2 0 0
-          ∷ claim 3 2 8 0 2 0 0
-          ∷ claim 3 2 9 0 2 0 0
-          ∷ claim 3 2 10 0 2 0 0
-          ∷ claim 3 2 11 0 2 0 0
-          ∷ claim 3 2 12 0 2 0 0
-          ∷ claim 3 2 13 0 2 0 0
-          ∷ claim 3 2 14 0 2 0 0
-          ∷ claim 3 2 15 0 2 0 0
-          ∷ claim 3 2 16 0 2 0 0
-          ∷ claim 3 2 17 0 2 0 0
-          ∷ claim 3 2 18 0 2 1 0
-          ∷ claim 3 2 19 0 2 1 0
-          ∷ claim 3 2 20 0 2 1 0
-          ∷ claim 3 2 21 0 2 1 0
-          ∷ claim 3 2 22 0 1 0 0
-          ∷ claim 3 2 23 0 1 0 0
-          ∷ claim 3 3 1 0 1 1 0
-          ∷ claim 3 3 2 0 1 1 0
-          ∷ claim 3 3 3 0 1 1 0
-          ∷ claim 3 3 4 0 1 1 0
-          ∷ claim 3 3 5 0 1 1 0
-          ∷ claim 3 3 6 0 1 1 0
-          ∷ claim 3 3 7 0 1 1 0
-          ∷ claim 3 3 8 0 1 1 0
-          ∷ claim 3 3 9 0 1 0 0
-          ∷ claim 3 3 10 0 1 1 0
-          ∷ claim 3 3 11 0 1 1 0
-          ∷ claim 3 3 12 0 1 0 0
-          ∷ claim 3 3 13 0 1 0 0
-          ∷ claim 3 3 14 0 1 0 0
-          ∷ claim 3 3 15 0 1 0 0
-          ∷ claim 3 3 16 0 1 0 0
-          ∷ claim 3 3 17 0 1 0 0
-          ∷ claim 3 3 18 0 1 0 0
-          ∷ claim 3 3 19 0 1 0 0
-          ∷ claim 3 3 20 0 1 0 0
-          ∷ claim 3 3 21 0 1 0 0
-          ∷ claim 3 3 22 0 0 0 0
-          ∷ claim 3 3 23 0 0 0 0
+          claim 1 1 1 0 0 2 0
+          ∷ claim 1 1 3 0 0 2 0
+          ∷ claim 1 1 5 0 0 2 0
+          ∷ claim 1 1 7 0 0 2 0
+          ∷ claim 1 1 9 0 0 2 0
+          ∷ claim 1 1 11 0 0 2 0
+          ∷ claim 1 1 13 0 0 2 0
+          ∷ claim 1 2 1 0 1 2 0
+          ∷ claim 1 2 3 0 1 2 0
+          ∷ claim 1 2 5 0 1 2 0
+          ∷ claim 1 2 7 0 1 2 0
+          ∷ claim 1 2 9 0 1 2 0
+          ∷ claim 1 2 11 0 1 2 0
+          ∷ claim 1 2 13 0 1 2 0
+          ∷ claim 1 3 1 0 1 2 0
+          ∷ claim 1 3 3 0 1 2 0
+          ∷ claim 1 3 5 0 0 2 0
+          ∷ claim 1 3 7 0 0 2 0
+          ∷ claim 1 3 9 0 0 2 0
+          ∷ claim 1 3 11 0 0 2 0
+          ∷ claim 1 3 13 0 0 2 0
+          ∷ claim 2 1 1 0 1 2 0
+          ∷ claim 2 1 3 0 1 2 0
+          ∷ claim 2 1 5 0 1 2 0
+          ∷ claim 2 1 7 0 1 2 0
+          ∷ claim 2 1 9 0 1 2 0
+          ∷ claim 2 1 11 0 1 2 0
+          ∷ claim 2 1 13 0 1 2 0
+          ∷ claim 2 2 1 1 0 2 1
+          ∷ claim 2 2 3 1 0 2 1
+          ∷ claim 2 2 5 1 0 2 1
+          ∷ claim 2 2 7 1 0 2 1
+          ∷ claim 2 2 9 1 0 2 1
+          ∷ claim 2 2 11 1 0 2 1
+          ∷ claim 2 2 13 1 0 1 1
+          ∷ claim 2 3 1 0 2 2 0
+          ∷ claim 2 3 3 0 2 2 0
+          ∷ claim 2 3 5 0 1 2 0
+          ∷ claim 2 3 7 0 1 2 0
+          ∷ claim 2 3 9 0 1 2 0
+          ∷ claim 2 3 11 0 1 2 0
+          ∷ claim 2 3 13 0 1 2 0
+          ∷ claim 3 1 1 0 1 2 0
+          ∷ claim 3 1 3 0 1 2 0
+          ∷ claim 3 1 5 0 0 2 0
+          ∷ claim 3 1 7 0 0 2 0
+          ∷ claim 3 1 9 0 0 2 0
+          ∷ claim 3 1 11 0 0 2 0
+          ∷ claim 3 1 13 0 0 2 0
+          ∷ claim 3 2 1 0 2 2 0
+          ∷ claim 3 2 3 0 2 2 0
+          ∷ claim 3 2 5 0 1 2 0
+          ∷ claim 3 2 7 0 1 2 0
+          ∷ claim 3 2 9 0 1 2 0
+          ∷ claim 3 2 11 0 1 2 0
+          ∷ claim 3 2 13 0 1 2 0
+          ∷ claim 3 3 1 1 0 2 1
+          ∷ claim 3 3 3 1 0 2 1
+          ∷ claim 3 3 5 0 0 2 0
+          ∷ claim 3 3 7 0 0 2 0
+          ∷ claim 3 3 9 0 0 2 0
+          ∷ claim 3 3 11 0 0 2 0
+          ∷ claim 3 3 13 0 0 2 0
           ∷ [];
     }
 
 pub agrees-4 : first-wrong list-4 ≡ 0
-unfolding first-wrong entries apply Direct.start Direct.tick Pipelined.start Pipelined.tick book-words rate-words release-words arrive-words into-frame row-sum column-sum sum least some-of word
+unfolding first-wrong entries apply Direct.start Direct.tick Pipelined.start Pipelined.tick book-words rate-words release-words release-rate-words arrive-words into-frame booking bookings row-sum column-sum sum least some-of word
 agrees-4 = refl
 
 abbrev list-5 : Case
@@ -584,123 +528,73 @@ list-5 =
     record {
       switch =
           record {
-            clock = clock-of 2 10001 77;
-            bookings = 1 ∷ 3 ∷ 1 ∷ 102 ∷ 101 ∷ 3 ∷ 104 ∷ 3 ∷ 4 ∷ [];
-            credits = 4 ∷ 2 ∷ 1 ∷ 1 ∷ 1 ∷ 103 ∷ 7 ∷ 7 ∷ 1 ∷ [];
-            queues = 3 ∷ 4 ∷ 102 ∷ 1 ∷ 4 ∷ 104 ∷ 101 ∷ 3 ∷ 1 ∷ [];
-            copy = 3 ∷ 101 ∷ 2 ∷ 3 ∷ 1 ∷ 101 ∷ 1 ∷ 4 ∷ 102 ∷ [];
-            flight = 3 ∷ 1 ∷ 3 ∷ 1 ∷ 2 ∷ 7 ∷ 7 ∷ 103 ∷ 103 ∷ 104 ∷ 1 ∷ 7 ∷ 101 ∷ 1 ∷ 103 ∷ 101 ∷ 3 ∷ 103 ∷ [];
+            clock = clock-of 2 10001 77 1;
+            book = book-of (3 ∷ 1 ∷ 102 ∷ 101 ∷ 3 ∷ 104 ∷ 3 ∷ 4 ∷ 4 ∷ []) (2 ∷ 1 ∷ 1 ∷ 1 ∷ 103 ∷ 7 ∷ 7 ∷ 1 ∷ 3 ∷ []);
+            credits = 4 ∷ 102 ∷ 1 ∷ 4 ∷ 104 ∷ 101 ∷ 3 ∷ 1 ∷ 3 ∷ [];
+            queues = 101 ∷ 2 ∷ 3 ∷ 1 ∷ 101 ∷ 1 ∷ 4 ∷ 102 ∷ 3 ∷ [];
+            copy = 1 ∷ 3 ∷ 1 ∷ 2 ∷ 7 ∷ 7 ∷ 103 ∷ 103 ∷ 104 ∷ [];
+            flight = 1 ∷ 7 ∷ 101 ∷ 1 ∷ 103 ∷ 101 ∷ 3 ∷ 103 ∷ 2 ∷ 3 ∷ 2 ∷ 4 ∷ 104 ∷ 101 ∷ 2 ∷ 1 ∷ 1 ∷ 1 ∷ [];
           };
       calls =
-          start pipelined 2 7
+          start pipelined 1 3 1000
           ∷ book 1 1 1
-          ∷ book-rate 2 2 99999999 14285714
-          ∷ book 2 2 1
-          ∷ book 2 1 1
-          ∷ arrive 1 1 49
-          ∷ arrive 1 2 60
-          ∷ arrive 2 1 72
-          ∷ arrive 2 1 86
-          ∷ arrive 1 1 58
-          ∷ arrive 1 2 47
-          ∷ arrive 1 1 87
-          ∷ tick pipelined
-          ∷ arrive 1 2 63
+          ∷ arrive 1 1 4
           ∷ tick pipelined
           ∷ tick pipelined
-          ∷ arrive 1 1 80
-          ∷ release 1 1 1
-          ∷ arrive 1 2 57
+          ∷ arrive 1 1 5
+          ∷ start pipelined 1 3 100000001
+          ∷ release-rate 1 1 1
           ∷ tick pipelined
-          ∷ book-rate 2 1 100000000 14285714
-          ∷ release 2 2 1
-          ∷ tick pipelined
-          ∷ start pipelined 3 7
-          ∷ book-rate 3 3 1000 143
-          ∷ book-rate 1 2 1000 142
-          ∷ book-rate 1 3 1000 571
-          ∷ book 1 2 1
-          ∷ book-rate 1 3 7 1
-          ∷ book 2 1 3
-          ∷ book 2 1 1
-          ∷ book 1 3 1
-          ∷ arrive 2 1 2
-          ∷ arrive 3 2 1
-          ∷ arrive 2 1 2
-          ∷ arrive 2 3 2
-          ∷ arrive 2 2 1
-          ∷ arrive 2 1 1
-          ∷ arrive 1 3 2
-          ∷ arrive 2 1 1
-          ∷ arrive 1 1 2
-          ∷ arrive 3 3 2
-          ∷ arrive 2 2 1
-          ∷ arrive 2 3 2
-          ∷ arrive 1 2 1
-          ∷ arrive 1 2 2
-          ∷ arrive 1 3 1
+          ∷ arrive 1 1 5
           ∷ tick pipelined
           ∷ tick pipelined
-          ∷ arrive 2 2 1
+          ∷ arrive 1 1 3
+          ∷ book 1 1 1
+          ∷ start pipelined 1 3 100000001
           ∷ tick pipelined
-          ∷ tick pipelined
-          ∷ tick pipelined
-          ∷ start pipelined 0 7
-          ∷ tick pipelined
-          ∷ arrive 1 1 1
-          ∷ book-rate 1 1 1000 143
-          ∷ book-rate 2 1 99999999 14285715
-          ∷ book-rate 1 2 7 1
-          ∷ arrive 1 2 65536
+          ∷ start pipelined 2 5 99999999
+          ∷ book-rate 2 2 6666666
+          ∷ book-rate 2 2 6666666
+          ∷ book-rate 1 1 20000000
+          ∷ arrive 2 1 3
+          ∷ arrive 1 2 5
+          ∷ arrive 2 1 4
           ∷ tick pipelined
           ∷ tick pipelined
           ∷ tick pipelined
           ∷ tick pipelined
-          ∷ release 1 4 1
-          ∷ book 3 2 8
+          ∷ release 2 1 1
+          ∷ tick pipelined
+          ∷ book 1 2 3
+          ∷ tick pipelined
+          ∷ release-rate 1 1 6666666
+          ∷ tick pipelined
+          ∷ arrive 2 2 3
+          ∷ arrive 1 4294967297 1
+          ∷ release-rate 2 3 1
+          ∷ release-rate 2 2 13333332
           ∷ tick pipelined
           ∷ tick pipelined
-          ∷ tick pipelined
-          ∷ tick pipelined
-          ∷ book-rate 1 1 99999999 14285714
-          ∷ tick pipelined
-          ∷ tick pipelined
-          ∷ start pipelined 3 0
           ∷ tick pipelined
           ∷ [];
       expected =
-          claim 1 1 1 0 0 1 0
-          ∷ claim 1 1 8 0 8 3 0
-          ∷ claim 1 1 15 0 8 1 0
+          claim 1 1 1 0 0 0 0
+          ∷ claim 1 1 6 2 0 0 0
+          ∷ claim 1 1 11 1 0 0 0
           ∷ claim 1 2 1 0 0 1 0
-          ∷ claim 1 2 8 2 2 2 2
-          ∷ claim 1 2 15 2 2 0 0
-          ∷ claim 1 3 1 0 0 1 0
-          ∷ claim 1 3 8 2 4 4 2
-          ∷ claim 1 3 15 2 4 0 0
+          ∷ claim 1 2 6 0 3 4 0
+          ∷ claim 1 2 11 0 2 0 0
           ∷ claim 2 1 1 0 0 1 0
-          ∷ claim 2 1 8 4 0 4 4
-          ∷ claim 2 1 15 4 0 0 0
-          ∷ claim 2 2 1 0 0 1 0
-          ∷ claim 2 2 8 0 6 7 0
-          ∷ claim 2 2 15 0 6 1 0
-          ∷ claim 2 3 1 0 0 1 0
-          ∷ claim 2 3 8 0 8 7 0
-          ∷ claim 2 3 15 0 8 4 0
-          ∷ claim 3 1 1 0 0 0 0
-          ∷ claim 3 1 8 0 6 0 0
-          ∷ claim 3 1 15 0 6 0 0
-          ∷ claim 3 2 1 0 0 1 0
-          ∷ claim 3 2 8 0 4 3 0
-          ∷ claim 3 2 15 0 4 0 0
-          ∷ claim 3 3 1 0 0 1 0
-          ∷ claim 3 3 8 2 2 1 1
-          ∷ claim 3 3 15 2 2 0 0
+          ∷ claim 2 1 6 0 3 5 0
+          ∷ claim 2 1 11 0 2 1 0
+          ∷ claim 2 2 1 0 0 0 0
+          ∷ claim 2 2 6 1 0 0 0
+          ∷ claim 2 2 11 1 0 1 1
           ∷ [];
     }
 
 pub agrees-5 : first-wrong list-5 ≡ 0
-unfolding first-wrong entries apply Direct.start Direct.tick Pipelined.start Pipelined.tick book-words rate-words release-words arrive-words into-frame row-sum column-sum sum least some-of word
+unfolding first-wrong entries apply Direct.start Direct.tick Pipelined.start Pipelined.tick book-words rate-words release-words release-rate-words arrive-words into-frame booking bookings row-sum column-sum sum least some-of word
 agrees-5 = refl
 
 abbrev list-6 : Case
@@ -708,47 +602,144 @@ list-6 =
     record {
       switch =
           record {
-            clock = clock-of 2 5 1;
-            bookings = 1 ∷ 7 ∷ 1 ∷ 103 ∷ 1 ∷ 101 ∷ 1 ∷ 101 ∷ 103 ∷ [];
-            credits = 1 ∷ 102 ∷ 103 ∷ 1 ∷ 4 ∷ 1 ∷ 103 ∷ 1 ∷ 1 ∷ [];
-            queues = 1 ∷ 1 ∷ 103 ∷ 1 ∷ 104 ∷ 7 ∷ 7 ∷ 103 ∷ 2 ∷ [];
-            copy = 7 ∷ 102 ∷ 1 ∷ 7 ∷ 2 ∷ 103 ∷ 7 ∷ 101 ∷ 2 ∷ [];
-            flight = 1 ∷ 1 ∷ 4 ∷ 103 ∷ 1 ∷ 103 ∷ 103 ∷ 101 ∷ 1 ∷ 1 ∷ 103 ∷ 1 ∷ 3 ∷ 102 ∷ 104 ∷ 103 ∷ 104 ∷ 3 ∷ [];
+            clock = clock-of 2 5 1 0;
+            book = book-of (7 ∷ 1 ∷ 103 ∷ 1 ∷ 101 ∷ 1 ∷ 101 ∷ 103 ∷ 1 ∷ []) (102 ∷ 103 ∷ 1 ∷ 4 ∷ 1 ∷ 103 ∷ 1 ∷ 1 ∷ 1 ∷ []);
+            credits = 1 ∷ 103 ∷ 1 ∷ 104 ∷ 7 ∷ 7 ∷ 103 ∷ 2 ∷ 7 ∷ [];
+            queues = 102 ∷ 1 ∷ 7 ∷ 2 ∷ 103 ∷ 7 ∷ 101 ∷ 2 ∷ 1 ∷ [];
+            copy = 1 ∷ 4 ∷ 103 ∷ 1 ∷ 103 ∷ 103 ∷ 101 ∷ 1 ∷ 1 ∷ [];
+            flight = 103 ∷ 1 ∷ 3 ∷ 102 ∷ 104 ∷ 103 ∷ 104 ∷ 3 ∷ 7 ∷ 3 ∷ 2 ∷ 1 ∷ 104 ∷ 3 ∷ 1 ∷ 4 ∷ 101 ∷ 1 ∷ [];
           };
       calls =
-          start direct 1 7
-          ∷ book 1 1 1
-          ∷ arrive 1 1 63
+          start direct 3 3 100000000
+          ∷ book-rate 2 3 33333333
+          ∷ book-rate 2 3 33333333
+          ∷ book-rate 3 2 33333333
+          ∷ arrive 2 2 10
+          ∷ arrive 3 2 8
+          ∷ arrive 2 2 7
+          ∷ arrive 3 2 12
+          ∷ arrive 3 1 10
+          ∷ arrive 3 2 6
+          ∷ arrive 2 3 9
+          ∷ arrive 1 3 9
+          ∷ release-rate 1 3 1
           ∷ tick direct
-          ∷ tick direct
-          ∷ arrive 1 1 57
-          ∷ arrive 1 1 60
-          ∷ release 1 1 2
-          ∷ tick direct
-          ∷ tick direct
-          ∷ tick direct
-          ∷ arrive 1 1 51
-          ∷ tick direct
-          ∷ release 1 1 4
-          ∷ tick direct
-          ∷ tick direct
-          ∷ arrive 1 1 79
-          ∷ tick direct
+          ∷ release 3 3 1
+          ∷ release-rate 2 3 66666667
           ∷ tick direct
           ∷ tick direct
           ∷ tick direct
-          ∷ arrive 1 1 86
+          ∷ start direct 3 0 100000000
           ∷ tick direct
+          ∷ release 2 3 1
+          ∷ arrive 3 3 12
+          ∷ tick direct
+          ∷ arrive 2 1 11
+          ∷ tick direct
+          ∷ book-rate 3 3 11111112
+          ∷ tick direct
+          ∷ tick direct
+          ∷ arrive 1 3 11
+          ∷ arrive 1 1 7
+          ∷ tick direct
+          ∷ tick direct
+          ∷ tick direct
+          ∷ arrive 2 2 9
+          ∷ tick direct
+          ∷ release 1 3 1
+          ∷ tick direct
+          ∷ tick direct
+          ∷ tick direct
+          ∷ book 3 3 1
+          ∷ tick direct
+          ∷ release-rate 2 3 66666667
+          ∷ tick direct
+          ∷ arrive 2 3 9
+          ∷ book-rate 1 2 0
+          ∷ tick direct
+          ∷ tick direct
+          ∷ tick direct
+          ∷ arrive 1 3 11
           ∷ tick direct
           ∷ [];
       expected =
-          claim 1 1 1 1 0 7 1
-          ∷ claim 1 1 8 1 0 7 1
+          claim 1 1 1 0 0 0 0
+          ∷ claim 1 1 4 0 0 0 0
+          ∷ claim 1 1 7 0 0 0 0
+          ∷ claim 1 1 10 0 0 3 0
+          ∷ claim 1 1 13 0 0 3 0
+          ∷ claim 1 1 16 0 0 1 0
+          ∷ claim 1 1 19 0 0 0 0
+          ∷ claim 1 1 22 0 0 0 0
+          ∷ claim 1 2 1 0 1 0 0
+          ∷ claim 1 2 4 0 1 0 0
+          ∷ claim 1 2 7 0 1 0 0
+          ∷ claim 1 2 10 0 1 0 0
+          ∷ claim 1 2 13 0 1 0 0
+          ∷ claim 1 2 16 0 1 0 0
+          ∷ claim 1 2 19 0 1 0 0
+          ∷ claim 1 2 22 0 1 0 0
+          ∷ claim 1 3 1 0 2 3 0
+          ∷ claim 1 3 4 0 2 3 0
+          ∷ claim 1 3 7 0 2 3 0
+          ∷ claim 1 3 10 0 2 3 0
+          ∷ claim 1 3 13 0 2 3 0
+          ∷ claim 1 3 16 0 2 3 0
+          ∷ claim 1 3 19 0 2 3 0
+          ∷ claim 1 3 22 0 2 1 0
+          ∷ claim 2 1 1 0 2 0 0
+          ∷ claim 2 1 4 0 2 0 0
+          ∷ claim 2 1 7 0 2 3 0
+          ∷ claim 2 1 10 0 2 3 0
+          ∷ claim 2 1 13 0 2 3 0
+          ∷ claim 2 1 16 0 2 3 0
+          ∷ claim 2 1 19 0 2 3 0
+          ∷ claim 2 1 22 0 2 1 0
+          ∷ claim 2 2 1 0 3 3 0
+          ∷ claim 2 2 4 0 3 3 0
+          ∷ claim 2 2 7 0 3 3 0
+          ∷ claim 2 2 10 0 3 3 0
+          ∷ claim 2 2 13 0 3 3 0
+          ∷ claim 2 2 16 0 3 3 0
+          ∷ claim 2 2 19 0 3 3 0
+          ∷ claim 2 2 22 0 3 1 0
+          ∷ claim 2 3 1 2 0 3 2
+          ∷ claim 2 3 4 2 0 3 2
+          ∷ claim 2 3 7 2 0 3 2
+          ∷ claim 2 3 10 2 0 3 2
+          ∷ claim 2 3 13 2 0 1 1
+          ∷ claim 2 3 16 2 0 0 0
+          ∷ claim 2 3 19 2 0 3 2
+          ∷ claim 2 3 22 2 0 1 1
+          ∷ claim 3 1 1 0 1 3 0
+          ∷ claim 3 1 4 0 1 3 0
+          ∷ claim 3 1 7 0 1 3 0
+          ∷ claim 3 1 10 0 1 3 0
+          ∷ claim 3 1 13 0 1 3 0
+          ∷ claim 3 1 16 0 1 3 0
+          ∷ claim 3 1 19 0 1 3 0
+          ∷ claim 3 1 22 0 1 1 0
+          ∷ claim 3 2 1 1 0 3 1
+          ∷ claim 3 2 4 1 0 3 1
+          ∷ claim 3 2 7 1 0 3 1
+          ∷ claim 3 2 10 1 0 3 1
+          ∷ claim 3 2 13 1 0 3 1
+          ∷ claim 3 2 16 1 0 3 1
+          ∷ claim 3 2 19 1 0 3 1
+          ∷ claim 3 2 22 1 0 1 1
+          ∷ claim 3 3 1 0 3 0 0
+          ∷ claim 3 3 4 0 3 1 0
+          ∷ claim 3 3 7 0 3 3 0
+          ∷ claim 3 3 10 0 3 3 0
+          ∷ claim 3 3 13 0 3 3 0
+          ∷ claim 3 3 16 0 3 3 0
+          ∷ claim 3 3 19 0 3 3 0
+          ∷ claim 3 3 22 0 3 1 0
           ∷ [];
     }
 
 pub agrees-6 : first-wrong list-6 ≡ 0
-unfolding first-wrong entries apply Direct.start Direct.tick Pipelined.start Pipelined.tick book-words rate-words release-words arrive-words into-frame row-sum column-sum sum least some-of word
+unfolding first-wrong entries apply Direct.start Direct.tick Pipelined.start Pipelined.tick book-words rate-words release-words release-rate-words arrive-words into-frame booking bookings row-sum column-sum sum least some-of word
 agrees-6 = refl
 
 abbrev list-7 : Case
@@ -756,136 +747,66 @@ list-7 =
     record {
       switch =
           record {
-            clock = clock-of 3 10001 1;
-            bookings = 1 ∷ 101 ∷ 101 ∷ 1 ∷ 103 ∷ 2 ∷ 102 ∷ 1 ∷ 103 ∷ [];
-            credits = 103 ∷ 1 ∷ 4 ∷ 7 ∷ 1 ∷ 102 ∷ 103 ∷ 7 ∷ 2 ∷ [];
-            queues = 4 ∷ 4 ∷ 2 ∷ 3 ∷ 1 ∷ 7 ∷ 3 ∷ 101 ∷ 2 ∷ [];
-            copy = 104 ∷ 4 ∷ 2 ∷ 102 ∷ 4 ∷ 103 ∷ 102 ∷ 101 ∷ 3 ∷ [];
-            flight = 103 ∷ 1 ∷ 104 ∷ 104 ∷ 2 ∷ 2 ∷ 1 ∷ 7 ∷ 4 ∷ 7 ∷ 2 ∷ 2 ∷ 103 ∷ 3 ∷ 1 ∷ 7 ∷ 104 ∷ 104 ∷ [];
+            clock = clock-of 3 10001 1 100000001;
+            book = book-of (101 ∷ 101 ∷ 1 ∷ 103 ∷ 2 ∷ 102 ∷ 1 ∷ 103 ∷ 103 ∷ []) (1 ∷ 4 ∷ 7 ∷ 1 ∷ 102 ∷ 103 ∷ 7 ∷ 2 ∷ 4 ∷ []);
+            credits = 4 ∷ 2 ∷ 3 ∷ 1 ∷ 7 ∷ 3 ∷ 101 ∷ 2 ∷ 104 ∷ [];
+            queues = 4 ∷ 2 ∷ 102 ∷ 4 ∷ 103 ∷ 102 ∷ 101 ∷ 3 ∷ 103 ∷ [];
+            copy = 1 ∷ 104 ∷ 104 ∷ 2 ∷ 2 ∷ 1 ∷ 7 ∷ 4 ∷ 7 ∷ [];
+            flight = 2 ∷ 2 ∷ 103 ∷ 3 ∷ 1 ∷ 7 ∷ 104 ∷ 104 ∷ 7 ∷ 103 ∷ 2 ∷ 4 ∷ 1 ∷ 103 ∷ 104 ∷ 101 ∷ 7 ∷ 3 ∷ [];
           };
       calls =
-          start pipelined 3 5
-          ∷ book-rate 1 1 7 1
-          ∷ book-rate 2 3 1000 601
-          ∷ book-rate 2 2 7 1
-          ∷ book 3 1 1
-          ∷ book-rate 2 1 1 1
-          ∷ book 3 3 1
-          ∷ book-rate 1 3 99999999 19999999
-          ∷ arrive 2 1 65535
-          ∷ arrive 2 1 65535
-          ∷ arrive 2 1 65535
-          ∷ arrive 2 1 65535
-          ∷ arrive 2 1 65535
-          ∷ arrive 2 1 65535
-          ∷ arrive 2 1 65535
-          ∷ arrive 2 1 65535
-          ∷ arrive 2 1 65535
-          ∷ arrive 2 1 65535
-          ∷ arrive 2 1 65535
-          ∷ arrive 2 1 65535
-          ∷ arrive 2 1 65535
-          ∷ arrive 2 1 65535
-          ∷ arrive 2 1 65535
-          ∷ arrive 2 1 16976
-          ∷ arrive 2 1 16975
-          ∷ arrive 2 1 1
-          ∷ arrive 2 3 7
-          ∷ arrive 3 2 11
-          ∷ arrive 3 2 8
-          ∷ arrive 1 3 8
-          ∷ arrive 2 2 11
-          ∷ arrive 2 3 12
-          ∷ arrive 2 1 7
-          ∷ arrive 3 3 11
-          ∷ arrive 2 2 10
-          ∷ arrive 2 3 8
-          ∷ arrive 2 2 12
-          ∷ tick pipelined
-          ∷ tick pipelined
-          ∷ tick pipelined
-          ∷ arrive 1 2 0
-          ∷ tick pipelined
-          ∷ start pipelined 7 32
-          ∷ tick pipelined
-          ∷ tick pipelined
-          ∷ book 3 2 1
+          start pipelined 2 6 1000
+          ∷ book-rate 1 1 56
+          ∷ book-rate 1 1 56
+          ∷ book-rate 1 1 55
+          ∷ book 1 2 1
+          ∷ arrive 2 2 4
+          ∷ arrive 2 1 2
+          ∷ arrive 1 1 3
+          ∷ arrive 2 2 2
+          ∷ arrive 2 1 2
+          ∷ arrive 1 2 4
           ∷ book 1 1 2
           ∷ tick pipelined
           ∷ tick pipelined
+          ∷ arrive 1 2 5
+          ∷ release 1 2 1
           ∷ tick pipelined
           ∷ tick pipelined
           ∷ tick pipelined
           ∷ tick pipelined
-          ∷ arrive 3 3 9
           ∷ tick pipelined
-          ∷ release 1 1 1
-          ∷ start pipelined 0 5
           ∷ tick pipelined
+          ∷ release-rate 1 1 168
           ∷ tick pipelined
           ∷ tick pipelined
           ∷ tick pipelined
-          ∷ arrive 1 2 11
           ∷ tick pipelined
           ∷ tick pipelined
-          ∷ book-rate 3 2 0 1
-          ∷ tick pipelined
+          ∷ release-rate 1 1 168
           ∷ tick pipelined
           ∷ tick pipelined
           ∷ tick pipelined
           ∷ tick pipelined
           ∷ [];
       expected =
-          claim 1 1 1 0 0 0 0
-          ∷ claim 1 1 6 0 0 0 0
-          ∷ claim 1 1 11 1 2 0 0
-          ∷ claim 1 1 16 1 2 0 0
-          ∷ claim 1 1 21 0 2 0 0
-          ∷ claim 1 2 1 0 0 0 0
-          ∷ claim 1 2 6 0 0 0 0
-          ∷ claim 1 2 11 0 3 0 0
-          ∷ claim 1 2 16 0 4 0 0
-          ∷ claim 1 2 21 0 3 2 0
-          ∷ claim 1 3 1 0 0 0 0
-          ∷ claim 1 3 6 0 0 4 0
-          ∷ claim 1 3 11 1 2 3 1
-          ∷ claim 1 3 16 1 2 0 0
-          ∷ claim 1 3 21 1 1 0 0
-          ∷ claim 2 1 1 0 0 0 0
-          ∷ claim 2 1 6 0 0 4 0
-          ∷ claim 2 1 11 0 3 5 0
-          ∷ claim 2 1 16 0 3 5 0
-          ∷ claim 2 1 21 0 2 5 0
-          ∷ claim 2 2 1 0 0 0 0
-          ∷ claim 2 2 6 0 0 4 0
-          ∷ claim 2 2 11 1 0 5 1
-          ∷ claim 2 2 16 1 1 5 1
-          ∷ claim 2 2 21 1 1 5 1
-          ∷ claim 2 3 1 0 0 0 0
-          ∷ claim 2 3 6 0 0 4 0
-          ∷ claim 2 3 11 0 3 5 0
-          ∷ claim 2 3 16 0 3 5 0
-          ∷ claim 2 3 21 0 3 5 0
-          ∷ claim 3 1 1 0 0 0 0
-          ∷ claim 3 1 6 0 0 0 0
-          ∷ claim 3 1 11 1 2 0 0
-          ∷ claim 3 1 16 1 3 0 0
-          ∷ claim 3 1 21 1 2 0 0
-          ∷ claim 3 2 1 0 0 0 0
-          ∷ claim 3 2 6 0 0 4 0
-          ∷ claim 3 2 11 0 3 5 0
-          ∷ claim 3 2 16 1 3 5 1
-          ∷ claim 3 2 21 1 3 5 1
-          ∷ claim 3 3 1 0 0 0 0
-          ∷ claim 3 3 6 0 0 4 0
-          ∷ claim 3 3 11 1 2 5 1
-          ∷ claim 3 3 16 1 3 5 1
-          ∷ claim 3 3 21 1 3 5 1
+          claim 1 1 1 0 0 2 0
+          ∷ claim 1 1 7 2 0 1 1
+          ∷ claim 1 1 13 2 0 0 0
+          ∷ claim 1 2 1 0 0 2 0
+          ∷ claim 1 2 7 0 2 6 0
+          ∷ claim 1 2 13 0 2 4 0
+          ∷ claim 2 1 1 0 0 2 0
+          ∷ claim 2 1 7 0 2 5 0
+          ∷ claim 2 1 13 0 2 0 0
+          ∷ claim 2 2 1 0 0 2 0
+          ∷ claim 2 2 7 0 0 6 0
+          ∷ claim 2 2 13 0 0 6 0
           ∷ [];
     }
 
 pub agrees-7 : first-wrong list-7 ≡ 0
-unfolding first-wrong entries apply Direct.start Direct.tick Pipelined.start Pipelined.tick book-words rate-words release-words arrive-words into-frame row-sum column-sum sum least some-of word
+unfolding first-wrong entries apply Direct.start Direct.tick Pipelined.start Pipelined.tick book-words rate-words release-words release-rate-words arrive-words into-frame booking bookings row-sum column-sum sum least some-of word
 agrees-7 = refl
 
 abbrev list-8 : Case
@@ -893,20 +814,191 @@ list-8 =
     record {
       switch =
           record {
-            clock = clock-of 9 2 0;
-            bookings = 104 ∷ 3 ∷ 104 ∷ 2 ∷ 4 ∷ 101 ∷ 3 ∷ 1 ∷ 2 ∷ [];
-            credits = 1 ∷ 103 ∷ 101 ∷ 103 ∷ 101 ∷ 103 ∷ 3 ∷ 102 ∷ 103 ∷ [];
-            queues = 2 ∷ 4 ∷ 2 ∷ 2 ∷ 7 ∷ 103 ∷ 4 ∷ 2 ∷ 4 ∷ [];
-            copy = 3 ∷ 3 ∷ 1 ∷ 103 ∷ 1 ∷ 3 ∷ 1 ∷ 103 ∷ 2 ∷ [];
-            flight = 104 ∷ 101 ∷ 104 ∷ 104 ∷ 3 ∷ 101 ∷ 101 ∷ 3 ∷ 7 ∷ 101 ∷ 102 ∷ 2 ∷ 1 ∷ 1 ∷ 103 ∷ 102 ∷ 3 ∷ 1 ∷ [];
+            clock = clock-of 9 2 0 0;
+            book = book-of (3 ∷ 104 ∷ 2 ∷ 4 ∷ 101 ∷ 3 ∷ 1 ∷ 2 ∷ 1 ∷ []) (103 ∷ 101 ∷ 103 ∷ 101 ∷ 103 ∷ 3 ∷ 102 ∷ 103 ∷ 2 ∷ []);
+            credits = 4 ∷ 2 ∷ 2 ∷ 7 ∷ 103 ∷ 4 ∷ 2 ∷ 4 ∷ 3 ∷ [];
+            queues = 3 ∷ 1 ∷ 103 ∷ 1 ∷ 3 ∷ 1 ∷ 103 ∷ 2 ∷ 104 ∷ [];
+            copy = 101 ∷ 104 ∷ 104 ∷ 3 ∷ 101 ∷ 101 ∷ 3 ∷ 7 ∷ 101 ∷ [];
+            flight = 102 ∷ 2 ∷ 1 ∷ 1 ∷ 103 ∷ 102 ∷ 3 ∷ 1 ∷ 7 ∷ 103 ∷ 101 ∷ 2 ∷ 4 ∷ 101 ∷ 3 ∷ 104 ∷ 103 ∷ 7 ∷ [];
           };
       calls =
-          start direct 3 7
-          ∷ book 1 3 1
-          ∷ book 2 1 1
-          ∷ book 1 1 1
-          ∷ book-rate 1 1 1000 142
-          ∷ book 1 3 1
+          start direct 2 3 1000
+          ∷ book-rate 2 2 111
+          ∷ book 2 2 1
+          ∷ book-rate 1 2 111
+          ∷ arrive 1 1 51
+          ∷ arrive 1 2 46
+          ∷ arrive 2 2 82
+          ∷ arrive 1 1 58
+          ∷ arrive 2 2 89
+          ∷ arrive 2 1 87
+          ∷ release-rate 2 2 111
+          ∷ tick direct
+          ∷ tick direct
+          ∷ tick direct
+          ∷ book 2 2 1
+          ∷ book 2 0 1
+          ∷ release 2 1 0
+          ∷ release-rate 2 2 1
+          ∷ arrive 1 2 71
+          ∷ tick direct
+          ∷ tick direct
+          ∷ release-rate 1 1 1
+          ∷ tick direct
+          ∷ arrive 2 1 49
+          ∷ tick direct
+          ∷ release 1 3 1
+          ∷ tick direct
+          ∷ tick direct
+          ∷ arrive 1 1 68
+          ∷ release 4294967297 1 1
+          ∷ release-rate 1 1 1
+          ∷ tick direct
+          ∷ tick direct
+          ∷ arrive 2 1 66
+          ∷ tick direct
+          ∷ arrive 1 2 47
+          ∷ release-rate 2 1 1
+          ∷ tick direct
+          ∷ [];
+      expected =
+          claim 1 1 1 0 0 3 0
+          ∷ claim 1 1 4 0 0 3 0
+          ∷ claim 1 1 7 0 0 3 0
+          ∷ claim 1 1 10 0 0 3 0
+          ∷ claim 1 1 13 0 0 1 0
+          ∷ claim 1 2 1 0 1 3 0
+          ∷ claim 1 2 4 0 2 3 0
+          ∷ claim 1 2 7 0 2 3 0
+          ∷ claim 1 2 10 0 2 3 0
+          ∷ claim 1 2 13 0 2 1 0
+          ∷ claim 2 1 1 0 1 3 0
+          ∷ claim 2 1 4 0 2 3 0
+          ∷ claim 2 1 7 0 2 3 0
+          ∷ claim 2 1 10 0 2 3 0
+          ∷ claim 2 1 13 0 2 1 0
+          ∷ claim 2 2 1 1 0 3 1
+          ∷ claim 2 2 4 2 0 3 2
+          ∷ claim 2 2 7 2 0 3 2
+          ∷ claim 2 2 10 2 0 3 2
+          ∷ claim 2 2 13 2 0 1 1
+          ∷ [];
+    }
+
+pub agrees-8 : first-wrong list-8 ≡ 0
+unfolding first-wrong entries apply Direct.start Direct.tick Pipelined.start Pipelined.tick book-words rate-words release-words release-rate-words arrive-words into-frame booking bookings row-sum column-sum sum least some-of word
+agrees-8 = refl
+
+abbrev list-9 : Case
+list-9 =
+    record {
+      switch =
+          record {
+            clock = clock-of 9 1 77 0;
+            book = book-of (2 ∷ 1 ∷ 1 ∷ 101 ∷ 101 ∷ 3 ∷ 2 ∷ 1 ∷ 104 ∷ []) (1 ∷ 1 ∷ 2 ∷ 7 ∷ 101 ∷ 7 ∷ 4 ∷ 2 ∷ 1 ∷ []);
+            credits = 7 ∷ 1 ∷ 102 ∷ 3 ∷ 7 ∷ 3 ∷ 7 ∷ 4 ∷ 2 ∷ [];
+            queues = 3 ∷ 1 ∷ 104 ∷ 3 ∷ 103 ∷ 2 ∷ 104 ∷ 101 ∷ 2 ∷ [];
+            copy = 2 ∷ 1 ∷ 1 ∷ 2 ∷ 4 ∷ 104 ∷ 103 ∷ 1 ∷ 2 ∷ [];
+            flight = 101 ∷ 103 ∷ 102 ∷ 2 ∷ 101 ∷ 2 ∷ 1 ∷ 1 ∷ 3 ∷ 2 ∷ 1 ∷ 2 ∷ 3 ∷ 2 ∷ 103 ∷ 4 ∷ 101 ∷ 4 ∷ [];
+          };
+      calls =
+          start pipelined 2 6 100000000
+          ∷ book 2 2 1
+          ∷ book-rate 2 1 5555555
+          ∷ book-rate 2 1 5555555
+          ∷ book-rate 2 1 5555555
+          ∷ book-rate 2 1 16666666
+          ∷ book-rate 1 1 5555555
+          ∷ arrive 2 1 8
+          ∷ arrive 1 2 10
+          ∷ arrive 2 2 11
+          ∷ arrive 2 1 9
+          ∷ arrive 2 2 7
+          ∷ arrive 1 1 9
+          ∷ tick pipelined
+          ∷ arrive 1 1 10
+          ∷ arrive 1 1 7
+          ∷ arrive 2 2 8
+          ∷ tick pipelined
+          ∷ tick pipelined
+          ∷ tick pipelined
+          ∷ tick pipelined
+          ∷ tick pipelined
+          ∷ arrive 1 1 6
+          ∷ tick pipelined
+          ∷ tick pipelined
+          ∷ release-rate 2 1 5555555
+          ∷ tick pipelined
+          ∷ arrive 1 1 8
+          ∷ tick pipelined
+          ∷ tick pipelined
+          ∷ arrive 2 2 12
+          ∷ tick pipelined
+          ∷ tick pipelined
+          ∷ tick pipelined
+          ∷ tick pipelined
+          ∷ tick pipelined
+          ∷ arrive 1 2 10
+          ∷ arrive 1 2 10
+          ∷ tick pipelined
+          ∷ [];
+      expected =
+          claim 1 1 1 0 0 2 0
+          ∷ claim 1 1 7 1 2 6 1
+          ∷ claim 1 1 13 1 2 6 1
+          ∷ claim 1 2 1 0 0 2 0
+          ∷ claim 1 2 7 0 2 6 0
+          ∷ claim 1 2 13 0 2 6 0
+          ∷ claim 2 1 1 0 0 2 0
+          ∷ claim 2 1 7 2 2 6 2
+          ∷ claim 2 1 13 2 2 6 2
+          ∷ claim 2 2 1 0 0 2 0
+          ∷ claim 2 2 7 1 2 6 1
+          ∷ claim 2 2 13 1 2 6 1
+          ∷ [];
+    }
+
+pub agrees-9 : first-wrong list-9 ≡ 0
+unfolding first-wrong entries apply Direct.start Direct.tick Pipelined.start Pipelined.tick book-words rate-words release-words release-rate-words arrive-words into-frame booking bookings row-sum column-sum sum least some-of word
+agrees-9 = refl
+
+abbrev list-10 : Case
+list-10 =
+    record {
+      switch =
+          record {
+            clock = clock-of 9 10001 77 0;
+            book = book-of (7 ∷ 2 ∷ 1 ∷ 2 ∷ 4 ∷ 2 ∷ 1 ∷ 3 ∷ 7 ∷ []) (1 ∷ 3 ∷ 4 ∷ 3 ∷ 103 ∷ 104 ∷ 2 ∷ 1 ∷ 104 ∷ []);
+            credits = 3 ∷ 2 ∷ 101 ∷ 3 ∷ 101 ∷ 2 ∷ 103 ∷ 1 ∷ 3 ∷ [];
+            queues = 1 ∷ 1 ∷ 2 ∷ 104 ∷ 4 ∷ 2 ∷ 104 ∷ 1 ∷ 1 ∷ [];
+            copy = 1 ∷ 102 ∷ 102 ∷ 3 ∷ 103 ∷ 104 ∷ 7 ∷ 102 ∷ 1 ∷ [];
+            flight = 101 ∷ 101 ∷ 7 ∷ 4 ∷ 1 ∷ 102 ∷ 101 ∷ 104 ∷ 103 ∷ 1 ∷ 102 ∷ 101 ∷ 1 ∷ 3 ∷ 1 ∷ 7 ∷ 7 ∷ 102 ∷ [];
+          };
+      calls =
+          start direct 2 7 1000
+          ∷ book-rate 1 2 47
+          ∷ book 2 2 1
+          ∷ arrive 1 2 1
+          ∷ arrive 1 1 1
+          ∷ tick direct
+          ∷ tick direct
+          ∷ tick direct
+          ∷ start direct 3 3 100000000
+          ∷ book 3 3 1
+          ∷ book-rate 2 1 11111111
+          ∷ book-rate 2 1 11111112
+          ∷ book-rate 2 1 11111111
+          ∷ book-rate 2 1 11111112
+          ∷ book 1 2 1
+          ∷ book 3 1 1
+          ∷ book-rate 2 1 11111111
+          ∷ book-rate 2 1 11111111
+          ∷ book-rate 2 2 11111112
+          ∷ book-rate 2 2 33333333
+          ∷ book-rate 2 2 11111111
+          ∷ book-rate 2 2 33333334
+          ∷ book-rate 2 2 22222223
+          ∷ book 2 1 2
           ∷ arrive 3 1 65535
           ∷ arrive 3 1 65535
           ∷ arrive 3 1 65535
@@ -925,339 +1017,79 @@ list-8 =
           ∷ arrive 3 1 16976
           ∷ arrive 3 1 16975
           ∷ arrive 3 1 1
-          ∷ arrive 1 2 65
-          ∷ arrive 3 1 61
-          ∷ arrive 2 2 80
+          ∷ arrive 2 1 72
+          ∷ arrive 3 2 75
+          ∷ arrive 1 3 63
+          ∷ arrive 1 2 45
+          ∷ arrive 2 1 56
+          ∷ arrive 2 1 59
+          ∷ arrive 1 3 65
+          ∷ arrive 2 3 76
+          ∷ arrive 1 3 45
+          ∷ arrive 3 1 79
+          ∷ arrive 3 1 66
+          ∷ arrive 2 3 89
           ∷ arrive 1 1 69
-          ∷ arrive 2 2 74
-          ∷ arrive 2 1 70
-          ∷ arrive 2 3 51
-          ∷ arrive 2 3 45
-          ∷ arrive 2 2 67
-          ∷ arrive 1 2 49
-          ∷ arrive 1 3 50
-          ∷ arrive 3 1 84
-          ∷ book 2 2 1
-          ∷ book-rate 1 3 100000001 1
-          ∷ release 4 3 1
           ∷ tick direct
           ∷ tick direct
-          ∷ start direct 3 4
-          ∷ book-rate 2 1 99999999 49999999
-          ∷ book-rate 3 1 99999999 49999999
-          ∷ book-rate 3 2 1000 251
-          ∷ book 2 3 1
-          ∷ book 2 2 1
-          ∷ book-rate 3 2 99999999 24999999
-          ∷ book 2 3 1
-          ∷ book 1 1 2
-          ∷ book 1 3 2
-          ∷ arrive 2 2 10
-          ∷ arrive 2 1 12
-          ∷ arrive 3 2 9
-          ∷ arrive 3 2 8
-          ∷ arrive 2 3 12
-          ∷ arrive 2 1 10
-          ∷ arrive 2 2 7
-          ∷ arrive 1 3 10
-          ∷ arrive 1 1 12
-          ∷ arrive 1 1 6
-          ∷ arrive 1 2 9
-          ∷ arrive 2 1 11
-          ∷ arrive 2 3 7
+          ∷ book-rate 3 2 22222222
+          ∷ tick direct
+          ∷ tick direct
           ∷ book 1 2 1
           ∷ tick direct
-          ∷ release 1 3 2
-          ∷ tick direct
-          ∷ tick direct
-          ∷ tick direct
-          ∷ tick direct
-          ∷ tick direct
-          ∷ arrive 2 3 6
-          ∷ arrive 3 2 9
-          ∷ tick direct
-          ∷ tick direct
-          ∷ tick direct
-          ∷ tick direct
-          ∷ tick direct
-          ∷ start direct 31 32
-          ∷ tick direct
-          ∷ tick direct
-          ∷ tick direct
-          ∷ tick direct
-          ∷ tick direct
-          ∷ arrive 2 1 9
-          ∷ arrive 1 1 12
-          ∷ tick direct
-          ∷ tick direct
-          ∷ tick direct
-          ∷ tick direct
-          ∷ tick direct
-          ∷ [];
-      expected =
-          claim 1 1 1 0 4 4 0
-          ∷ claim 1 1 5 0 2 4 0
-          ∷ claim 1 1 9 0 2 4 0
-          ∷ claim 1 1 13 0 2 4 0
-          ∷ claim 1 1 17 0 2 4 0
-          ∷ claim 1 1 21 0 2 1 0
-          ∷ claim 1 2 1 0 4 4 0
-          ∷ claim 1 2 5 0 2 4 0
-          ∷ claim 1 2 9 0 2 4 0
-          ∷ claim 1 2 13 0 2 4 0
-          ∷ claim 1 2 17 0 2 4 0
-          ∷ claim 1 2 21 0 2 1 0
-          ∷ claim 1 3 1 2 0 4 2
-          ∷ claim 1 3 5 0 0 4 0
-          ∷ claim 1 3 9 0 0 4 0
-          ∷ claim 1 3 13 0 0 4 0
-          ∷ claim 1 3 17 0 0 2 0
-          ∷ claim 1 3 21 0 0 0 0
-          ∷ claim 2 1 1 2 0 4 2
-          ∷ claim 2 1 5 2 0 4 2
-          ∷ claim 2 1 9 2 0 4 2
-          ∷ claim 2 1 13 2 0 4 2
-          ∷ claim 2 1 17 2 0 4 2
-          ∷ claim 2 1 21 2 0 1 1
-          ∷ claim 2 2 1 0 4 4 0
-          ∷ claim 2 2 5 0 4 4 0
-          ∷ claim 2 2 9 0 4 4 0
-          ∷ claim 2 2 13 0 4 4 0
-          ∷ claim 2 2 17 0 4 4 0
-          ∷ claim 2 2 21 0 4 1 0
-          ∷ claim 2 3 1 0 4 4 0
-          ∷ claim 2 3 5 0 2 4 0
-          ∷ claim 2 3 9 0 2 4 0
-          ∷ claim 2 3 13 0 2 4 0
-          ∷ claim 2 3 17 0 2 4 0
-          ∷ claim 2 3 21 0 2 1 0
-          ∷ claim 3 1 1 0 4 0 0
-          ∷ claim 3 1 5 0 4 0 0
-          ∷ claim 3 1 9 0 4 0 0
-          ∷ claim 3 1 13 0 4 0 0
-          ∷ claim 3 1 17 0 4 0 0
-          ∷ claim 3 1 21 0 4 0 0
-          ∷ claim 3 2 1 2 0 4 2
-          ∷ claim 3 2 5 2 0 4 2
-          ∷ claim 3 2 9 2 0 4 2
-          ∷ claim 3 2 13 2 0 4 2
-          ∷ claim 3 2 17 2 0 4 2
-          ∷ claim 3 2 21 2 0 1 1
-          ∷ claim 3 3 1 0 4 0 0
-          ∷ claim 3 3 5 0 2 0 0
-          ∷ claim 3 3 9 0 2 0 0
-          ∷ claim 3 3 13 0 2 0 0
-          ∷ claim 3 3 17 0 2 0 0
-          ∷ claim 3 3 21 0 2 0 0
-          ∷ [];
-    }
-
-pub agrees-8 : first-wrong list-8 ≡ 0
-unfolding first-wrong entries apply Direct.start Direct.tick Pipelined.start Pipelined.tick book-words rate-words release-words arrive-words into-frame row-sum column-sum sum least some-of word
-agrees-8 = refl
-
-abbrev list-9 : Case
-list-9 =
-    record {
-      switch =
-          record {
-            clock = clock-of 9 1 77;
-            bookings = 3 ∷ 2 ∷ 1 ∷ 1 ∷ 101 ∷ 101 ∷ 3 ∷ 2 ∷ 1 ∷ [];
-            credits = 104 ∷ 1 ∷ 1 ∷ 2 ∷ 7 ∷ 101 ∷ 7 ∷ 4 ∷ 2 ∷ [];
-            queues = 1 ∷ 7 ∷ 1 ∷ 102 ∷ 3 ∷ 7 ∷ 3 ∷ 7 ∷ 4 ∷ [];
-            copy = 2 ∷ 3 ∷ 1 ∷ 104 ∷ 3 ∷ 103 ∷ 2 ∷ 104 ∷ 101 ∷ [];
-            flight = 2 ∷ 2 ∷ 1 ∷ 1 ∷ 2 ∷ 4 ∷ 104 ∷ 103 ∷ 1 ∷ 2 ∷ 101 ∷ 103 ∷ 102 ∷ 2 ∷ 101 ∷ 2 ∷ 1 ∷ 1 ∷ [];
-          };
-      calls =
-          start pipelined 2 7
-          ∷ book 1 2 1
-          ∷ book-rate 2 2 100000000 42857142
-          ∷ book 2 2 1
-          ∷ arrive 2 2 4
-          ∷ arrive 2 2 3
-          ∷ arrive 2 2 4
-          ∷ arrive 1 2 3
-          ∷ arrive 1 1 2
-          ∷ arrive 2 2 2
-          ∷ arrive 2 2 4
-          ∷ arrive 1 2 4
-          ∷ book-rate 2 1 100000001 1
-          ∷ arrive 2 1 2
-          ∷ arrive 1 1 2
-          ∷ tick pipelined
-          ∷ book 2 1 1
-          ∷ book-rate 1 2 0 1
-          ∷ tick pipelined
-          ∷ tick pipelined
-          ∷ arrive 2 1 2
-          ∷ tick pipelined
-          ∷ arrive 2 2 4
-          ∷ tick pipelined
-          ∷ tick pipelined
-          ∷ start pipelined 2 4
-          ∷ book-rate 1 1 1 1
-          ∷ book 2 2 2
-          ∷ book 1 2 1
-          ∷ arrive 2 1 2
-          ∷ arrive 2 1 2
-          ∷ arrive 1 2 1
-          ∷ arrive 1 2 1
-          ∷ arrive 1 1 2
-          ∷ arrive 2 1 1
-          ∷ tick pipelined
-          ∷ tick pipelined
-          ∷ arrive 2 2 2
-          ∷ tick pipelined
-          ∷ tick pipelined
-          ∷ arrive 1 2 2
-          ∷ tick pipelined
-          ∷ tick pipelined
-          ∷ book-rate 4294967297 1 1000 1
-          ∷ tick pipelined
-          ∷ tick pipelined
-          ∷ arrive 1 2 2
-          ∷ tick pipelined
-          ∷ tick pipelined
-          ∷ tick pipelined
-          ∷ tick pipelined
-          ∷ arrive 2 1 1
-          ∷ arrive 2 1 2
-          ∷ release 2 1 1
-          ∷ tick pipelined
-          ∷ arrive 2 2 1
-          ∷ tick pipelined
-          ∷ tick pipelined
-          ∷ tick pipelined
-          ∷ tick pipelined
-          ∷ tick pipelined
-          ∷ tick pipelined
-          ∷ tick pipelined
-          ∷ book-rate 1 1 100000000 50000000
-          ∷ book 1 2 5
-          ∷ tick pipelined
-          ∷ tick pipelined
-          ∷ tick pipelined
-          ∷ [];
-      expected =
-          claim 1 1 1 0 0 0 0
-          ∷ claim 1 1 5 0 0 2 0
-          ∷ claim 1 1 9 0 0 0 0
-          ∷ claim 1 1 13 0 0 0 0
-          ∷ claim 1 1 17 0 0 0 0
-          ∷ claim 1 1 21 0 0 0 0
-          ∷ claim 1 2 1 0 0 0 0
-          ∷ claim 1 2 5 0 2 4 0
-          ∷ claim 1 2 9 0 2 3 0
-          ∷ claim 1 2 13 0 2 2 0
-          ∷ claim 1 2 17 0 2 0 0
-          ∷ claim 1 2 21 0 2 0 0
-          ∷ claim 2 1 1 0 0 0 0
-          ∷ claim 2 1 5 0 2 4 0
-          ∷ claim 2 1 9 0 2 4 0
-          ∷ claim 2 1 13 0 2 1 0
-          ∷ claim 2 1 17 0 2 2 0
-          ∷ claim 2 1 21 0 2 0 0
-          ∷ claim 2 2 1 0 0 0 0
-          ∷ claim 2 2 5 2 0 1 1
-          ∷ claim 2 2 9 2 0 0 0
-          ∷ claim 2 2 13 2 0 0 0
-          ∷ claim 2 2 17 2 0 1 1
-          ∷ claim 2 2 21 2 0 0 0
-          ∷ [];
-    }
-
-pub agrees-9 : first-wrong list-9 ≡ 0
-unfolding first-wrong entries apply Direct.start Direct.tick Pipelined.start Pipelined.tick book-words rate-words release-words arrive-words into-frame row-sum column-sum sum least some-of word
-agrees-9 = refl
-
-abbrev list-10 : Case
-list-10 =
-    record {
-      switch =
-          record {
-            clock = clock-of 9 10001 77;
-            bookings = 101 ∷ 7 ∷ 2 ∷ 1 ∷ 2 ∷ 4 ∷ 2 ∷ 1 ∷ 3 ∷ [];
-            credits = 7 ∷ 1 ∷ 3 ∷ 4 ∷ 3 ∷ 103 ∷ 104 ∷ 2 ∷ 1 ∷ [];
-            queues = 104 ∷ 3 ∷ 2 ∷ 101 ∷ 3 ∷ 101 ∷ 2 ∷ 103 ∷ 1 ∷ [];
-            copy = 3 ∷ 1 ∷ 1 ∷ 2 ∷ 104 ∷ 4 ∷ 2 ∷ 104 ∷ 1 ∷ [];
-            flight = 1 ∷ 1 ∷ 102 ∷ 102 ∷ 3 ∷ 103 ∷ 104 ∷ 7 ∷ 102 ∷ 1 ∷ 101 ∷ 101 ∷ 7 ∷ 4 ∷ 1 ∷ 102 ∷ 101 ∷ 104 ∷ [];
-          };
-      calls =
-          start direct 3 5
-          ∷ book-rate 3 3 1000 601
-          ∷ book 2 3 1
-          ∷ book-rate 2 2 99999999 40000000
-          ∷ book 3 1 3
-          ∷ book 1 1 1
-          ∷ book-rate 1 2 1000 200
-          ∷ book 1 2 1
-          ∷ arrive 2 3 5
-          ∷ arrive 3 3 4
-          ∷ arrive 1 3 3
-          ∷ tick direct
-          ∷ tick direct
-          ∷ tick direct
-          ∷ tick direct
-          ∷ tick direct
-          ∷ tick direct
-          ∷ tick direct
-          ∷ tick direct
-          ∷ arrive 2 1 5
-          ∷ arrive 1 3 4
-          ∷ book-rate 1 1 1000 200
-          ∷ tick direct
-          ∷ book-rate 2 2 99999999 20000000
-          ∷ tick direct
-          ∷ book 2 2 1
-          ∷ arrive 1 1 5
-          ∷ release 2 2 1
-          ∷ arrive 1 2 5
           ∷ book 3 1 1
           ∷ tick direct
-          ∷ start direct 22 32
-          ∷ arrive 1 2 2
-          ∷ start direct 0 5
-          ∷ release 2 3 1
-          ∷ arrive 3 2 3
           ∷ tick direct
           ∷ tick direct
-          ∷ arrive 1 2 4
-          ∷ arrive 3 1 4
+          ∷ tick direct
+          ∷ tick direct
+          ∷ release-rate 3 2 22222222
+          ∷ tick direct
+          ∷ book-rate 2 3 11111111
           ∷ tick direct
           ∷ [];
       expected =
-          claim 1 1 1 0 5 0 0
-          ∷ claim 1 1 6 0 5 0 0
-          ∷ claim 1 1 11 0 5 4 0
-          ∷ claim 1 2 1 2 0 0 0
-          ∷ claim 1 2 6 2 0 0 0
-          ∷ claim 1 2 11 2 0 4 2
-          ∷ claim 1 3 1 0 3 4 0
-          ∷ claim 1 3 6 0 3 2 0
-          ∷ claim 1 3 11 0 3 4 0
-          ∷ claim 2 1 1 0 4 0 0
-          ∷ claim 2 1 6 0 4 2 0
-          ∷ claim 2 1 11 0 4 4 0
+          claim 1 1 1 0 3 3 0
+          ∷ claim 1 1 4 0 3 3 0
+          ∷ claim 1 1 7 0 3 3 0
+          ∷ claim 1 1 10 0 3 3 0
+          ∷ claim 1 2 1 1 0 3 1
+          ∷ claim 1 2 4 1 1 3 1
+          ∷ claim 1 2 7 1 1 3 1
+          ∷ claim 1 2 10 1 1 3 1
+          ∷ claim 1 3 1 0 2 3 0
+          ∷ claim 1 3 4 0 2 3 0
+          ∷ claim 1 3 7 0 2 3 0
+          ∷ claim 1 3 10 0 2 3 0
+          ∷ claim 2 1 1 2 0 3 2
+          ∷ claim 2 1 4 2 0 3 2
+          ∷ claim 2 1 7 2 0 3 2
+          ∷ claim 2 1 10 2 0 3 2
           ∷ claim 2 2 1 0 3 0 0
-          ∷ claim 2 2 6 0 3 0 0
-          ∷ claim 2 2 11 0 3 0 0
-          ∷ claim 2 3 1 1 0 5 1
-          ∷ claim 2 3 6 1 0 3 1
-          ∷ claim 2 3 11 1 0 0 0
-          ∷ claim 3 1 1 3 0 0 0
-          ∷ claim 3 1 6 3 0 0 0
-          ∷ claim 3 1 11 3 0 1 1
-          ∷ claim 3 2 1 0 5 0 0
-          ∷ claim 3 2 6 0 5 0 0
-          ∷ claim 3 2 11 0 5 3 0
-          ∷ claim 3 3 1 0 4 5 0
-          ∷ claim 3 3 6 0 4 5 0
-          ∷ claim 3 3 11 0 4 4 0
+          ∷ claim 2 2 4 0 4 0 0
+          ∷ claim 2 2 7 0 4 0 0
+          ∷ claim 2 2 10 0 4 0 0
+          ∷ claim 2 3 1 0 3 3 0
+          ∷ claim 2 3 4 0 3 3 0
+          ∷ claim 2 3 7 0 3 3 0
+          ∷ claim 2 3 10 0 3 3 0
+          ∷ claim 3 1 1 0 3 3 0
+          ∷ claim 3 1 4 0 4 3 0
+          ∷ claim 3 1 7 0 4 3 0
+          ∷ claim 3 1 10 0 4 3 0
+          ∷ claim 3 2 1 0 2 3 0
+          ∷ claim 3 2 4 1 2 3 1
+          ∷ claim 3 2 7 1 2 3 1
+          ∷ claim 3 2 10 1 2 3 1
+          ∷ claim 3 3 1 1 0 0 0
+          ∷ claim 3 3 4 1 1 0 0
+          ∷ claim 3 3 7 1 1 0 0
+          ∷ claim 3 3 10 1 1 0 0
           ∷ [];
     }
 
 pub agrees-10 : first-wrong list-10 ≡ 0
-unfolding first-wrong entries apply Direct.start Direct.tick Pipelined.start Pipelined.tick book-words rate-words release-words arrive-words into-frame row-sum column-sum sum least some-of word
+unfolding first-wrong entries apply Direct.start Direct.tick Pipelined.start Pipelined.tick book-words rate-words release-words release-rate-words arrive-words into-frame booking bookings row-sum column-sum sum least some-of word
 agrees-10 = refl
 
 abbrev list-11 : Case
@@ -1265,47 +1097,104 @@ list-11 =
     record {
       switch =
           record {
-            clock = clock-of 3 0 4000000000;
-            bookings = 7 ∷ 104 ∷ 101 ∷ 7 ∷ 1 ∷ 7 ∷ 2 ∷ 1 ∷ 4 ∷ [];
-            credits = 4 ∷ 3 ∷ 102 ∷ 2 ∷ 104 ∷ 2 ∷ 1 ∷ 1 ∷ 102 ∷ [];
-            queues = 2 ∷ 2 ∷ 102 ∷ 102 ∷ 2 ∷ 102 ∷ 1 ∷ 101 ∷ 1 ∷ [];
-            copy = 103 ∷ 102 ∷ 4 ∷ 2 ∷ 104 ∷ 102 ∷ 4 ∷ 102 ∷ 3 ∷ [];
-            flight = 103 ∷ 103 ∷ 7 ∷ 2 ∷ 2 ∷ 102 ∷ 1 ∷ 1 ∷ 104 ∷ 3 ∷ 1 ∷ 1 ∷ 4 ∷ 102 ∷ 3 ∷ 4 ∷ 101 ∷ 101 ∷ [];
+            clock = clock-of 3 0 4000000000 0;
+            book = book-of (104 ∷ 101 ∷ 7 ∷ 1 ∷ 7 ∷ 2 ∷ 1 ∷ 4 ∷ 4 ∷ []) (3 ∷ 102 ∷ 2 ∷ 104 ∷ 2 ∷ 1 ∷ 1 ∷ 102 ∷ 2 ∷ []);
+            credits = 2 ∷ 102 ∷ 102 ∷ 2 ∷ 102 ∷ 1 ∷ 101 ∷ 1 ∷ 103 ∷ [];
+            queues = 102 ∷ 4 ∷ 2 ∷ 104 ∷ 102 ∷ 4 ∷ 102 ∷ 3 ∷ 103 ∷ [];
+            copy = 103 ∷ 7 ∷ 2 ∷ 2 ∷ 102 ∷ 1 ∷ 1 ∷ 104 ∷ 3 ∷ [];
+            flight = 1 ∷ 1 ∷ 4 ∷ 102 ∷ 3 ∷ 4 ∷ 101 ∷ 101 ∷ 1 ∷ 2 ∷ 3 ∷ 104 ∷ 103 ∷ 103 ∷ 101 ∷ 2 ∷ 4 ∷ 1 ∷ [];
           };
       calls =
-          start pipelined 1 5
-          ∷ book-rate 1 1 1000 201
-          ∷ arrive 1 1 82
-          ∷ arrive 1 1 78
-          ∷ release 1 2 1
-          ∷ tick pipelined
+          start pipelined 1 5 100000000
+          ∷ book-rate 1 1 6666666
+          ∷ book-rate 1 1 6666667
           ∷ arrive 1 1 60
+          ∷ arrive 1 1 58
+          ∷ arrive 1 1 57
+          ∷ tick pipelined
+          ∷ book 1 1 1
+          ∷ tick pipelined
+          ∷ arrive 1 1 80
+          ∷ tick pipelined
+          ∷ start pipelined 3 6 99999999
+          ∷ book-rate 2 3 5555556
+          ∷ book-rate 2 3 5555555
+          ∷ book-rate 1 2 11111112
+          ∷ book-rate 3 1 5555556
+          ∷ book-rate 1 3 5555555
+          ∷ book-rate 1 3 5555555
+          ∷ book 2 3 1
+          ∷ book-rate 3 3 5555555
+          ∷ book-rate 3 3 16666666
+          ∷ book-rate 3 3 5555556
+          ∷ book 2 2 1
+          ∷ book 1 1 3
+          ∷ book-rate 1 1 5555555
+          ∷ book-rate 1 1 11111112
+          ∷ arrive 3 2 8
+          ∷ arrive 1 3 10
+          ∷ arrive 3 1 10
+          ∷ arrive 1 2 9
+          ∷ arrive 1 2 10
+          ∷ arrive 2 2 6
+          ∷ release-rate 1 2 5555555
+          ∷ book 2 1 1
+          ∷ tick pipelined
+          ∷ arrive 3 1 12
+          ∷ tick pipelined
+          ∷ book-rate 3 2 5555556
           ∷ tick pipelined
           ∷ tick pipelined
           ∷ tick pipelined
           ∷ tick pipelined
+          ∷ arrive 3 3 10
           ∷ tick pipelined
-          ∷ arrive 1 1 65
+          ∷ release 2 2 1
+          ∷ arrive 3 3 9
+          ∷ tick pipelined
+          ∷ arrive 1 3 8
           ∷ tick pipelined
           ∷ tick pipelined
+          ∷ arrive 1 1 7
+          ∷ release-rate 3 2 5555555
           ∷ tick pipelined
-          ∷ tick pipelined
-          ∷ tick pipelined
-          ∷ tick pipelined
-          ∷ tick pipelined
+          ∷ release-rate 2 0 1
           ∷ tick pipelined
           ∷ tick pipelined
           ∷ [];
       expected =
-          claim 1 1 1 0 0 3 0
-          ∷ claim 1 1 6 2 0 5 2
-          ∷ claim 1 1 11 2 0 5 2
-          ∷ claim 1 1 16 2 0 1 1
+          claim 1 1 1 0 0 0 0
+          ∷ claim 1 1 7 1 3 0 0
+          ∷ claim 1 1 13 1 3 0 0
+          ∷ claim 1 2 1 0 0 0 0
+          ∷ claim 1 2 7 1 3 6 1
+          ∷ claim 1 2 13 1 4 2 1
+          ∷ claim 1 3 1 0 0 0 0
+          ∷ claim 1 3 7 1 4 6 1
+          ∷ claim 1 3 13 1 4 2 1
+          ∷ claim 2 1 1 0 0 0 0
+          ∷ claim 2 1 7 0 5 0 0
+          ∷ claim 2 1 13 0 5 0 0
+          ∷ claim 2 2 1 0 0 0 0
+          ∷ claim 2 2 7 1 3 6 1
+          ∷ claim 2 2 13 1 4 2 1
+          ∷ claim 2 3 1 0 0 0 0
+          ∷ claim 2 3 7 2 2 0 0
+          ∷ claim 2 3 13 2 2 0 0
+          ∷ claim 3 1 1 0 0 0 0
+          ∷ claim 3 1 7 1 1 6 1
+          ∷ claim 3 1 13 1 2 2 1
+          ∷ claim 3 2 1 0 0 0 0
+          ∷ claim 3 2 7 0 3 6 0
+          ∷ claim 3 2 13 1 3 2 0
+          ∷ claim 3 3 1 0 0 0 0
+          ∷ claim 3 3 7 0 4 2 0
+          ∷ claim 3 3 13 0 5 2 0
           ∷ [];
     }
 
 pub agrees-11 : first-wrong list-11 ≡ 0
-unfolding first-wrong entries apply Direct.start Direct.tick Pipelined.start Pipelined.tick book-words rate-words release-words arrive-words into-frame row-sum column-sum sum least some-of word
+unfolding first-wrong entries apply Direct.start Direct.tick Pipelined.start Pipelined.tick book-words rate-words release-words release-rate-words arrive-words into-frame booking bookings row-sum column-sum sum least some-of word
 agrees-11 = refl
 
 abbrev list-12 : Case
@@ -1313,50 +1202,79 @@ list-12 =
     record {
       switch =
           record {
-            clock = clock-of 3 2 77;
-            bookings = 1 ∷ 3 ∷ 4 ∷ 4 ∷ 1 ∷ 103 ∷ 1 ∷ 7 ∷ 101 ∷ [];
-            credits = 4 ∷ 2 ∷ 1 ∷ 7 ∷ 3 ∷ 102 ∷ 7 ∷ 7 ∷ 101 ∷ [];
-            queues = 1 ∷ 103 ∷ 2 ∷ 4 ∷ 2 ∷ 2 ∷ 101 ∷ 3 ∷ 2 ∷ [];
-            copy = 2 ∷ 103 ∷ 3 ∷ 4 ∷ 104 ∷ 4 ∷ 7 ∷ 4 ∷ 102 ∷ [];
-            flight = 1 ∷ 1 ∷ 102 ∷ 2 ∷ 104 ∷ 101 ∷ 102 ∷ 104 ∷ 103 ∷ 102 ∷ 2 ∷ 7 ∷ 3 ∷ 102 ∷ 2 ∷ 4 ∷ 4 ∷ 103 ∷ [];
+            clock = clock-of 3 2 77 1;
+            book = book-of (3 ∷ 4 ∷ 4 ∷ 1 ∷ 103 ∷ 1 ∷ 7 ∷ 101 ∷ 4 ∷ []) (2 ∷ 1 ∷ 7 ∷ 3 ∷ 102 ∷ 7 ∷ 7 ∷ 101 ∷ 1 ∷ []);
+            credits = 103 ∷ 2 ∷ 4 ∷ 2 ∷ 2 ∷ 101 ∷ 3 ∷ 2 ∷ 2 ∷ [];
+            queues = 103 ∷ 3 ∷ 4 ∷ 104 ∷ 4 ∷ 7 ∷ 4 ∷ 102 ∷ 1 ∷ [];
+            copy = 1 ∷ 102 ∷ 2 ∷ 104 ∷ 101 ∷ 102 ∷ 104 ∷ 103 ∷ 102 ∷ [];
+            flight = 2 ∷ 7 ∷ 3 ∷ 102 ∷ 2 ∷ 4 ∷ 4 ∷ 103 ∷ 2 ∷ 4 ∷ 1 ∷ 104 ∷ 4 ∷ 2 ∷ 2 ∷ 102 ∷ 1 ∷ 102 ∷ [];
           };
       calls =
-          start direct 1 5
-          ∷ book-rate 1 1 1000 200
-          ∷ arrive 1 1 5
-          ∷ arrive 1 1 3
-          ∷ book-rate 1 1 1000 1001
-          ∷ tick direct
-          ∷ arrive 1 1 2
-          ∷ tick direct
-          ∷ tick direct
-          ∷ book 1 1 6
+          start direct 1 5 0
+          ∷ book-rate 1 1 1
+          ∷ arrive 1 1 11
+          ∷ start direct 1 10001 0
+          ∷ arrive 1 1 7
+          ∷ book-rate 1 1 1
           ∷ tick direct
           ∷ tick direct
+          ∷ release-rate 1 1 1
+          ∷ release-rate 1 1 1
+          ∷ arrive 1 1 11
           ∷ tick direct
-          ∷ book-rate 1 1 7 1
-          ∷ tick direct
-          ∷ tick direct
-          ∷ tick direct
-          ∷ arrive 1 1 5
-          ∷ tick direct
-          ∷ arrive 1 1 4
-          ∷ tick direct
-          ∷ arrive 1 1 3
+          ∷ release-rate 1 1 1
+          ∷ release-rate 1 1 0
+          ∷ arrive 1 1 8
           ∷ tick direct
           ∷ tick direct
+          ∷ book 1 1 1
+          ∷ arrive 1 1 7
           ∷ tick direct
+          ∷ release-rate 1 1 0
+          ∷ tick direct
+          ∷ tick direct
+          ∷ tick direct
+          ∷ arrive 1 1 8
+          ∷ tick direct
+          ∷ tick direct
+          ∷ arrive 1 1 8
+          ∷ arrive 1 1 8
+          ∷ release-rate 1 1 1
+          ∷ tick direct
+          ∷ book 1 1 1
+          ∷ book 1 1 0
+          ∷ tick direct
+          ∷ book 1 1 1
+          ∷ arrive 1 1 6
+          ∷ tick direct
+          ∷ release-rate 1 1 1
+          ∷ tick direct
+          ∷ tick direct
+          ∷ arrive 1 1 8
+          ∷ release 1 1 2
+          ∷ tick direct
+          ∷ release 1 1 1
+          ∷ arrive 1 1 11
+          ∷ tick direct
+          ∷ tick direct
+          ∷ tick direct
+          ∷ release 1 1 1
+          ∷ tick direct
+          ∷ book 1 1 3
+          ∷ book 1 1 1
           ∷ tick direct
           ∷ [];
       expected =
-          claim 1 1 1 1 0 5 1
+          claim 1 1 1 0 0 5 0
           ∷ claim 1 1 6 1 0 5 1
-          ∷ claim 1 1 11 2 0 5 2
+          ∷ claim 1 1 11 1 0 5 1
+          ∷ claim 1 1 16 3 0 5 3
+          ∷ claim 1 1 21 0 0 2 0
           ∷ [];
     }
 
 pub agrees-12 : first-wrong list-12 ≡ 0
-unfolding first-wrong entries apply Direct.start Direct.tick Pipelined.start Pipelined.tick book-words rate-words release-words arrive-words into-frame row-sum column-sum sum least some-of word
+unfolding first-wrong entries apply Direct.start Direct.tick Pipelined.start Pipelined.tick book-words rate-words release-words release-rate-words arrive-words into-frame booking bookings row-sum column-sum sum least some-of word
 agrees-12 = refl
 
 abbrev list-13 : Case
@@ -1364,64 +1282,108 @@ list-13 =
     record {
       switch =
           record {
-            clock = clock-of 1 1 1;
-            bookings = 2 ∷ 104 ∷ 4 ∷ 101 ∷ 102 ∷ 4 ∷ 2 ∷ 101 ∷ 2 ∷ [];
-            credits = 2 ∷ 1 ∷ 103 ∷ 102 ∷ 3 ∷ 3 ∷ 4 ∷ 1 ∷ 103 ∷ [];
-            queues = 101 ∷ 2 ∷ 101 ∷ 102 ∷ 104 ∷ 104 ∷ 1 ∷ 1 ∷ 2 ∷ [];
-            copy = 102 ∷ 103 ∷ 2 ∷ 2 ∷ 7 ∷ 104 ∷ 1 ∷ 102 ∷ 1 ∷ [];
-            flight = 2 ∷ 4 ∷ 1 ∷ 4 ∷ 7 ∷ 1 ∷ 2 ∷ 7 ∷ 2 ∷ 1 ∷ 1 ∷ 2 ∷ 104 ∷ 104 ∷ 4 ∷ 103 ∷ 7 ∷ 1 ∷ [];
+            clock = clock-of 1 1 1 100000001;
+            book = book-of (104 ∷ 4 ∷ 101 ∷ 102 ∷ 4 ∷ 2 ∷ 101 ∷ 2 ∷ 2 ∷ []) (1 ∷ 103 ∷ 102 ∷ 3 ∷ 3 ∷ 4 ∷ 1 ∷ 103 ∷ 101 ∷ []);
+            credits = 2 ∷ 101 ∷ 102 ∷ 104 ∷ 104 ∷ 1 ∷ 1 ∷ 2 ∷ 102 ∷ [];
+            queues = 103 ∷ 2 ∷ 2 ∷ 7 ∷ 104 ∷ 1 ∷ 102 ∷ 1 ∷ 2 ∷ [];
+            copy = 4 ∷ 1 ∷ 4 ∷ 7 ∷ 1 ∷ 2 ∷ 7 ∷ 2 ∷ 1 ∷ [];
+            flight = 1 ∷ 2 ∷ 104 ∷ 104 ∷ 4 ∷ 103 ∷ 7 ∷ 1 ∷ 1 ∷ 101 ∷ 3 ∷ 104 ∷ 4 ∷ 103 ∷ 2 ∷ 2 ∷ 4 ∷ 4 ∷ [];
           };
       calls =
-          start pipelined 1 2
+          start pipelined 3 3 100000000
+          ∷ book-rate 1 3 11111111
+          ∷ book-rate 1 3 33333333
+          ∷ book-rate 1 3 22222223
+          ∷ book-rate 1 3 33333334
           ∷ book 1 1 1
+          ∷ book-rate 1 1 11111111
+          ∷ book-rate 1 1 22222222
+          ∷ book-rate 1 1 22222223
+          ∷ book-rate 1 2 11111112
+          ∷ book-rate 1 2 11111111
+          ∷ book-rate 1 2 33333334
+          ∷ book-rate 3 3 11111111
+          ∷ book-rate 3 3 11111112
+          ∷ book-rate 3 3 11111112
+          ∷ book-rate 3 3 11111112
+          ∷ book 2 3 1
+          ∷ book-rate 3 1 11111111
+          ∷ book-rate 3 1 22222223
+          ∷ book-rate 3 1 11111112
+          ∷ book-rate 3 1 33333333
+          ∷ arrive 3 3 3
+          ∷ arrive 1 3 2
           ∷ arrive 1 1 4
-          ∷ book-rate 1 1 100000001 1
+          ∷ arrive 2 2 5
           ∷ tick pipelined
           ∷ tick pipelined
+          ∷ release 2 3 1
+          ∷ tick pipelined
+          ∷ release-rate 1 3 11111111
+          ∷ arrive 2 3 4
+          ∷ tick pipelined
+          ∷ arrive 2 1 5
+          ∷ book-rate 1 1 22222222
+          ∷ release 3 1 1
+          ∷ tick pipelined
+          ∷ release-rate 3 1 11111112
+          ∷ book 3 3 4
+          ∷ tick pipelined
+          ∷ release-rate 3 1 11111111
+          ∷ tick pipelined
+          ∷ arrive 3 2 2
+          ∷ arrive 1 2 2
           ∷ tick pipelined
           ∷ tick pipelined
-          ∷ start pipelined 28 32
+          ∷ book-rate 2 3 11111111
           ∷ tick pipelined
-          ∷ tick pipelined
-          ∷ book-rate 0 1 1000 1
-          ∷ tick pipelined
-          ∷ tick pipelined
-          ∷ tick pipelined
-          ∷ tick pipelined
-          ∷ arrive 1 1 4
-          ∷ release 1 1 1
-          ∷ tick pipelined
-          ∷ release 1 1 1
-          ∷ tick pipelined
-          ∷ arrive 1 1 2
-          ∷ arrive 1 1 5
-          ∷ book-rate 1 1 1 1
-          ∷ arrive 1 1 2
-          ∷ tick pipelined
-          ∷ tick pipelined
-          ∷ tick pipelined
-          ∷ arrive 1 1 3
-          ∷ tick pipelined
-          ∷ tick pipelined
-          ∷ arrive 1 1 2
+          ∷ release-rate 3 0 1
+          ∷ arrive 1 3 3
+          ∷ arrive 2 1 3
           ∷ tick pipelined
           ∷ [];
       expected =
           claim 1 1 1 0 0 0 0
-          ∷ claim 1 1 3 1 0 2 1
-          ∷ claim 1 1 5 1 0 1 1
-          ∷ claim 1 1 7 1 0 0 0
-          ∷ claim 1 1 9 1 0 0 0
-          ∷ claim 1 1 11 1 0 0 0
-          ∷ claim 1 1 13 0 0 2 0
-          ∷ claim 1 1 15 0 0 2 0
-          ∷ claim 1 1 17 0 0 2 0
-          ∷ claim 1 1 19 0 0 1 0
+          ∷ claim 1 1 4 0 0 0 0
+          ∷ claim 1 1 7 0 4 3 0
+          ∷ claim 1 1 10 0 3 3 0
+          ∷ claim 1 2 1 0 0 0 0
+          ∷ claim 1 2 4 0 0 0 0
+          ∷ claim 1 2 7 0 2 0 0
+          ∷ claim 1 2 10 0 1 0 0
+          ∷ claim 1 3 1 0 0 0 0
+          ∷ claim 1 3 4 0 0 0 0
+          ∷ claim 1 3 7 2 0 2 2
+          ∷ claim 1 3 10 1 0 0 0
+          ∷ claim 2 1 1 0 0 0 0
+          ∷ claim 2 1 4 0 0 0 0
+          ∷ claim 2 1 7 0 2 0 0
+          ∷ claim 2 1 10 0 2 3 0
+          ∷ claim 2 2 1 0 0 0 0
+          ∷ claim 2 2 4 0 0 0 0
+          ∷ claim 2 2 7 0 0 3 0
+          ∷ claim 2 2 10 0 0 3 0
+          ∷ claim 2 3 1 0 0 0 0
+          ∷ claim 2 3 4 0 0 0 0
+          ∷ claim 2 3 7 0 2 1 0
+          ∷ claim 2 3 10 0 1 3 0
+          ∷ claim 3 1 1 0 0 0 0
+          ∷ claim 3 1 4 0 0 0 0
+          ∷ claim 3 1 7 2 0 0 0
+          ∷ claim 3 1 10 2 0 0 0
+          ∷ claim 3 2 1 0 0 0 0
+          ∷ claim 3 2 4 0 0 0 0
+          ∷ claim 3 2 7 0 2 0 0
+          ∷ claim 3 2 10 0 2 1 0
+          ∷ claim 3 3 1 0 0 0 0
+          ∷ claim 3 3 4 0 0 0 0
+          ∷ claim 3 3 7 0 4 3 0
+          ∷ claim 3 3 10 0 3 0 0
           ∷ [];
     }
 
 pub agrees-13 : first-wrong list-13 ≡ 0
-unfolding first-wrong entries apply Direct.start Direct.tick Pipelined.start Pipelined.tick book-words rate-words release-words arrive-words into-frame row-sum column-sum sum least some-of word
+unfolding first-wrong entries apply Direct.start Direct.tick Pipelined.start Pipelined.tick book-words rate-words release-words release-rate-words arrive-words into-frame booking bookings row-sum column-sum sum least some-of word
 agrees-13 = refl
 
 abbrev list-14 : Case
@@ -1429,135 +1391,108 @@ list-14 =
     record {
       switch =
           record {
-            clock = clock-of 2 10001 1;
-            bookings = 3 ∷ 7 ∷ 2 ∷ 101 ∷ 2 ∷ 4 ∷ 102 ∷ 1 ∷ 1 ∷ [];
-            credits = 1 ∷ 1 ∷ 2 ∷ 101 ∷ 4 ∷ 7 ∷ 2 ∷ 101 ∷ 1 ∷ [];
-            queues = 2 ∷ 4 ∷ 7 ∷ 3 ∷ 103 ∷ 104 ∷ 101 ∷ 4 ∷ 4 ∷ [];
-            copy = 2 ∷ 4 ∷ 102 ∷ 102 ∷ 4 ∷ 101 ∷ 1 ∷ 2 ∷ 104 ∷ [];
-            flight = 1 ∷ 7 ∷ 101 ∷ 2 ∷ 2 ∷ 1 ∷ 101 ∷ 103 ∷ 104 ∷ 1 ∷ 103 ∷ 1 ∷ 4 ∷ 2 ∷ 1 ∷ 2 ∷ 103 ∷ 3 ∷ [];
+            clock = clock-of 2 10001 1 1000;
+            book = book-of (7 ∷ 2 ∷ 101 ∷ 2 ∷ 4 ∷ 102 ∷ 1 ∷ 1 ∷ 1 ∷ []) (1 ∷ 2 ∷ 101 ∷ 4 ∷ 7 ∷ 2 ∷ 101 ∷ 1 ∷ 2 ∷ []);
+            credits = 4 ∷ 7 ∷ 3 ∷ 103 ∷ 104 ∷ 101 ∷ 4 ∷ 4 ∷ 2 ∷ [];
+            queues = 4 ∷ 102 ∷ 102 ∷ 4 ∷ 101 ∷ 1 ∷ 2 ∷ 104 ∷ 1 ∷ [];
+            copy = 7 ∷ 101 ∷ 2 ∷ 2 ∷ 1 ∷ 101 ∷ 103 ∷ 104 ∷ 1 ∷ [];
+            flight = 103 ∷ 1 ∷ 4 ∷ 2 ∷ 1 ∷ 2 ∷ 103 ∷ 3 ∷ 2 ∷ 2 ∷ 1 ∷ 101 ∷ 2 ∷ 103 ∷ 3 ∷ 101 ∷ 7 ∷ 7 ∷ [];
           };
       calls =
-          start direct 2 1
-          ∷ book-rate 2 2 100000000 100000000
-          ∷ book 2 1 1
-          ∷ book-rate 2 2 100000000 100000000
-          ∷ book 1 2 1
-          ∷ arrive 2 2 2
+          start direct 2 3 0
+          ∷ book-rate 2 1 1
+          ∷ book-rate 2 1 1
+          ∷ book-rate 2 1 1
+          ∷ book-rate 2 2 1
+          ∷ book-rate 2 2 1
+          ∷ book-rate 2 2 1
+          ∷ book-rate 2 2 1
           ∷ arrive 1 1 3
-          ∷ arrive 1 1 5
-          ∷ arrive 1 1 2
           ∷ arrive 1 1 4
+          ∷ arrive 2 1 2
           ∷ arrive 2 1 2
           ∷ arrive 1 2 2
-          ∷ tick direct
-          ∷ arrive 1 1 4
-          ∷ tick direct
           ∷ arrive 1 2 3
-          ∷ tick direct
-          ∷ tick direct
-          ∷ book-rate 1 2 99999999 99999999
-          ∷ tick direct
+          ∷ release-rate 1 2 1
           ∷ tick direct
           ∷ tick direct
           ∷ tick direct
+          ∷ arrive 2 1 4
           ∷ tick direct
           ∷ tick direct
           ∷ tick direct
-          ∷ arrive 1 2 5
-          ∷ arrive 2 1 2
           ∷ tick direct
+          ∷ arrive 2 2 5
+          ∷ arrive 1 2 2
+          ∷ tick direct
+          ∷ release-rate 1 2 1
+          ∷ tick direct
+          ∷ arrive 2 1 3
+          ∷ tick direct
+          ∷ arrive 2 1 3
           ∷ book 2 2 1
-          ∷ arrive 2 2 3
-          ∷ start direct 2 0
           ∷ tick direct
-          ∷ tick direct
-          ∷ arrive 1 2 5
+          ∷ release-rate 1 1 1
           ∷ tick direct
           ∷ arrive 1 1 2
           ∷ tick direct
           ∷ tick direct
-          ∷ book 2 2 2
-          ∷ arrive 1 1 2
+          ∷ tick direct
+          ∷ tick direct
+          ∷ tick direct
+          ∷ tick direct
+          ∷ tick direct
+          ∷ tick direct
+          ∷ tick direct
+          ∷ release 4294967297 2 1
+          ∷ book-rate 1 2 1
+          ∷ release-rate 2 1 1
+          ∷ release-rate 2 1 1
+          ∷ arrive 1 2 4
+          ∷ arrive 2 1 5
+          ∷ tick direct
+          ∷ arrive 1 1 3
+          ∷ tick direct
           ∷ tick direct
           ∷ [];
       expected =
-          claim 1 1 1 0 0 1 0
-          ∷ claim 1 1 2 0 0 1 0
-          ∷ claim 1 1 3 0 0 1 0
-          ∷ claim 1 1 4 0 0 1 0
-          ∷ claim 1 1 5 0 0 1 0
-          ∷ claim 1 1 6 0 0 1 0
+          claim 1 1 1 0 0 3 0
+          ∷ claim 1 1 4 0 0 3 0
           ∷ claim 1 1 7 0 0 1 0
-          ∷ claim 1 1 8 0 0 1 0
-          ∷ claim 1 1 9 0 0 1 0
-          ∷ claim 1 1 10 0 0 1 0
-          ∷ claim 1 1 11 0 0 1 0
-          ∷ claim 1 1 12 0 0 1 0
-          ∷ claim 1 1 13 0 0 1 0
-          ∷ claim 1 1 14 0 0 1 0
-          ∷ claim 1 1 15 0 0 1 0
-          ∷ claim 1 1 16 0 0 1 0
-          ∷ claim 1 1 17 0 0 1 0
-          ∷ claim 1 1 18 0 0 1 0
-          ∷ claim 1 2 1 0 1 1 0
-          ∷ claim 1 2 2 0 1 1 0
-          ∷ claim 1 2 3 0 1 1 0
-          ∷ claim 1 2 4 0 1 1 0
-          ∷ claim 1 2 5 0 1 1 0
-          ∷ claim 1 2 6 0 1 1 0
-          ∷ claim 1 2 7 0 1 1 0
-          ∷ claim 1 2 8 0 1 1 0
-          ∷ claim 1 2 9 0 1 1 0
-          ∷ claim 1 2 10 0 1 1 0
-          ∷ claim 1 2 11 0 1 1 0
-          ∷ claim 1 2 12 0 1 1 0
-          ∷ claim 1 2 13 0 1 1 0
-          ∷ claim 1 2 14 0 1 1 0
-          ∷ claim 1 2 15 0 1 1 0
-          ∷ claim 1 2 16 0 1 1 0
-          ∷ claim 1 2 17 0 1 1 0
-          ∷ claim 1 2 18 0 1 1 0
-          ∷ claim 2 1 1 0 1 1 0
-          ∷ claim 2 1 2 0 1 1 0
-          ∷ claim 2 1 3 0 1 1 0
-          ∷ claim 2 1 4 0 1 1 0
-          ∷ claim 2 1 5 0 1 1 0
-          ∷ claim 2 1 6 0 1 1 0
-          ∷ claim 2 1 7 0 1 1 0
-          ∷ claim 2 1 8 0 1 1 0
-          ∷ claim 2 1 9 0 1 1 0
-          ∷ claim 2 1 10 0 1 1 0
-          ∷ claim 2 1 11 0 1 1 0
-          ∷ claim 2 1 12 0 1 1 0
-          ∷ claim 2 1 13 0 1 1 0
-          ∷ claim 2 1 14 0 1 1 0
-          ∷ claim 2 1 15 0 1 1 0
-          ∷ claim 2 1 16 0 1 1 0
-          ∷ claim 2 1 17 0 1 1 0
-          ∷ claim 2 1 18 0 1 1 0
-          ∷ claim 2 2 1 1 0 1 1
-          ∷ claim 2 2 2 1 0 1 1
-          ∷ claim 2 2 3 1 0 0 0
-          ∷ claim 2 2 4 1 0 0 0
-          ∷ claim 2 2 5 1 0 0 0
-          ∷ claim 2 2 6 1 0 0 0
-          ∷ claim 2 2 7 1 0 0 0
-          ∷ claim 2 2 8 1 0 0 0
-          ∷ claim 2 2 9 1 0 0 0
-          ∷ claim 2 2 10 1 0 0 0
-          ∷ claim 2 2 11 1 0 0 0
-          ∷ claim 2 2 12 1 0 0 0
-          ∷ claim 2 2 13 1 0 1 1
-          ∷ claim 2 2 14 1 0 1 1
-          ∷ claim 2 2 15 1 0 1 1
-          ∷ claim 2 2 16 1 0 0 0
-          ∷ claim 2 2 17 1 0 0 0
-          ∷ claim 2 2 18 1 0 0 0
+          ∷ claim 1 1 10 0 0 0 0
+          ∷ claim 1 1 13 0 0 2 0
+          ∷ claim 1 1 16 0 0 0 0
+          ∷ claim 1 1 19 0 0 0 0
+          ∷ claim 1 1 22 0 0 2 0
+          ∷ claim 1 2 1 0 0 3 0
+          ∷ claim 1 2 4 0 0 3 0
+          ∷ claim 1 2 7 0 0 3 0
+          ∷ claim 1 2 10 0 0 3 0
+          ∷ claim 1 2 13 0 1 3 0
+          ∷ claim 1 2 16 0 1 2 0
+          ∷ claim 1 2 19 0 1 0 0
+          ∷ claim 1 2 22 0 1 3 0
+          ∷ claim 2 1 1 0 0 3 0
+          ∷ claim 2 1 4 0 0 3 0
+          ∷ claim 2 1 7 0 0 3 0
+          ∷ claim 2 1 10 0 0 3 0
+          ∷ claim 2 1 13 0 1 3 0
+          ∷ claim 2 1 16 0 1 3 0
+          ∷ claim 2 1 19 0 1 3 0
+          ∷ claim 2 1 22 0 1 3 0
+          ∷ claim 2 2 1 0 0 0 0
+          ∷ claim 2 2 4 0 0 0 0
+          ∷ claim 2 2 7 0 0 2 0
+          ∷ claim 2 2 10 0 0 3 0
+          ∷ claim 2 2 13 1 0 3 1
+          ∷ claim 2 2 16 1 0 3 1
+          ∷ claim 2 2 19 1 0 3 1
+          ∷ claim 2 2 22 1 0 1 1
           ∷ [];
     }
 
 pub agrees-14 : first-wrong list-14 ≡ 0
-unfolding first-wrong entries apply Direct.start Direct.tick Pipelined.start Pipelined.tick book-words rate-words release-words arrive-words into-frame row-sum column-sum sum least some-of word
+unfolding first-wrong entries apply Direct.start Direct.tick Pipelined.start Pipelined.tick book-words rate-words release-words release-rate-words arrive-words into-frame booking bookings row-sum column-sum sum least some-of word
 agrees-14 = refl
 
 abbrev list-15 : Case
@@ -1565,80 +1500,119 @@ list-15 =
     record {
       switch =
           record {
-            clock = clock-of 33 1 1;
-            bookings = 2 ∷ 7 ∷ 4 ∷ 103 ∷ 103 ∷ 104 ∷ 2 ∷ 101 ∷ 104 ∷ [];
-            credits = 2 ∷ 4 ∷ 104 ∷ 4 ∷ 7 ∷ 104 ∷ 4 ∷ 7 ∷ 1 ∷ [];
-            queues = 1 ∷ 101 ∷ 103 ∷ 2 ∷ 103 ∷ 103 ∷ 2 ∷ 2 ∷ 3 ∷ [];
-            copy = 1 ∷ 1 ∷ 104 ∷ 7 ∷ 7 ∷ 104 ∷ 1 ∷ 1 ∷ 104 ∷ [];
-            flight = 4 ∷ 1 ∷ 102 ∷ 1 ∷ 3 ∷ 7 ∷ 3 ∷ 2 ∷ 103 ∷ 104 ∷ 1 ∷ 7 ∷ 2 ∷ 4 ∷ 102 ∷ 2 ∷ 101 ∷ 1 ∷ [];
+            clock = clock-of 33 1 1 100000001;
+            book = book-of (7 ∷ 4 ∷ 103 ∷ 103 ∷ 104 ∷ 2 ∷ 101 ∷ 104 ∷ 2 ∷ []) (4 ∷ 104 ∷ 4 ∷ 7 ∷ 104 ∷ 4 ∷ 7 ∷ 1 ∷ 1 ∷ []);
+            credits = 101 ∷ 103 ∷ 2 ∷ 103 ∷ 103 ∷ 2 ∷ 2 ∷ 3 ∷ 1 ∷ [];
+            queues = 1 ∷ 104 ∷ 7 ∷ 7 ∷ 104 ∷ 1 ∷ 1 ∷ 104 ∷ 4 ∷ [];
+            copy = 1 ∷ 102 ∷ 1 ∷ 3 ∷ 7 ∷ 3 ∷ 2 ∷ 103 ∷ 104 ∷ [];
+            flight = 1 ∷ 7 ∷ 2 ∷ 4 ∷ 102 ∷ 2 ∷ 101 ∷ 1 ∷ 7 ∷ 3 ∷ 102 ∷ 104 ∷ 103 ∷ 102 ∷ 103 ∷ 7 ∷ 2 ∷ 7 ∷ [];
           };
       calls =
-          start pipelined 2 4
-          ∷ book-rate 2 1 99999999 24999999
-          ∷ book 1 1 2
-          ∷ book 2 2 1
-          ∷ arrive 2 1 5
-          ∷ arrive 2 1 3
+          start pipelined 3 6 1000
+          ∷ book 1 3 1
+          ∷ book-rate 1 2 56
+          ∷ book-rate 1 2 55
+          ∷ book-rate 1 2 166
+          ∷ book-rate 1 2 56
+          ∷ book-rate 3 2 112
+          ∷ book-rate 3 2 111
+          ∷ book-rate 3 2 167
+          ∷ book-rate 3 2 56
+          ∷ book-rate 3 2 56
+          ∷ arrive 1 1 54
+          ∷ arrive 1 3 69
+          ∷ arrive 3 2 74
+          ∷ arrive 2 1 59
+          ∷ arrive 3 3 69
+          ∷ arrive 1 1 53
+          ∷ arrive 1 3 75
+          ∷ arrive 3 3 60
+          ∷ arrive 3 2 80
+          ∷ arrive 1 2 75
+          ∷ arrive 1 1 78
+          ∷ arrive 3 3 62
+          ∷ arrive 3 1 47
           ∷ tick pipelined
           ∷ tick pipelined
           ∷ tick pipelined
-          ∷ arrive 2 2 5
+          ∷ release-rate 3 2 112
           ∷ tick pipelined
           ∷ tick pipelined
-          ∷ tick pipelined
-          ∷ start pipelined 1 6
-          ∷ book-rate 1 1 99999999 16666667
-          ∷ arrive 1 1 5
-          ∷ arrive 1 1 5
+          ∷ release-rate 1 2 56
+          ∷ arrive 1 3 59
+          ∷ release 1 3 1
           ∷ tick pipelined
           ∷ tick pipelined
-          ∷ arrive 1 1 5
-          ∷ arrive 1 1 4
+          ∷ release-rate 1 2 55
+          ∷ book 1 3 0
+          ∷ arrive 3 1 69
           ∷ tick pipelined
           ∷ tick pipelined
-          ∷ arrive 1 1 65536
-          ∷ tick pipelined
-          ∷ arrive 1 1 5
-          ∷ book-rate 1 1 1000 167
-          ∷ arrive 1 1 4
-          ∷ arrive 1 1 3
-          ∷ arrive 1 1 2
-          ∷ tick pipelined
-          ∷ tick pipelined
-          ∷ tick pipelined
-          ∷ tick pipelined
-          ∷ release 1 0 1
-          ∷ arrive 1 1 2
-          ∷ arrive 1 1 3
-          ∷ tick pipelined
-          ∷ release 1 1 1
-          ∷ arrive 1 1 5
-          ∷ tick pipelined
-          ∷ tick pipelined
-          ∷ tick pipelined
-          ∷ arrive 1 1 5
-          ∷ tick pipelined
-          ∷ tick pipelined
-          ∷ tick pipelined
-          ∷ arrive 1 1 3
+          ∷ release-rate 1 2 223
           ∷ tick pipelined
           ∷ tick pipelined
           ∷ tick pipelined
           ∷ tick pipelined
-          ∷ book 0 1 1
-          ∷ book 1 1 1
+          ∷ tick pipelined
+          ∷ release-rate 2 2 1
+          ∷ release-rate 2 1 1
+          ∷ book-rate 2 3 1001
+          ∷ tick pipelined
+          ∷ tick pipelined
+          ∷ release-rate 1 2 222
+          ∷ book 2 1 1
+          ∷ tick pipelined
+          ∷ book 1 3 1
+          ∷ arrive 2 3 65
+          ∷ tick pipelined
+          ∷ tick pipelined
+          ∷ tick pipelined
+          ∷ release 1 3 1
+          ∷ tick pipelined
           ∷ tick pipelined
           ∷ [];
       expected =
-          claim 1 1 1 0 0 4 0
-          ∷ claim 1 1 7 2 0 6 2
-          ∷ claim 1 1 13 1 0 6 1
-          ∷ claim 1 1 19 1 0 4 1
+          claim 1 1 1 0 0 0 0
+          ∷ claim 1 1 7 0 3 6 0
+          ∷ claim 1 1 13 0 2 6 0
+          ∷ claim 1 1 19 0 2 5 0
+          ∷ claim 1 2 1 0 0 0 0
+          ∷ claim 1 2 7 2 2 6 2
+          ∷ claim 1 2 13 2 0 6 2
+          ∷ claim 1 2 19 2 0 5 2
+          ∷ claim 1 3 1 0 0 0 0
+          ∷ claim 1 3 7 1 2 6 1
+          ∷ claim 1 3 13 0 2 6 0
+          ∷ claim 1 3 19 0 2 5 0
+          ∷ claim 2 1 1 0 0 0 0
+          ∷ claim 2 1 7 0 0 6 0
+          ∷ claim 2 1 13 0 0 6 0
+          ∷ claim 2 1 19 0 0 5 0
+          ∷ claim 2 2 1 0 0 0 0
+          ∷ claim 2 2 7 0 3 0 0
+          ∷ claim 2 2 13 0 2 0 0
+          ∷ claim 2 2 19 0 2 0 0
+          ∷ claim 2 3 1 0 0 0 0
+          ∷ claim 2 3 7 0 1 0 0
+          ∷ claim 2 3 13 0 0 0 0
+          ∷ claim 2 3 19 0 0 1 0
+          ∷ claim 3 1 1 0 0 0 0
+          ∷ claim 3 1 7 0 1 6 0
+          ∷ claim 3 1 13 0 0 6 0
+          ∷ claim 3 1 19 0 0 5 0
+          ∷ claim 3 2 1 0 0 0 0
+          ∷ claim 3 2 7 1 2 6 1
+          ∷ claim 3 2 13 0 2 6 0
+          ∷ claim 3 2 19 0 2 5 0
+          ∷ claim 3 3 1 0 0 0 0
+          ∷ claim 3 3 7 0 2 6 0
+          ∷ claim 3 3 13 0 0 6 0
+          ∷ claim 3 3 19 0 0 5 0
           ∷ [];
     }
 
 pub agrees-15 : first-wrong list-15 ≡ 0
-unfolding first-wrong entries apply Direct.start Direct.tick Pipelined.start Pipelined.tick book-words rate-words release-words arrive-words into-frame row-sum column-sum sum least some-of word
+unfolding first-wrong entries apply Direct.start Direct.tick Pipelined.start Pipelined.tick book-words rate-words release-words release-rate-words arrive-words into-frame booking bookings row-sum column-sum sum least some-of word
 agrees-15 = refl
 
 abbrev list-16 : Case
@@ -1646,80 +1620,29 @@ list-16 =
     record {
       switch =
           record {
-            clock = clock-of 33 5 77;
-            bookings = 104 ∷ 2 ∷ 1 ∷ 2 ∷ 103 ∷ 102 ∷ 101 ∷ 2 ∷ 1 ∷ [];
-            credits = 4 ∷ 4 ∷ 1 ∷ 3 ∷ 4 ∷ 1 ∷ 101 ∷ 102 ∷ 7 ∷ [];
-            queues = 1 ∷ 101 ∷ 4 ∷ 4 ∷ 2 ∷ 4 ∷ 104 ∷ 3 ∷ 102 ∷ [];
-            copy = 3 ∷ 1 ∷ 7 ∷ 2 ∷ 101 ∷ 103 ∷ 7 ∷ 102 ∷ 2 ∷ [];
-            flight = 102 ∷ 2 ∷ 101 ∷ 2 ∷ 7 ∷ 4 ∷ 103 ∷ 102 ∷ 1 ∷ 2 ∷ 4 ∷ 2 ∷ 101 ∷ 1 ∷ 104 ∷ 102 ∷ 7 ∷ 101 ∷ [];
+            clock = clock-of 33 5 77 1000;
+            book = book-of (2 ∷ 1 ∷ 2 ∷ 103 ∷ 102 ∷ 101 ∷ 2 ∷ 1 ∷ 4 ∷ []) (4 ∷ 1 ∷ 3 ∷ 4 ∷ 1 ∷ 101 ∷ 102 ∷ 7 ∷ 1 ∷ []);
+            credits = 101 ∷ 4 ∷ 4 ∷ 2 ∷ 4 ∷ 104 ∷ 3 ∷ 102 ∷ 3 ∷ [];
+            queues = 1 ∷ 7 ∷ 2 ∷ 101 ∷ 103 ∷ 7 ∷ 102 ∷ 2 ∷ 102 ∷ [];
+            copy = 2 ∷ 101 ∷ 2 ∷ 7 ∷ 4 ∷ 103 ∷ 102 ∷ 1 ∷ 2 ∷ [];
+            flight = 4 ∷ 2 ∷ 101 ∷ 1 ∷ 104 ∷ 102 ∷ 7 ∷ 101 ∷ 1 ∷ 1 ∷ 1 ∷ 103 ∷ 7 ∷ 102 ∷ 104 ∷ 103 ∷ 3 ∷ 103 ∷ [];
           };
       calls =
-          start direct 3 1
-          ∷ book-rate 3 3 7 7
-          ∷ book 1 3 1
-          ∷ book-rate 2 2 1 1
-          ∷ book-rate 2 2 1000 1000
-          ∷ book-rate 3 3 100000000 100000000
-          ∷ book 2 3 1
-          ∷ book 1 2 1
-          ∷ book 3 2 1
-          ∷ book-rate 1 2 99999999 99999999
-          ∷ arrive 2 3 60
-          ∷ arrive 3 3 81
-          ∷ arrive 3 1 84
-          ∷ arrive 2 2 90
-          ∷ arrive 3 1 68
-          ∷ arrive 1 2 86
-          ∷ arrive 1 2 46
-          ∷ arrive 1 3 83
-          ∷ arrive 1 2 77
-          ∷ arrive 1 1 83
-          ∷ arrive 1 3 87
-          ∷ arrive 3 1 78
-          ∷ arrive 2 1 90
-          ∷ arrive 2 3 90
+          start direct 1 5 0
+          ∷ book-rate 1 1 1
+          ∷ book-rate 1 1 1
+          ∷ book-rate 1 1 1
+          ∷ book-rate 1 1 1
+          ∷ arrive 1 1 65
+          ∷ arrive 1 1 51
+          ∷ arrive 1 1 68
           ∷ tick direct
-          ∷ tick direct
-          ∷ start direct 3 4
-          ∷ book 1 2 1
-          ∷ book 1 2 1
-          ∷ book-rate 2 2 7 1
-          ∷ book-rate 1 2 100000000 25000000
-          ∷ book-rate 3 3 7 1
-          ∷ book-rate 3 1 100000000 25000000
-          ∷ book 2 2 1
-          ∷ book 3 2 1
-          ∷ arrive 3 2 2
-          ∷ arrive 3 1 5
-          ∷ arrive 1 3 3
-          ∷ arrive 2 3 4
-          ∷ arrive 3 2 5
-          ∷ arrive 2 2 4
-          ∷ arrive 3 2 3
-          ∷ arrive 1 3 5
-          ∷ arrive 3 1 2
-          ∷ arrive 2 1 3
-          ∷ arrive 3 3 3
-          ∷ arrive 1 2 4
-          ∷ arrive 2 2 4
-          ∷ arrive 2 2 4
-          ∷ arrive 2 3 2
-          ∷ arrive 1 3 2
-          ∷ arrive 2 2 3
-          ∷ arrive 2 1 2
-          ∷ tick direct
-          ∷ tick direct
-          ∷ tick direct
-          ∷ start direct 0 4
+          ∷ arrive 1 1 62
           ∷ tick direct
           ∷ tick direct
           ∷ tick direct
           ∷ tick direct
-          ∷ tick direct
-          ∷ arrive 3 4294967297 1
-          ∷ tick direct
-          ∷ tick direct
-          ∷ arrive 2 2 65536
+          ∷ arrive 1 1 65536
           ∷ tick direct
           ∷ tick direct
           ∷ tick direct
@@ -1727,59 +1650,37 @@ list-16 =
           ∷ tick direct
           ∷ tick direct
           ∷ tick direct
+          ∷ tick direct
+          ∷ release 1 0 1
+          ∷ arrive 1 1 46
+          ∷ release 1 1 1
+          ∷ tick direct
+          ∷ tick direct
+          ∷ arrive 1 1 84
+          ∷ tick direct
+          ∷ tick direct
+          ∷ tick direct
+          ∷ tick direct
+          ∷ book-rate 1 1 1
+          ∷ release-rate 1 1 1
+          ∷ book-rate 1 1 1
+          ∷ arrive 1 1 59
+          ∷ release-rate 1 1 1
+          ∷ tick direct
+          ∷ arrive 1 1 61
           ∷ tick direct
           ∷ [];
       expected =
-          claim 1 1 1 0 3 0 0
-          ∷ claim 1 1 5 0 3 0 0
-          ∷ claim 1 1 9 0 3 0 0
-          ∷ claim 1 1 13 0 3 0 0
-          ∷ claim 1 1 17 0 3 0 0
-          ∷ claim 1 2 1 2 0 4 2
-          ∷ claim 1 2 5 2 0 0 0
-          ∷ claim 1 2 9 2 0 0 0
-          ∷ claim 1 2 13 2 0 0 0
-          ∷ claim 1 2 17 2 0 0 0
-          ∷ claim 1 3 1 0 3 4 0
-          ∷ claim 1 3 5 0 3 4 0
-          ∷ claim 1 3 9 0 3 4 0
-          ∷ claim 1 3 13 0 3 2 0
-          ∷ claim 1 3 17 0 3 0 0
-          ∷ claim 2 1 1 0 1 4 0
-          ∷ claim 2 1 5 0 1 3 0
-          ∷ claim 2 1 9 0 1 0 0
-          ∷ claim 2 1 13 0 1 0 0
-          ∷ claim 2 1 17 0 1 0 0
-          ∷ claim 2 2 1 0 2 4 0
-          ∷ claim 2 2 5 0 2 4 0
-          ∷ claim 2 2 9 0 2 4 0
-          ∷ claim 2 2 13 0 2 4 0
-          ∷ claim 2 2 17 0 2 2 0
-          ∷ claim 2 3 1 0 1 4 0
-          ∷ claim 2 3 5 0 1 4 0
-          ∷ claim 2 3 9 0 1 4 0
-          ∷ claim 2 3 13 0 1 4 0
-          ∷ claim 2 3 17 0 1 2 0
-          ∷ claim 3 1 1 1 1 4 1
-          ∷ claim 3 1 5 1 1 4 1
-          ∷ claim 3 1 9 1 1 4 1
-          ∷ claim 3 1 13 1 1 0 0
-          ∷ claim 3 1 17 1 1 0 0
-          ∷ claim 3 2 1 0 4 4 0
-          ∷ claim 3 2 5 0 4 4 0
-          ∷ claim 3 2 9 0 4 4 0
-          ∷ claim 3 2 13 0 4 4 0
-          ∷ claim 3 2 17 0 4 2 0
-          ∷ claim 3 3 1 1 1 4 1
-          ∷ claim 3 3 5 1 1 0 0
-          ∷ claim 3 3 9 1 1 0 0
-          ∷ claim 3 3 13 1 1 0 0
-          ∷ claim 3 3 17 1 1 0 0
+          claim 1 1 1 0 0 5 0
+          ∷ claim 1 1 6 0 0 5 0
+          ∷ claim 1 1 11 0 0 5 0
+          ∷ claim 1 1 16 0 0 5 0
+          ∷ claim 1 1 21 0 0 1 0
           ∷ [];
     }
 
 pub agrees-16 : first-wrong list-16 ≡ 0
-unfolding first-wrong entries apply Direct.start Direct.tick Pipelined.start Pipelined.tick book-words rate-words release-words arrive-words into-frame row-sum column-sum sum least some-of word
+unfolding first-wrong entries apply Direct.start Direct.tick Pipelined.start Pipelined.tick book-words rate-words release-words release-rate-words arrive-words into-frame booking bookings row-sum column-sum sum least some-of word
 agrees-16 = refl
 
 abbrev list-17 : Case
@@ -1787,70 +1688,97 @@ list-17 =
     record {
       switch =
           record {
-            clock = clock-of 3 5 1;
-            bookings = 1 ∷ 2 ∷ 101 ∷ 7 ∷ 104 ∷ 1 ∷ 104 ∷ 4 ∷ 104 ∷ [];
-            credits = 1 ∷ 101 ∷ 2 ∷ 3 ∷ 4 ∷ 104 ∷ 2 ∷ 7 ∷ 4 ∷ [];
-            queues = 7 ∷ 7 ∷ 2 ∷ 103 ∷ 103 ∷ 104 ∷ 1 ∷ 4 ∷ 1 ∷ [];
-            copy = 1 ∷ 1 ∷ 103 ∷ 101 ∷ 1 ∷ 102 ∷ 104 ∷ 4 ∷ 1 ∷ [];
-            flight = 7 ∷ 4 ∷ 2 ∷ 102 ∷ 101 ∷ 2 ∷ 102 ∷ 101 ∷ 7 ∷ 102 ∷ 4 ∷ 3 ∷ 4 ∷ 102 ∷ 2 ∷ 4 ∷ 103 ∷ 104 ∷ [];
+            clock = clock-of 3 5 1 100000001;
+            book = book-of (2 ∷ 101 ∷ 7 ∷ 104 ∷ 1 ∷ 104 ∷ 4 ∷ 104 ∷ 1 ∷ []) (101 ∷ 2 ∷ 3 ∷ 4 ∷ 104 ∷ 2 ∷ 7 ∷ 4 ∷ 7 ∷ []);
+            credits = 7 ∷ 2 ∷ 103 ∷ 103 ∷ 104 ∷ 1 ∷ 4 ∷ 1 ∷ 1 ∷ [];
+            queues = 1 ∷ 103 ∷ 101 ∷ 1 ∷ 102 ∷ 104 ∷ 4 ∷ 1 ∷ 7 ∷ [];
+            copy = 4 ∷ 2 ∷ 102 ∷ 101 ∷ 2 ∷ 102 ∷ 101 ∷ 7 ∷ 102 ∷ [];
+            flight = 4 ∷ 3 ∷ 4 ∷ 102 ∷ 2 ∷ 4 ∷ 103 ∷ 104 ∷ 102 ∷ 3 ∷ 102 ∷ 1 ∷ 1 ∷ 7 ∷ 7 ∷ 1 ∷ 1 ∷ 2 ∷ [];
           };
       calls =
-          start pipelined 2 4
-          ∷ book-rate 1 1 1 1
-          ∷ book 2 1 1
-          ∷ arrive 2 2 90
-          ∷ arrive 2 1 69
-          ∷ arrive 1 2 70
-          ∷ arrive 2 2 83
-          ∷ arrive 2 2 78
-          ∷ arrive 1 1 54
-          ∷ arrive 2 2 61
+          start pipelined 2 7 1000
+          ∷ book-rate 2 2 48
+          ∷ book-rate 2 2 48
+          ∷ book-rate 2 2 47
+          ∷ book-rate 2 1 142
+          ∷ book-rate 2 1 96
+          ∷ book-rate 2 1 48
+          ∷ book-rate 2 1 142
+          ∷ arrive 1 1 65535
+          ∷ arrive 1 1 65535
+          ∷ arrive 1 1 65535
+          ∷ arrive 1 1 65535
+          ∷ arrive 1 1 65535
+          ∷ arrive 1 1 65535
+          ∷ arrive 1 1 65535
+          ∷ arrive 1 1 65535
+          ∷ arrive 1 1 65535
+          ∷ arrive 1 1 65535
+          ∷ arrive 1 1 65535
+          ∷ arrive 1 1 65535
+          ∷ arrive 1 1 65535
+          ∷ arrive 1 1 65535
+          ∷ arrive 1 1 65535
+          ∷ arrive 1 1 16976
+          ∷ arrive 1 1 16975
+          ∷ arrive 1 1 1
+          ∷ arrive 1 2 4
+          ∷ arrive 1 1 3
+          ∷ tick pipelined
+          ∷ tick pipelined
+          ∷ tick pipelined
+          ∷ start pipelined 1 1 1000
+          ∷ book 1 1 1
+          ∷ arrive 1 1 3
+          ∷ arrive 1 1 2
           ∷ tick pipelined
           ∷ tick pipelined
           ∷ tick pipelined
           ∷ tick pipelined
           ∷ tick pipelined
           ∷ tick pipelined
+          ∷ arrive 1 1 2
+          ∷ arrive 1 1 2
           ∷ tick pipelined
-          ∷ arrive 1 2 55
-          ∷ tick pipelined
-          ∷ tick pipelined
-          ∷ arrive 2 1 65536
-          ∷ arrive 2 2 65536
+          ∷ release-rate 1 1 1
           ∷ tick pipelined
           ∷ tick pipelined
-          ∷ tick pipelined
+          ∷ release-rate 1 1 1
           ∷ tick pipelined
           ∷ tick pipelined
           ∷ tick pipelined
+          ∷ tick pipelined
+          ∷ release-rate 1 1 1
+          ∷ tick pipelined
+          ∷ tick pipelined
+          ∷ tick pipelined
+          ∷ arrive 1 1 3
           ∷ tick pipelined
           ∷ [];
       expected =
           claim 1 1 1 0 0 0 0
-          ∷ claim 1 1 5 0 1 4 0
-          ∷ claim 1 1 9 0 1 4 0
-          ∷ claim 1 1 13 0 1 4 0
-          ∷ claim 1 1 17 0 1 1 0
-          ∷ claim 1 2 1 0 0 0 0
-          ∷ claim 1 2 5 0 0 4 0
-          ∷ claim 1 2 9 0 0 4 0
-          ∷ claim 1 2 13 0 0 4 0
-          ∷ claim 1 2 17 0 0 1 0
-          ∷ claim 2 1 1 0 0 0 0
-          ∷ claim 2 1 5 1 0 4 1
-          ∷ claim 2 1 9 1 0 4 1
-          ∷ claim 2 1 13 1 0 4 1
-          ∷ claim 2 1 17 1 0 1 1
-          ∷ claim 2 2 1 0 0 0 0
-          ∷ claim 2 2 5 0 1 4 0
-          ∷ claim 2 2 9 0 1 4 0
-          ∷ claim 2 2 13 0 1 4 0
-          ∷ claim 2 2 17 0 1 1 0
+          ∷ claim 1 1 2 0 0 0 0
+          ∷ claim 1 1 3 1 0 1 1
+          ∷ claim 1 1 4 1 0 1 1
+          ∷ claim 1 1 5 1 0 1 1
+          ∷ claim 1 1 6 1 0 1 1
+          ∷ claim 1 1 7 1 0 0 0
+          ∷ claim 1 1 8 1 0 0 0
+          ∷ claim 1 1 9 1 0 1 1
+          ∷ claim 1 1 10 1 0 1 1
+          ∷ claim 1 1 11 1 0 1 1
+          ∷ claim 1 1 12 1 0 0 0
+          ∷ claim 1 1 13 1 0 0 0
+          ∷ claim 1 1 14 1 0 0 0
+          ∷ claim 1 1 15 1 0 0 0
+          ∷ claim 1 1 16 1 0 0 0
+          ∷ claim 1 1 17 1 0 0 0
+          ∷ claim 1 1 18 1 0 0 0
           ∷ [];
     }
 
 pub agrees-17 : first-wrong list-17 ≡ 0
-unfolding first-wrong entries apply Direct.start Direct.tick Pipelined.start Pipelined.tick book-words rate-words release-words arrive-words into-frame row-sum column-sum sum least some-of word
+unfolding first-wrong entries apply Direct.start Direct.tick Pipelined.start Pipelined.tick book-words rate-words release-words release-rate-words arrive-words into-frame booking bookings row-sum column-sum sum least some-of word
 agrees-17 = refl
 
 abbrev list-18 : Case
@@ -1858,112 +1786,103 @@ list-18 =
     record {
       switch =
           record {
-            clock = clock-of 9 5 0;
-            bookings = 1 ∷ 1 ∷ 102 ∷ 101 ∷ 7 ∷ 1 ∷ 3 ∷ 2 ∷ 101 ∷ [];
-            credits = 4 ∷ 101 ∷ 7 ∷ 103 ∷ 103 ∷ 1 ∷ 102 ∷ 1 ∷ 2 ∷ [];
-            queues = 1 ∷ 104 ∷ 101 ∷ 101 ∷ 104 ∷ 4 ∷ 101 ∷ 1 ∷ 2 ∷ [];
-            copy = 7 ∷ 101 ∷ 2 ∷ 104 ∷ 1 ∷ 104 ∷ 104 ∷ 2 ∷ 2 ∷ [];
-            flight = 4 ∷ 1 ∷ 104 ∷ 1 ∷ 3 ∷ 1 ∷ 4 ∷ 4 ∷ 104 ∷ 2 ∷ 4 ∷ 1 ∷ 2 ∷ 3 ∷ 2 ∷ 1 ∷ 103 ∷ 4 ∷ [];
+            clock = clock-of 9 5 0 0;
+            book = book-of (1 ∷ 102 ∷ 101 ∷ 7 ∷ 1 ∷ 3 ∷ 2 ∷ 101 ∷ 4 ∷ []) (101 ∷ 7 ∷ 103 ∷ 103 ∷ 1 ∷ 102 ∷ 1 ∷ 2 ∷ 1 ∷ []);
+            credits = 104 ∷ 101 ∷ 101 ∷ 104 ∷ 4 ∷ 101 ∷ 1 ∷ 2 ∷ 7 ∷ [];
+            queues = 101 ∷ 2 ∷ 104 ∷ 1 ∷ 104 ∷ 104 ∷ 2 ∷ 2 ∷ 4 ∷ [];
+            copy = 1 ∷ 104 ∷ 1 ∷ 3 ∷ 1 ∷ 4 ∷ 4 ∷ 104 ∷ 2 ∷ [];
+            flight = 4 ∷ 1 ∷ 2 ∷ 3 ∷ 2 ∷ 1 ∷ 103 ∷ 4 ∷ 1 ∷ 102 ∷ 4 ∷ 104 ∷ 103 ∷ 1 ∷ 101 ∷ 1 ∷ 3 ∷ 2 ∷ [];
           };
       calls =
-          start direct 3 6
-          ∷ book-rate 1 3 7 4
-          ∷ book-rate 1 3 100000000 16666666
-          ∷ book 3 3 1
-          ∷ book-rate 3 1 1000 166
+          start direct 2 4 99999999
+          ∷ book-rate 2 2 8333333
+          ∷ book-rate 2 1 24999999
+          ∷ book-rate 2 2 8333334
+          ∷ book-rate 2 2 16666667
+          ∷ arrive 1 2 61
+          ∷ arrive 1 1 84
+          ∷ arrive 2 2 56
+          ∷ book 1 1 1
           ∷ book 3 1 1
-          ∷ book-rate 2 3 1000 167
-          ∷ arrive 1 3 2
-          ∷ arrive 3 3 2
-          ∷ arrive 1 1 1
-          ∷ arrive 1 3 2
-          ∷ arrive 1 2 2
-          ∷ arrive 3 2 1
-          ∷ arrive 3 2 2
-          ∷ arrive 3 2 1
-          ∷ arrive 2 3 1
-          ∷ arrive 3 1 1
-          ∷ arrive 2 1 1
-          ∷ arrive 1 1 1
-          ∷ arrive 1 1 2
-          ∷ arrive 3 3 1
-          ∷ arrive 3 2 1
-          ∷ arrive 3 1 2
-          ∷ arrive 2 3 1
+          ∷ release 2 1 1
           ∷ tick direct
+          ∷ book-rate 1 2 8333333
           ∷ tick direct
-          ∷ start direct 3 0
-          ∷ arrive 3 2 2
+          ∷ release-rate 1 2 8333333
           ∷ tick direct
-          ∷ tick direct
-          ∷ start direct 2 5
-          ∷ book 2 2 1
+          ∷ start direct 2 7 7
+          ∷ book-rate 1 1 1
+          ∷ book 1 2 1
           ∷ book 2 1 1
-          ∷ arrive 1 1 65535
-          ∷ arrive 1 1 65535
-          ∷ arrive 1 1 65535
-          ∷ arrive 1 1 65535
-          ∷ arrive 1 1 65535
-          ∷ arrive 1 1 65535
-          ∷ arrive 1 1 65535
-          ∷ arrive 1 1 65535
-          ∷ arrive 1 1 65535
-          ∷ arrive 1 1 65535
-          ∷ arrive 1 1 65535
-          ∷ arrive 1 1 65535
-          ∷ arrive 1 1 65535
-          ∷ arrive 1 1 65535
-          ∷ arrive 1 1 65535
-          ∷ arrive 1 1 16976
-          ∷ arrive 1 1 16975
-          ∷ arrive 1 1 1
-          ∷ arrive 1 2 9
-          ∷ arrive 2 2 11
-          ∷ arrive 1 2 12
-          ∷ arrive 2 1 7
-          ∷ arrive 2 1 8
-          ∷ arrive 1 1 6
-          ∷ arrive 1 2 10
-          ∷ tick direct
-          ∷ tick direct
-          ∷ arrive 2 1 10
+          ∷ arrive 1 1 5
+          ∷ arrive 2 2 4
+          ∷ arrive 1 2 3
+          ∷ arrive 1 1 4
+          ∷ arrive 1 2 5
+          ∷ arrive 2 1 5
           ∷ tick direct
           ∷ tick direct
           ∷ tick direct
           ∷ tick direct
-          ∷ book-rate 2 2 100000001 1
-          ∷ book 2 1 6
-          ∷ release 1 1 1
-          ∷ arrive 2 1 10
-          ∷ tick direct
-          ∷ arrive 2 1 7
           ∷ tick direct
           ∷ tick direct
+          ∷ release 1 2 0
           ∷ tick direct
-          ∷ arrive 1 1 6
-          ∷ book 2 2 1
-          ∷ arrive 1 1 11
           ∷ tick direct
+          ∷ release-rate 1 1 2
+          ∷ tick direct
+          ∷ release-rate 1 1 2
+          ∷ arrive 1 2 3
+          ∷ release-rate 1 1 1
+          ∷ tick direct
+          ∷ tick direct
+          ∷ book-rate 2 2 1
+          ∷ release-rate 2 1 8
+          ∷ tick direct
+          ∷ start direct 2 0 7
+          ∷ tick direct
+          ∷ tick direct
+          ∷ tick direct
+          ∷ tick direct
+          ∷ tick direct
+          ∷ book 1 2 1
+          ∷ arrive 1 2 2
+          ∷ release-rate 2 2 2
+          ∷ release 1 2 1
+          ∷ arrive 1 1 2
+          ∷ release-rate 1 1 8
+          ∷ release-rate 1 1 1
+          ∷ tick direct
+          ∷ tick direct
+          ∷ release-rate 2 2 1
+          ∷ arrive 2 2 4
+          ∷ tick direct
+          ∷ tick direct
+          ∷ arrive 2 1 2
           ∷ tick direct
           ∷ [];
       expected =
-          claim 1 1 1 0 1 5 0
-          ∷ claim 1 1 6 0 1 5 0
-          ∷ claim 1 1 11 0 1 2 0
-          ∷ claim 1 2 1 0 1 5 0
-          ∷ claim 1 2 6 0 1 5 0
-          ∷ claim 1 2 11 0 2 2 0
-          ∷ claim 2 1 1 1 1 5 1
-          ∷ claim 2 1 6 1 1 5 1
-          ∷ claim 2 1 11 1 2 2 1
-          ∷ claim 2 2 1 1 1 5 1
-          ∷ claim 2 2 6 1 1 5 1
-          ∷ claim 2 2 11 2 1 2 1
+          claim 1 1 1 1 2 7 1
+          ∷ claim 1 1 8 1 2 4 1
+          ∷ claim 1 1 15 0 2 2 0
+          ∷ claim 1 1 22 0 2 0 0
+          ∷ claim 1 2 1 1 1 7 1
+          ∷ claim 1 2 8 1 1 7 1
+          ∷ claim 1 2 15 1 1 7 1
+          ∷ claim 1 2 22 1 0 1 1
+          ∷ claim 2 1 1 1 1 7 1
+          ∷ claim 2 1 8 1 1 7 1
+          ∷ claim 2 1 15 1 1 0 0
+          ∷ claim 2 1 22 1 0 1 1
+          ∷ claim 2 2 1 0 2 5 0
+          ∷ claim 2 2 8 0 2 0 0
+          ∷ claim 2 2 15 1 2 2 1
+          ∷ claim 2 2 22 0 2 1 0
           ∷ [];
     }
 
 pub agrees-18 : first-wrong list-18 ≡ 0
-unfolding first-wrong entries apply Direct.start Direct.tick Pipelined.start Pipelined.tick book-words rate-words release-words arrive-words into-frame row-sum column-sum sum least some-of word
+unfolding first-wrong entries apply Direct.start Direct.tick Pipelined.start Pipelined.tick book-words rate-words release-words release-rate-words arrive-words into-frame booking bookings row-sum column-sum sum least some-of word
 agrees-18 = refl
 
 abbrev list-19 : Case
@@ -1971,74 +1890,103 @@ list-19 =
     record {
       switch =
           record {
-            clock = clock-of 0 0 77;
-            bookings = 102 ∷ 3 ∷ 101 ∷ 104 ∷ 1 ∷ 4 ∷ 7 ∷ 2 ∷ 2 ∷ [];
-            credits = 102 ∷ 103 ∷ 2 ∷ 102 ∷ 101 ∷ 101 ∷ 2 ∷ 101 ∷ 103 ∷ [];
-            queues = 1 ∷ 2 ∷ 4 ∷ 104 ∷ 103 ∷ 2 ∷ 102 ∷ 1 ∷ 1 ∷ [];
-            copy = 1 ∷ 3 ∷ 104 ∷ 1 ∷ 103 ∷ 3 ∷ 102 ∷ 1 ∷ 7 ∷ [];
-            flight = 2 ∷ 101 ∷ 102 ∷ 101 ∷ 2 ∷ 1 ∷ 4 ∷ 1 ∷ 102 ∷ 4 ∷ 4 ∷ 102 ∷ 2 ∷ 1 ∷ 7 ∷ 1 ∷ 103 ∷ 103 ∷ [];
+            clock = clock-of 0 0 77 1;
+            book = book-of (3 ∷ 101 ∷ 104 ∷ 1 ∷ 4 ∷ 7 ∷ 2 ∷ 2 ∷ 102 ∷ []) (103 ∷ 2 ∷ 102 ∷ 101 ∷ 101 ∷ 2 ∷ 101 ∷ 103 ∷ 1 ∷ []);
+            credits = 2 ∷ 4 ∷ 104 ∷ 103 ∷ 2 ∷ 102 ∷ 1 ∷ 1 ∷ 1 ∷ [];
+            queues = 3 ∷ 104 ∷ 1 ∷ 103 ∷ 3 ∷ 102 ∷ 1 ∷ 7 ∷ 2 ∷ [];
+            copy = 101 ∷ 102 ∷ 101 ∷ 2 ∷ 1 ∷ 4 ∷ 1 ∷ 102 ∷ 4 ∷ [];
+            flight = 4 ∷ 102 ∷ 2 ∷ 1 ∷ 7 ∷ 1 ∷ 103 ∷ 103 ∷ 104 ∷ 2 ∷ 3 ∷ 4 ∷ 3 ∷ 104 ∷ 104 ∷ 101 ∷ 7 ∷ 102 ∷ [];
           };
       calls =
-          start pipelined 2 5
-          ∷ book-rate 2 2 1 1
-          ∷ book 1 2 2
-          ∷ arrive 1 1 50
-          ∷ arrive 2 1 64
-          ∷ arrive 2 1 71
-          ∷ arrive 1 1 62
+          start pipelined 3 7 0
+          ∷ book-rate 1 3 1
+          ∷ book-rate 1 3 1
+          ∷ book-rate 1 3 1
+          ∷ book-rate 1 3 1
+          ∷ book-rate 2 2 1
+          ∷ book-rate 2 2 1
+          ∷ book-rate 2 2 1
+          ∷ book-rate 1 2 1
+          ∷ book-rate 1 2 1
+          ∷ book-rate 1 2 1
+          ∷ book-rate 3 1 1
+          ∷ book-rate 3 1 1
+          ∷ book-rate 3 1 1
+          ∷ book-rate 1 1 1
+          ∷ book-rate 2 1 1
+          ∷ book 2 3 1
+          ∷ arrive 2 2 72
           ∷ arrive 1 1 51
+          ∷ arrive 2 1 88
+          ∷ arrive 3 3 79
+          ∷ arrive 2 3 49
+          ∷ arrive 1 3 59
           ∷ tick pipelined
-          ∷ start pipelined 1 1
-          ∷ book-rate 1 1 1 1
-          ∷ arrive 1 1 9
-          ∷ arrive 1 1 7
-          ∷ release 1 1 1
-          ∷ tick pipelined
-          ∷ tick pipelined
+          ∷ arrive 3 2 76
           ∷ tick pipelined
           ∷ tick pipelined
-          ∷ tick pipelined
-          ∷ book 1 1 1
-          ∷ book-rate 1 1 100000000 100000000
-          ∷ tick pipelined
-          ∷ tick pipelined
-          ∷ tick pipelined
-          ∷ start pipelined 17 32
-          ∷ book 1 1 1
-          ∷ tick pipelined
-          ∷ tick pipelined
-          ∷ arrive 1 1 9
-          ∷ tick pipelined
-          ∷ arrive 1 1 8
+          ∷ release 4294967297 1 1
           ∷ tick pipelined
           ∷ tick pipelined
           ∷ tick pipelined
           ∷ tick pipelined
+          ∷ release-rate 2 2 1
+          ∷ release-rate 1 1 1
+          ∷ release-rate 1 1 1
+          ∷ start pipelined 3 7 100000001
+          ∷ tick pipelined
+          ∷ tick pipelined
+          ∷ start pipelined 31 32 0
+          ∷ tick pipelined
+          ∷ arrive 1 3 85
+          ∷ tick pipelined
+          ∷ tick pipelined
+          ∷ tick pipelined
+          ∷ tick pipelined
+          ∷ tick pipelined
+          ∷ arrive 1 3 68
+          ∷ tick pipelined
+          ∷ tick pipelined
+          ∷ book-rate 2 1 1
+          ∷ tick pipelined
+          ∷ arrive 2 1 66
+          ∷ tick pipelined
+          ∷ release-rate 1 1 1
           ∷ tick pipelined
           ∷ [];
       expected =
-          claim 1 1 1 0 0 0 0
-          ∷ claim 1 1 2 0 0 0 0
-          ∷ claim 1 1 3 0 0 1 0
-          ∷ claim 1 1 4 0 0 1 0
-          ∷ claim 1 1 5 0 0 1 0
-          ∷ claim 1 1 6 0 0 1 0
-          ∷ claim 1 1 7 0 0 1 0
-          ∷ claim 1 1 8 1 0 1 1
-          ∷ claim 1 1 9 1 0 1 1
-          ∷ claim 1 1 10 1 0 1 1
-          ∷ claim 1 1 11 1 0 1 1
-          ∷ claim 1 1 12 1 0 1 1
-          ∷ claim 1 1 13 1 0 1 1
-          ∷ claim 1 1 14 1 0 1 1
-          ∷ claim 1 1 15 1 0 1 1
-          ∷ claim 1 1 16 1 0 1 1
-          ∷ claim 1 1 17 1 0 1 1
+          claim 1 1 1 0 0 1 0
+          ∷ claim 1 1 8 0 0 7 0
+          ∷ claim 1 1 15 0 0 7 0
+          ∷ claim 1 2 1 0 0 0 0
+          ∷ claim 1 2 8 0 0 0 0
+          ∷ claim 1 2 15 0 0 0 0
+          ∷ claim 1 3 1 0 0 1 0
+          ∷ claim 1 3 8 0 1 7 0
+          ∷ claim 1 3 15 0 1 7 0
+          ∷ claim 2 1 1 0 0 1 0
+          ∷ claim 2 1 8 0 1 7 0
+          ∷ claim 2 1 15 0 1 7 0
+          ∷ claim 2 2 1 0 0 1 0
+          ∷ claim 2 2 8 0 1 7 0
+          ∷ claim 2 2 15 0 1 7 0
+          ∷ claim 2 3 1 0 0 1 0
+          ∷ claim 2 3 8 1 0 7 1
+          ∷ claim 2 3 15 1 0 7 1
+          ∷ claim 3 1 1 0 0 0 0
+          ∷ claim 3 1 8 0 0 0 0
+          ∷ claim 3 1 15 0 0 0 0
+          ∷ claim 3 2 1 0 0 1 0
+          ∷ claim 3 2 8 0 0 7 0
+          ∷ claim 3 2 15 0 0 7 0
+          ∷ claim 3 3 1 0 0 1 0
+          ∷ claim 3 3 8 0 1 7 0
+          ∷ claim 3 3 15 0 1 7 0
           ∷ [];
     }
 
 pub agrees-19 : first-wrong list-19 ≡ 0
-unfolding first-wrong entries apply Direct.start Direct.tick Pipelined.start Pipelined.tick book-words rate-words release-words arrive-words into-frame row-sum column-sum sum least some-of word
+unfolding first-wrong entries apply Direct.start Direct.tick Pipelined.start Pipelined.tick book-words rate-words release-words release-rate-words arrive-words into-frame booking bookings row-sum column-sum sum least some-of word
 agrees-19 = refl
 
 abbrev list-20 : Case
@@ -2046,88 +1994,57 @@ list-20 =
     record {
       switch =
           record {
-            clock = clock-of 0 2 1;
-            bookings = 102 ∷ 101 ∷ 7 ∷ 1 ∷ 2 ∷ 1 ∷ 101 ∷ 2 ∷ 7 ∷ [];
-            credits = 4 ∷ 1 ∷ 1 ∷ 3 ∷ 1 ∷ 102 ∷ 101 ∷ 102 ∷ 101 ∷ [];
-            queues = 1 ∷ 4 ∷ 101 ∷ 7 ∷ 101 ∷ 2 ∷ 2 ∷ 1 ∷ 4 ∷ [];
-            copy = 101 ∷ 1 ∷ 2 ∷ 102 ∷ 103 ∷ 2 ∷ 102 ∷ 4 ∷ 2 ∷ [];
-            flight = 103 ∷ 101 ∷ 1 ∷ 1 ∷ 1 ∷ 3 ∷ 103 ∷ 101 ∷ 101 ∷ 101 ∷ 104 ∷ 104 ∷ 104 ∷ 103 ∷ 102 ∷ 1 ∷ 2 ∷ 102 ∷ [];
+            clock = clock-of 0 2 1 0;
+            book = book-of (101 ∷ 7 ∷ 1 ∷ 2 ∷ 1 ∷ 101 ∷ 2 ∷ 7 ∷ 4 ∷ []) (1 ∷ 1 ∷ 3 ∷ 1 ∷ 102 ∷ 101 ∷ 102 ∷ 101 ∷ 1 ∷ []);
+            credits = 4 ∷ 101 ∷ 7 ∷ 101 ∷ 2 ∷ 2 ∷ 1 ∷ 4 ∷ 101 ∷ [];
+            queues = 1 ∷ 2 ∷ 102 ∷ 103 ∷ 2 ∷ 102 ∷ 4 ∷ 2 ∷ 103 ∷ [];
+            copy = 101 ∷ 1 ∷ 1 ∷ 1 ∷ 3 ∷ 103 ∷ 101 ∷ 101 ∷ 101 ∷ [];
+            flight = 104 ∷ 104 ∷ 104 ∷ 103 ∷ 102 ∷ 1 ∷ 2 ∷ 102 ∷ 2 ∷ 7 ∷ 7 ∷ 7 ∷ 104 ∷ 3 ∷ 2 ∷ 1 ∷ 103 ∷ 104 ∷ [];
           };
       calls =
-          start direct 2 6
+          start direct 1 3 0
+          ∷ book-rate 1 1 1
+          ∷ book-rate 1 1 1
+          ∷ book-rate 1 1 1
+          ∷ arrive 1 1 2
+          ∷ arrive 1 1 2
+          ∷ tick direct
+          ∷ tick direct
+          ∷ arrive 1 1 4
+          ∷ tick direct
+          ∷ book-rate 1 1 1
+          ∷ tick direct
+          ∷ tick direct
+          ∷ release 1 1 1
+          ∷ tick direct
+          ∷ tick direct
+          ∷ tick direct
+          ∷ start direct 1 3 100000001
+          ∷ tick direct
+          ∷ book-rate 1 1 1
           ∷ book 1 1 1
-          ∷ book 1 2 2
           ∷ book 1 1 1
-          ∷ book 2 1 1
-          ∷ arrive 1 2 76
-          ∷ arrive 1 2 59
-          ∷ arrive 1 1 47
-          ∷ arrive 2 1 80
-          ∷ arrive 1 1 78
-          ∷ arrive 1 1 67
-          ∷ arrive 2 1 63
-          ∷ arrive 2 1 84
           ∷ tick direct
-          ∷ start direct 0 6
-          ∷ arrive 2 2 87
-          ∷ tick direct
-          ∷ tick direct
-          ∷ arrive 2 1 84
-          ∷ tick direct
-          ∷ arrive 1 2 73
-          ∷ tick direct
-          ∷ arrive 2 1 78
+          ∷ release-rate 1 1 1
           ∷ tick direct
           ∷ tick direct
           ∷ tick direct
-          ∷ tick direct
-          ∷ tick direct
-          ∷ tick direct
-          ∷ arrive 2 2 0
-          ∷ tick direct
-          ∷ book-rate 1 2 1 1
-          ∷ arrive 2 1 64
-          ∷ tick direct
-          ∷ release 1 2 1
-          ∷ tick direct
-          ∷ tick direct
-          ∷ arrive 2 2 56
-          ∷ tick direct
-          ∷ book-rate 2 2 1000 166
-          ∷ tick direct
-          ∷ arrive 1 1 86
-          ∷ tick direct
-          ∷ tick direct
-          ∷ release 2 1 7
-          ∷ arrive 0 2 1
-          ∷ book-rate 2 0 1000 1
-          ∷ release 1 2 1
           ∷ tick direct
           ∷ tick direct
           ∷ tick direct
           ∷ [];
       expected =
-          claim 1 1 1 1 3 6 1
-          ∷ claim 1 1 7 1 3 6 1
-          ∷ claim 1 1 13 1 3 6 1
-          ∷ claim 1 1 19 1 2 4 1
-          ∷ claim 1 2 1 2 1 6 2
-          ∷ claim 1 2 7 2 1 6 2
-          ∷ claim 1 2 13 2 1 6 2
-          ∷ claim 1 2 19 1 2 4 1
-          ∷ claim 2 1 1 1 1 6 1
-          ∷ claim 2 1 7 1 1 6 1
-          ∷ claim 2 1 13 1 1 6 1
-          ∷ claim 2 1 19 1 2 4 1
-          ∷ claim 2 2 1 0 3 5 0
-          ∷ claim 2 2 7 0 3 6 0
-          ∷ claim 2 2 13 0 3 6 0
-          ∷ claim 2 2 19 1 2 4 1
+          claim 1 1 1 0 0 3 0
+          ∷ claim 1 1 4 0 0 3 0
+          ∷ claim 1 1 7 0 0 2 0
+          ∷ claim 1 1 10 2 0 0 0
+          ∷ claim 1 1 13 2 0 0 0
+          ∷ claim 1 1 16 2 0 0 0
           ∷ [];
     }
 
 pub agrees-20 : first-wrong list-20 ≡ 0
-unfolding first-wrong entries apply Direct.start Direct.tick Pipelined.start Pipelined.tick book-words rate-words release-words arrive-words into-frame row-sum column-sum sum least some-of word
+unfolding first-wrong entries apply Direct.start Direct.tick Pipelined.start Pipelined.tick book-words rate-words release-words release-rate-words arrive-words into-frame booking bookings row-sum column-sum sum least some-of word
 agrees-20 = refl
 
 abbrev list-21 : Case
@@ -2135,88 +2052,132 @@ list-21 =
     record {
       switch =
           record {
-            clock = clock-of 1 10001 0;
-            bookings = 7 ∷ 102 ∷ 103 ∷ 102 ∷ 2 ∷ 2 ∷ 2 ∷ 3 ∷ 2 ∷ [];
-            credits = 1 ∷ 1 ∷ 104 ∷ 101 ∷ 102 ∷ 3 ∷ 102 ∷ 101 ∷ 1 ∷ [];
-            queues = 103 ∷ 104 ∷ 4 ∷ 1 ∷ 2 ∷ 3 ∷ 2 ∷ 4 ∷ 104 ∷ [];
-            copy = 102 ∷ 4 ∷ 7 ∷ 2 ∷ 104 ∷ 104 ∷ 101 ∷ 102 ∷ 2 ∷ [];
-            flight = 103 ∷ 104 ∷ 2 ∷ 2 ∷ 1 ∷ 102 ∷ 1 ∷ 4 ∷ 1 ∷ 1 ∷ 1 ∷ 103 ∷ 7 ∷ 1 ∷ 1 ∷ 1 ∷ 4 ∷ 104 ∷ [];
+            clock = clock-of 1 10001 0 1;
+            book = book-of (102 ∷ 103 ∷ 102 ∷ 2 ∷ 2 ∷ 2 ∷ 3 ∷ 2 ∷ 1 ∷ []) (1 ∷ 104 ∷ 101 ∷ 102 ∷ 3 ∷ 102 ∷ 101 ∷ 1 ∷ 103 ∷ []);
+            credits = 104 ∷ 4 ∷ 1 ∷ 2 ∷ 3 ∷ 2 ∷ 4 ∷ 104 ∷ 102 ∷ [];
+            queues = 4 ∷ 7 ∷ 2 ∷ 104 ∷ 104 ∷ 101 ∷ 102 ∷ 2 ∷ 103 ∷ [];
+            copy = 104 ∷ 2 ∷ 2 ∷ 1 ∷ 102 ∷ 1 ∷ 4 ∷ 1 ∷ 1 ∷ [];
+            flight = 1 ∷ 103 ∷ 7 ∷ 1 ∷ 1 ∷ 1 ∷ 4 ∷ 104 ∷ 1 ∷ 2 ∷ 101 ∷ 3 ∷ 4 ∷ 4 ∷ 2 ∷ 7 ∷ 101 ∷ 2 ∷ [];
           };
       calls =
-          start pipelined 2 7
-          ∷ book 2 2 1
-          ∷ book 2 1 1
-          ∷ book-rate 2 1 100000000 14285714
-          ∷ book-rate 2 1 1000 143
-          ∷ arrive 2 2 54
-          ∷ arrive 1 1 79
-          ∷ arrive 1 1 77
-          ∷ arrive 2 1 49
-          ∷ arrive 1 2 49
-          ∷ arrive 1 1 63
-          ∷ arrive 1 1 63
-          ∷ arrive 2 2 60
-          ∷ tick pipelined
-          ∷ book 2 1 1
-          ∷ tick pipelined
-          ∷ book 2 1 1
-          ∷ tick pipelined
-          ∷ tick pipelined
-          ∷ arrive 2 2 70
-          ∷ tick pipelined
-          ∷ tick pipelined
-          ∷ arrive 1 1 88
-          ∷ book 2 2 1
+          start pipelined 3 4 100000000
+          ∷ book-rate 2 2 8333333
+          ∷ book-rate 2 2 8333334
+          ∷ book-rate 1 3 8333333
+          ∷ book-rate 1 3 8333333
+          ∷ book-rate 2 2 8333333
+          ∷ book-rate 2 2 8333333
+          ∷ book-rate 3 2 16666666
+          ∷ book-rate 3 2 8333333
+          ∷ book-rate 3 2 8333334
+          ∷ book-rate 1 2 8333333
           ∷ book 1 1 1
-          ∷ arrive 2 1 81
-          ∷ arrive 2 2 58
+          ∷ arrive 1 3 2
+          ∷ arrive 3 1 2
+          ∷ arrive 1 2 1
+          ∷ arrive 3 1 1
+          ∷ arrive 3 2 2
+          ∷ arrive 1 1 1
+          ∷ arrive 2 1 2
+          ∷ arrive 1 3 1
+          ∷ arrive 1 2 2
+          ∷ arrive 1 2 2
+          ∷ arrive 2 1 1
+          ∷ arrive 2 1 2
+          ∷ arrive 3 1 1
           ∷ tick pipelined
-          ∷ arrive 2 1 47
-          ∷ arrive 2 2 88
-          ∷ start pipelined 2 1
-          ∷ arrive 1 1 63
-          ∷ tick pipelined
-          ∷ arrive 2 2 88
-          ∷ arrive 2 2 74
-          ∷ tick pipelined
-          ∷ book 2 0 1
-          ∷ book 2 1 1
-          ∷ tick pipelined
-          ∷ tick pipelined
-          ∷ tick pipelined
-          ∷ book 2 2 1
-          ∷ tick pipelined
-          ∷ arrive 1 2 79
-          ∷ tick pipelined
-          ∷ release 1 1 1
-          ∷ arrive 1 2 82
-          ∷ book 1 4294967297 1
-          ∷ arrive 1 2 61
+          ∷ book-rate 2 2 16666666
+          ∷ start pipelined 3 2 100000000
           ∷ tick pipelined
           ∷ tick pipelined
           ∷ tick pipelined
           ∷ tick pipelined
-          ∷ arrive 2 1 53
+          ∷ tick pipelined
+          ∷ arrive 3 1 1
+          ∷ release-rate 3 2 1
+          ∷ arrive 1 1 2
+          ∷ arrive 1 1 1
+          ∷ tick pipelined
+          ∷ tick pipelined
+          ∷ tick pipelined
+          ∷ tick pipelined
+          ∷ arrive 2 3 2
+          ∷ tick pipelined
+          ∷ tick pipelined
+          ∷ release-rate 2 2 16666666
+          ∷ tick pipelined
+          ∷ tick pipelined
+          ∷ book 1 2 1
+          ∷ tick pipelined
+          ∷ tick pipelined
+          ∷ book-rate 3 3 8333334
+          ∷ tick pipelined
+          ∷ tick pipelined
+          ∷ tick pipelined
+          ∷ tick pipelined
+          ∷ tick pipelined
           ∷ tick pipelined
           ∷ [];
       expected =
-          claim 1 1 1 0 0 3 0
-          ∷ claim 1 1 8 0 3 7 0
-          ∷ claim 1 1 15 1 3 6 1
-          ∷ claim 1 2 1 0 0 3 0
-          ∷ claim 1 2 8 0 1 7 0
-          ∷ claim 1 2 15 0 2 6 0
-          ∷ claim 2 1 1 0 0 3 0
-          ∷ claim 2 1 8 3 1 7 3
-          ∷ claim 2 1 15 3 2 6 3
-          ∷ claim 2 2 1 0 0 3 0
-          ∷ claim 2 2 8 1 3 7 1
-          ∷ claim 2 2 15 1 3 6 1
+          claim 1 1 1 0 0 0 0
+          ∷ claim 1 1 5 0 0 1 0
+          ∷ claim 1 1 9 1 1 0 0
+          ∷ claim 1 1 13 1 1 2 1
+          ∷ claim 1 1 17 1 1 0 0
+          ∷ claim 1 1 21 1 1 0 0
+          ∷ claim 1 2 1 0 0 0 0
+          ∷ claim 1 2 5 0 0 2 0
+          ∷ claim 1 2 9 0 4 4 0
+          ∷ claim 1 2 13 0 4 3 0
+          ∷ claim 1 2 17 0 4 0 0
+          ∷ claim 1 2 21 0 4 0 0
+          ∷ claim 1 3 1 0 0 0 0
+          ∷ claim 1 3 5 0 0 2 0
+          ∷ claim 1 3 9 1 1 4 1
+          ∷ claim 1 3 13 1 1 4 1
+          ∷ claim 1 3 17 1 1 1 1
+          ∷ claim 1 3 21 1 1 0 0
+          ∷ claim 2 1 1 0 0 0 0
+          ∷ claim 2 1 5 0 0 2 0
+          ∷ claim 2 1 9 0 3 4 0
+          ∷ claim 2 1 13 0 3 0 0
+          ∷ claim 2 1 17 0 3 0 0
+          ∷ claim 2 1 21 0 3 0 0
+          ∷ claim 2 2 1 0 0 0 0
+          ∷ claim 2 2 5 0 0 0 0
+          ∷ claim 2 2 9 2 0 0 0
+          ∷ claim 2 2 13 2 0 0 0
+          ∷ claim 2 2 17 2 0 0 0
+          ∷ claim 2 2 21 2 0 0 0
+          ∷ claim 2 3 1 0 0 0 0
+          ∷ claim 2 3 5 0 0 0 0
+          ∷ claim 2 3 9 0 3 0 0
+          ∷ claim 2 3 13 0 3 1 0
+          ∷ claim 2 3 17 0 3 2 0
+          ∷ claim 2 3 21 0 3 0 0
+          ∷ claim 3 1 1 0 0 0 0
+          ∷ claim 3 1 5 0 0 2 0
+          ∷ claim 3 1 9 0 1 4 0
+          ∷ claim 3 1 13 0 1 4 0
+          ∷ claim 3 1 17 0 1 4 0
+          ∷ claim 3 1 21 0 1 0 0
+          ∷ claim 3 2 1 0 0 0 0
+          ∷ claim 3 2 5 0 0 2 0
+          ∷ claim 3 2 9 0 2 4 0
+          ∷ claim 3 2 13 0 2 0 0
+          ∷ claim 3 2 17 0 2 0 0
+          ∷ claim 3 2 21 0 2 0 0
+          ∷ claim 3 3 1 0 0 0 0
+          ∷ claim 3 3 5 0 0 0 0
+          ∷ claim 3 3 9 0 1 0 0
+          ∷ claim 3 3 13 0 1 0 0
+          ∷ claim 3 3 17 0 1 0 0
+          ∷ claim 3 3 21 0 1 0 0
           ∷ [];
     }
 
 pub agrees-21 : first-wrong list-21 ≡ 0
-unfolding first-wrong entries apply Direct.start Direct.tick Pipelined.start Pipelined.tick book-words rate-words release-words arrive-words into-frame row-sum column-sum sum least some-of word
+unfolding first-wrong entries apply Direct.start Direct.tick Pipelined.start Pipelined.tick book-words rate-words release-words release-rate-words arrive-words into-frame booking bookings row-sum column-sum sum least some-of word
 agrees-21 = refl
 
 abbrev list-22 : Case
@@ -2224,165 +2185,187 @@ list-22 =
     record {
       switch =
           record {
-            clock = clock-of 2 1 77;
-            bookings = 7 ∷ 102 ∷ 2 ∷ 7 ∷ 4 ∷ 7 ∷ 101 ∷ 103 ∷ 7 ∷ [];
-            credits = 101 ∷ 103 ∷ 2 ∷ 2 ∷ 7 ∷ 101 ∷ 1 ∷ 102 ∷ 104 ∷ [];
-            queues = 102 ∷ 3 ∷ 1 ∷ 101 ∷ 4 ∷ 7 ∷ 101 ∷ 104 ∷ 4 ∷ [];
-            copy = 2 ∷ 1 ∷ 1 ∷ 1 ∷ 103 ∷ 1 ∷ 102 ∷ 2 ∷ 3 ∷ [];
-            flight = 2 ∷ 4 ∷ 1 ∷ 7 ∷ 7 ∷ 104 ∷ 2 ∷ 2 ∷ 2 ∷ 102 ∷ 2 ∷ 7 ∷ 104 ∷ 7 ∷ 4 ∷ 103 ∷ 3 ∷ 3 ∷ [];
+            clock = clock-of 2 1 77 1000;
+            book = book-of (102 ∷ 2 ∷ 7 ∷ 4 ∷ 7 ∷ 101 ∷ 103 ∷ 7 ∷ 101 ∷ []) (103 ∷ 2 ∷ 2 ∷ 7 ∷ 101 ∷ 1 ∷ 102 ∷ 104 ∷ 102 ∷ []);
+            credits = 3 ∷ 1 ∷ 101 ∷ 4 ∷ 7 ∷ 101 ∷ 104 ∷ 4 ∷ 2 ∷ [];
+            queues = 1 ∷ 1 ∷ 1 ∷ 103 ∷ 1 ∷ 102 ∷ 2 ∷ 3 ∷ 2 ∷ [];
+            copy = 4 ∷ 1 ∷ 7 ∷ 7 ∷ 104 ∷ 2 ∷ 2 ∷ 2 ∷ 102 ∷ [];
+            flight = 2 ∷ 7 ∷ 104 ∷ 7 ∷ 4 ∷ 103 ∷ 3 ∷ 3 ∷ 4 ∷ 2 ∷ 103 ∷ 2 ∷ 1 ∷ 104 ∷ 101 ∷ 3 ∷ 104 ∷ 103 ∷ [];
           };
       calls =
-          start direct 2 4
-          ∷ book-rate 1 1 7 1
-          ∷ book 2 1 1
-          ∷ arrive 2 1 2
-          ∷ arrive 1 2 2
-          ∷ arrive 1 2 2
-          ∷ arrive 2 1 2
-          ∷ arrive 1 2 2
-          ∷ release 2 2 0
-          ∷ release 1 2 1
-          ∷ arrive 4294967297 2 1
-          ∷ tick direct
-          ∷ start direct 3 3
-          ∷ book-rate 2 2 7 3
-          ∷ book 3 3 1
-          ∷ book 1 2 1
-          ∷ book-rate 1 1 99999999 33333333
-          ∷ book 3 3 1
-          ∷ book-rate 1 1 1 1
-          ∷ book 3 2 1
-          ∷ book-rate 3 1 7 5
+          start direct 3 1 7
+          ∷ book-rate 2 1 7
+          ∷ book-rate 2 1 3
+          ∷ book-rate 3 2 2
+          ∷ book-rate 3 2 2
+          ∷ book-rate 2 2 2
+          ∷ book-rate 2 2 3
+          ∷ book-rate 2 2 5
+          ∷ book-rate 1 2 2
+          ∷ book-rate 1 2 3
+          ∷ book-rate 1 2 7
+          ∷ book-rate 1 2 3
+          ∷ book-rate 3 3 2
+          ∷ book-rate 3 3 3
+          ∷ book-rate 3 3 7
+          ∷ book-rate 2 3 4
+          ∷ book-rate 2 3 4
+          ∷ arrive 2 3 65535
+          ∷ arrive 2 3 65535
+          ∷ arrive 2 3 65535
+          ∷ arrive 2 3 65535
+          ∷ arrive 2 3 65535
+          ∷ arrive 2 3 65535
+          ∷ arrive 2 3 65535
+          ∷ arrive 2 3 65535
+          ∷ arrive 2 3 65535
+          ∷ arrive 2 3 65535
+          ∷ arrive 2 3 65535
+          ∷ arrive 2 3 65535
+          ∷ arrive 2 3 65535
+          ∷ arrive 2 3 65535
+          ∷ arrive 2 3 65535
+          ∷ arrive 2 3 16976
+          ∷ arrive 2 3 16975
+          ∷ arrive 2 3 1
+          ∷ arrive 2 3 10
+          ∷ arrive 3 2 10
+          ∷ arrive 1 3 10
+          ∷ arrive 3 2 7
+          ∷ arrive 2 2 12
+          ∷ arrive 3 1 11
+          ∷ arrive 2 2 11
           ∷ arrive 2 2 10
           ∷ arrive 3 1 9
-          ∷ arrive 1 3 6
-          ∷ arrive 1 3 7
-          ∷ arrive 2 1 11
-          ∷ arrive 1 3 11
+          ∷ tick direct
+          ∷ tick direct
+          ∷ tick direct
+          ∷ arrive 3 3 10
+          ∷ arrive 3 1 8
           ∷ arrive 3 3 9
-          ∷ arrive 2 1 8
-          ∷ arrive 2 3 9
-          ∷ arrive 3 3 8
-          ∷ arrive 1 2 11
-          ∷ arrive 3 3 8
-          ∷ arrive 1 2 7
-          ∷ arrive 1 3 9
-          ∷ arrive 3 2 9
-          ∷ arrive 2 1 8
-          ∷ arrive 1 3 8
-          ∷ arrive 1 3 7
           ∷ tick direct
           ∷ tick direct
-          ∷ start direct 0 3
-          ∷ arrive 3 2 12
-          ∷ book 1 2 4
-          ∷ tick direct
-          ∷ tick direct
-          ∷ tick direct
-          ∷ book-rate 1 0 1000 1
-          ∷ tick direct
-          ∷ tick direct
-          ∷ tick direct
-          ∷ tick direct
-          ∷ tick direct
-          ∷ tick direct
-          ∷ tick direct
-          ∷ book 1 2 1
-          ∷ tick direct
-          ∷ tick direct
-          ∷ tick direct
-          ∷ tick direct
-          ∷ tick direct
-          ∷ tick direct
-          ∷ tick direct
-          ∷ tick direct
-          ∷ release 2 2 1
-          ∷ arrive 1 2 12
+          ∷ release-rate 3 3 1
+          ∷ start direct 26 32 7
           ∷ arrive 1 1 8
-          ∷ release 1 1 1
           ∷ tick direct
+          ∷ arrive 2 3 9
+          ∷ tick direct
+          ∷ arrive 1 3 8
+          ∷ book 3 1 1
+          ∷ tick direct
+          ∷ arrive 4 2 1
+          ∷ release 3 3 1
+          ∷ release 1 1 1
           ∷ tick direct
           ∷ tick direct
           ∷ tick direct
           ∷ [];
       expected =
-          claim 1 1 1 1 0 0 0
-          ∷ claim 1 1 4 1 0 0 0
-          ∷ claim 1 1 7 1 0 0 0
-          ∷ claim 1 1 10 1 0 0 0
-          ∷ claim 1 1 13 1 0 0 0
-          ∷ claim 1 1 16 1 0 0 0
-          ∷ claim 1 1 19 1 0 1 1
-          ∷ claim 1 1 22 0 0 3 0
-          ∷ claim 1 2 1 0 3 3 0
-          ∷ claim 1 2 4 0 3 3 0
-          ∷ claim 1 2 7 0 3 3 0
-          ∷ claim 1 2 10 0 3 3 0
-          ∷ claim 1 2 13 0 3 3 0
-          ∷ claim 1 2 16 0 3 3 0
-          ∷ claim 1 2 19 0 3 3 0
-          ∷ claim 1 2 22 0 1 3 0
-          ∷ claim 1 3 1 0 3 3 0
-          ∷ claim 1 3 4 0 3 3 0
-          ∷ claim 1 3 7 0 3 3 0
-          ∷ claim 1 3 10 0 3 3 0
-          ∷ claim 1 3 13 0 3 3 0
-          ∷ claim 1 3 16 0 3 3 0
-          ∷ claim 1 3 19 0 3 3 0
-          ∷ claim 1 3 22 0 2 3 0
-          ∷ claim 2 1 1 0 3 3 0
-          ∷ claim 2 1 4 0 3 3 0
-          ∷ claim 2 1 7 0 3 3 0
-          ∷ claim 2 1 10 0 3 3 0
-          ∷ claim 2 1 13 0 3 3 0
-          ∷ claim 2 1 16 0 3 3 0
-          ∷ claim 2 1 19 0 3 3 0
-          ∷ claim 2 1 22 0 1 3 0
-          ∷ claim 2 2 1 2 0 3 2
-          ∷ claim 2 2 4 2 0 3 2
-          ∷ claim 2 2 7 2 0 3 2
-          ∷ claim 2 2 10 2 0 3 2
-          ∷ claim 2 2 13 2 0 2 2
-          ∷ claim 2 2 16 2 0 0 0
-          ∷ claim 2 2 19 2 0 0 0
-          ∷ claim 2 2 22 1 0 0 0
-          ∷ claim 2 3 1 0 4 3 0
-          ∷ claim 2 3 4 0 4 3 0
-          ∷ claim 2 3 7 0 4 3 0
-          ∷ claim 2 3 10 0 4 3 0
-          ∷ claim 2 3 13 0 4 3 0
-          ∷ claim 2 3 16 0 4 3 0
-          ∷ claim 2 3 19 0 4 3 0
-          ∷ claim 2 3 22 0 3 3 0
-          ∷ claim 3 1 1 0 3 3 0
-          ∷ claim 3 1 4 0 3 3 0
-          ∷ claim 3 1 7 0 3 3 0
-          ∷ claim 3 1 10 0 3 3 0
-          ∷ claim 3 1 13 0 3 3 0
-          ∷ claim 3 1 16 0 3 3 0
-          ∷ claim 3 1 19 0 3 3 0
-          ∷ claim 3 1 22 0 2 3 0
-          ∷ claim 3 2 1 0 4 3 0
-          ∷ claim 3 2 4 0 4 3 0
-          ∷ claim 3 2 7 0 4 3 0
-          ∷ claim 3 2 10 0 4 3 0
-          ∷ claim 3 2 13 0 4 3 0
-          ∷ claim 3 2 16 0 4 3 0
-          ∷ claim 3 2 19 0 4 3 0
-          ∷ claim 3 2 22 0 3 3 0
-          ∷ claim 3 3 1 2 0 3 2
-          ∷ claim 3 3 4 2 0 3 2
-          ∷ claim 3 3 7 2 0 3 2
-          ∷ claim 3 3 10 2 0 3 2
-          ∷ claim 3 3 13 2 0 3 2
-          ∷ claim 3 3 16 2 0 3 2
-          ∷ claim 3 3 19 2 0 3 2
-          ∷ claim 3 3 22 2 0 3 2
+          claim 1 1 1 0 1 0 0
+          ∷ claim 1 1 2 0 1 0 0
+          ∷ claim 1 1 3 0 1 0 0
+          ∷ claim 1 1 4 0 1 0 0
+          ∷ claim 1 1 5 0 1 0 0
+          ∷ claim 1 1 6 0 1 1 0
+          ∷ claim 1 1 7 0 1 1 0
+          ∷ claim 1 1 8 0 1 1 0
+          ∷ claim 1 1 9 0 1 1 0
+          ∷ claim 1 1 10 0 1 1 0
+          ∷ claim 1 1 11 0 1 1 0
+          ∷ claim 1 2 1 0 1 0 0
+          ∷ claim 1 2 2 0 1 0 0
+          ∷ claim 1 2 3 0 1 0 0
+          ∷ claim 1 2 4 0 1 0 0
+          ∷ claim 1 2 5 0 1 0 0
+          ∷ claim 1 2 6 0 1 0 0
+          ∷ claim 1 2 7 0 1 0 0
+          ∷ claim 1 2 8 0 1 0 0
+          ∷ claim 1 2 9 0 1 0 0
+          ∷ claim 1 2 10 0 1 0 0
+          ∷ claim 1 2 11 0 1 0 0
+          ∷ claim 1 3 1 0 0 1 0
+          ∷ claim 1 3 2 0 0 1 0
+          ∷ claim 1 3 3 0 0 1 0
+          ∷ claim 1 3 4 0 0 1 0
+          ∷ claim 1 3 5 0 0 1 0
+          ∷ claim 1 3 6 0 0 1 0
+          ∷ claim 1 3 7 0 0 1 0
+          ∷ claim 1 3 8 0 0 1 0
+          ∷ claim 1 3 9 0 0 1 0
+          ∷ claim 1 3 10 0 0 1 0
+          ∷ claim 1 3 11 0 0 1 0
+          ∷ claim 2 1 1 1 0 0 0
+          ∷ claim 2 1 2 1 0 0 0
+          ∷ claim 2 1 3 1 0 0 0
+          ∷ claim 2 1 4 1 0 0 0
+          ∷ claim 2 1 5 1 0 0 0
+          ∷ claim 2 1 6 1 0 0 0
+          ∷ claim 2 1 7 1 0 0 0
+          ∷ claim 2 1 8 1 0 0 0
+          ∷ claim 2 1 9 1 0 0 0
+          ∷ claim 2 1 10 1 0 0 0
+          ∷ claim 2 1 11 1 0 0 0
+          ∷ claim 2 2 1 0 2 1 0
+          ∷ claim 2 2 2 0 2 1 0
+          ∷ claim 2 2 3 0 2 1 0
+          ∷ claim 2 2 4 0 2 1 0
+          ∷ claim 2 2 5 0 2 1 0
+          ∷ claim 2 2 6 0 2 1 0
+          ∷ claim 2 2 7 0 2 1 0
+          ∷ claim 2 2 8 0 2 1 0
+          ∷ claim 2 2 9 0 2 1 0
+          ∷ claim 2 2 10 0 2 1 0
+          ∷ claim 2 2 11 0 2 1 0
+          ∷ claim 2 3 1 0 1 1 0
+          ∷ claim 2 3 2 0 1 1 0
+          ∷ claim 2 3 3 0 1 1 0
+          ∷ claim 2 3 4 0 1 1 0
+          ∷ claim 2 3 5 0 1 1 0
+          ∷ claim 2 3 6 0 1 1 0
+          ∷ claim 2 3 7 0 1 1 0
+          ∷ claim 2 3 8 0 1 1 0
+          ∷ claim 2 3 9 0 1 1 0
+          ∷ claim 2 3 10 0 1 1 0
+          ∷ claim 2 3 11 0 1 1 0
+          ∷ claim 3 1 1 0 2 1 0
+          ∷ claim 3 1 2 0 2 1 0
+          ∷ claim 3 1 3 0 2 1 0
+          ∷ claim 3 1 4 0 2 1 0
+          ∷ claim 3 1 5 0 2 1 0
+          ∷ claim 3 1 6 0 2 1 0
+          ∷ claim 3 1 7 0 2 1 0
+          ∷ claim 3 1 8 0 2 1 0
+          ∷ claim 3 1 9 0 2 1 0
+          ∷ claim 3 1 10 0 2 1 0
+          ∷ claim 3 1 11 0 2 1 0
+          ∷ claim 3 2 1 1 0 1 1
+          ∷ claim 3 2 2 1 0 1 1
+          ∷ claim 3 2 3 1 0 1 1
+          ∷ claim 3 2 4 1 0 1 1
+          ∷ claim 3 2 5 1 0 1 1
+          ∷ claim 3 2 6 1 0 1 1
+          ∷ claim 3 2 7 1 0 1 1
+          ∷ claim 3 2 8 1 0 1 1
+          ∷ claim 3 2 9 1 0 1 1
+          ∷ claim 3 2 10 1 0 1 1
+          ∷ claim 3 2 11 1 0 1 1
+          ∷ claim 3 3 1 0 1 0 0
+          ∷ claim 3 3 2 0 1 0 0
+          ∷ claim 3 3 3 0 1 0 0
+          ∷ claim 3 3 4 0 1 1 0
+          ∷ claim 3 3 5 0 1 1 0
+          ∷ claim 3 3 6 0 1 1 0
+          ∷ claim 3 3 7 0 1 1 0
+          ∷ claim 3 3 8 0 1 1 0
+          ∷ claim 3 3 9 0 1 1 0
+          ∷ claim 3 3 10 0 1 1 0
+          ∷ claim 3 3 11 0 1 1 0
           ∷ [];
     }
 
 pub agrees-22 : first-wrong list-22 ≡ 0
-unfolding first-wrong entries apply Direct.start Direct.tick Pipelined.start Pipelined.tick book-words rate-words release-words arrive-words into-frame row-sum column-sum sum least some-of word
+unfolding first-wrong entries apply Direct.start Direct.tick Pipelined.start Pipelined.tick book-words rate-words release-words release-rate-words arrive-words into-frame booking bookings row-sum column-sum sum least some-of word
 agrees-22 = refl
 
 abbrev list-23 : Case
@@ -2390,128 +2373,70 @@ list-23 =
     record {
       switch =
           record {
-            clock = clock-of 9 10001 0;
-            bookings = 2 ∷ 2 ∷ 3 ∷ 103 ∷ 103 ∷ 102 ∷ 3 ∷ 104 ∷ 1 ∷ [];
-            credits = 101 ∷ 4 ∷ 104 ∷ 102 ∷ 102 ∷ 102 ∷ 4 ∷ 2 ∷ 1 ∷ [];
-            queues = 2 ∷ 7 ∷ 1 ∷ 1 ∷ 2 ∷ 1 ∷ 3 ∷ 101 ∷ 101 ∷ [];
-            copy = 1 ∷ 101 ∷ 1 ∷ 1 ∷ 7 ∷ 2 ∷ 7 ∷ 103 ∷ 2 ∷ [];
-            flight = 4 ∷ 3 ∷ 4 ∷ 104 ∷ 101 ∷ 2 ∷ 2 ∷ 101 ∷ 4 ∷ 3 ∷ 2 ∷ 104 ∷ 101 ∷ 2 ∷ 104 ∷ 104 ∷ 3 ∷ 7 ∷ [];
+            clock = clock-of 9 10001 0 100000001;
+            book = book-of (2 ∷ 3 ∷ 103 ∷ 103 ∷ 102 ∷ 3 ∷ 104 ∷ 1 ∷ 101 ∷ []) (4 ∷ 104 ∷ 102 ∷ 102 ∷ 102 ∷ 4 ∷ 2 ∷ 1 ∷ 2 ∷ []);
+            credits = 7 ∷ 1 ∷ 1 ∷ 2 ∷ 1 ∷ 3 ∷ 101 ∷ 101 ∷ 1 ∷ [];
+            queues = 101 ∷ 1 ∷ 1 ∷ 7 ∷ 2 ∷ 7 ∷ 103 ∷ 2 ∷ 4 ∷ [];
+            copy = 3 ∷ 4 ∷ 104 ∷ 101 ∷ 2 ∷ 2 ∷ 101 ∷ 4 ∷ 3 ∷ [];
+            flight = 2 ∷ 104 ∷ 101 ∷ 2 ∷ 104 ∷ 104 ∷ 3 ∷ 7 ∷ 1 ∷ 4 ∷ 4 ∷ 1 ∷ 7 ∷ 101 ∷ 104 ∷ 104 ∷ 2 ∷ 1 ∷ [];
           };
       calls =
-          start pipelined 2 5
-          ∷ book-rate 1 1 1 1
-          ∷ book-rate 1 1 7 1
-          ∷ book 2 1 1
-          ∷ arrive 2 1 5
-          ∷ arrive 1 1 3
+          start pipelined 2 2 1000
+          ∷ book-rate 2 2 166
+          ∷ book-rate 2 2 166
+          ∷ book-rate 2 2 333
+          ∷ book-rate 2 2 167
+          ∷ book-rate 2 1 167
+          ∷ book-rate 2 1 166
+          ∷ arrive 1 1 5
+          ∷ arrive 2 1 2
           ∷ tick pipelined
           ∷ tick pipelined
-          ∷ release 1 0 1
-          ∷ tick pipelined
-          ∷ release 2 2 1
           ∷ tick pipelined
           ∷ tick pipelined
-          ∷ start pipelined 3 5
-          ∷ book-rate 1 3 7 2
-          ∷ book-rate 3 3 1 1
-          ∷ book 2 2 1
-          ∷ book 2 2 1
-          ∷ book-rate 2 1 7 2
-          ∷ book-rate 1 2 99999999 39999999
-          ∷ book 1 2 1
-          ∷ book-rate 1 2 99999999 60000000
-          ∷ arrive 1 1 2
-          ∷ arrive 1 1 2
-          ∷ arrive 1 3 3
-          ∷ arrive 2 3 5
-          ∷ arrive 2 1 4
-          ∷ arrive 2 2 4
-          ∷ arrive 3 3 3
+          ∷ tick pipelined
+          ∷ tick pipelined
+          ∷ arrive 2 1 3
+          ∷ release 2 1 1
           ∷ arrive 1 2 2
-          ∷ arrive 1 3 4
-          ∷ arrive 2 3 4
-          ∷ arrive 2 2 2
-          ∷ arrive 1 3 4
-          ∷ arrive 3 2 2
-          ∷ tick pipelined
-          ∷ arrive 3 1 4
-          ∷ tick pipelined
-          ∷ book-rate 1 3 0 1
-          ∷ book-rate 1 1 1000 200
+          ∷ arrive 2 1 2
           ∷ tick pipelined
           ∷ tick pipelined
-          ∷ release 2 1 6
-          ∷ book 1 2 2
-          ∷ tick pipelined
-          ∷ tick pipelined
-          ∷ arrive 3 3 5
-          ∷ book-rate 1 1 7 4
-          ∷ arrive 1 2 65536
-          ∷ arrive 3 2 2
-          ∷ arrive 3 2 5
-          ∷ arrive 3 3 2
-          ∷ tick pipelined
-          ∷ release 2 2 1
-          ∷ arrive 2 1 5
-          ∷ tick pipelined
-          ∷ tick pipelined
-          ∷ arrive 2 2 65536
-          ∷ arrive 2 2 65536
-          ∷ tick pipelined
-          ∷ arrive 2 4 1
-          ∷ arrive 3 1 65536
-          ∷ tick pipelined
-          ∷ tick pipelined
-          ∷ arrive 1 3 5
-          ∷ book-rate 3 2 7 1
-          ∷ tick pipelined
-          ∷ tick pipelined
-          ∷ release 3 1 1
+          ∷ release-rate 2 2 499
+          ∷ release-rate 1 1 1
           ∷ tick pipelined
           ∷ tick pipelined
           ∷ [];
       expected =
           claim 1 1 1 0 0 0 0
-          ∷ claim 1 1 6 0 0 4 0
-          ∷ claim 1 1 11 0 3 0 0
-          ∷ claim 1 1 16 0 3 0 0
+          ∷ claim 1 1 3 0 0 0 0
+          ∷ claim 1 1 5 0 0 2 0
+          ∷ claim 1 1 7 0 0 2 0
+          ∷ claim 1 1 9 0 0 1 0
+          ∷ claim 1 1 11 0 0 0 0
           ∷ claim 1 2 1 0 0 0 0
-          ∷ claim 1 2 6 0 0 4 0
-          ∷ claim 1 2 11 1 4 1 1
-          ∷ claim 1 2 16 1 3 0 0
-          ∷ claim 1 3 1 0 0 0 0
-          ∷ claim 1 3 6 0 0 4 0
-          ∷ claim 1 3 11 2 1 5 2
-          ∷ claim 1 3 16 2 1 2 2
+          ∷ claim 1 2 3 0 0 0 0
+          ∷ claim 1 2 5 0 1 0 0
+          ∷ claim 1 2 7 0 1 0 0
+          ∷ claim 1 2 9 0 1 0 0
+          ∷ claim 1 2 11 0 1 1 0
           ∷ claim 2 1 1 0 0 0 0
-          ∷ claim 2 1 6 0 0 4 0
-          ∷ claim 2 1 11 0 2 5 0
-          ∷ claim 2 1 16 0 1 2 0
+          ∷ claim 2 1 3 0 0 0 0
+          ∷ claim 2 1 5 0 1 2 0
+          ∷ claim 2 1 7 0 1 2 0
+          ∷ claim 2 1 9 0 1 2 0
+          ∷ claim 2 1 11 0 1 1 0
           ∷ claim 2 2 1 0 0 0 0
-          ∷ claim 2 2 6 0 0 4 0
-          ∷ claim 2 2 11 2 1 3 2
-          ∷ claim 2 2 16 1 1 0 0
-          ∷ claim 2 3 1 0 0 0 0
-          ∷ claim 2 3 6 0 0 4 0
-          ∷ claim 2 3 11 0 4 5 0
-          ∷ claim 2 3 16 0 3 2 0
-          ∷ claim 3 1 1 0 0 0 0
-          ∷ claim 3 1 6 0 0 4 0
-          ∷ claim 3 1 11 0 0 5 0
-          ∷ claim 3 1 16 0 0 2 0
-          ∷ claim 3 2 1 0 0 0 0
-          ∷ claim 3 2 6 0 0 4 0
-          ∷ claim 3 2 11 0 3 5 0
-          ∷ claim 3 2 16 0 2 2 0
-          ∷ claim 3 3 1 0 0 0 0
-          ∷ claim 3 3 6 0 0 3 0
-          ∷ claim 3 3 11 0 2 5 0
-          ∷ claim 3 3 16 0 2 2 0
+          ∷ claim 2 2 3 0 0 0 0
+          ∷ claim 2 2 5 1 0 0 0
+          ∷ claim 2 2 7 1 0 0 0
+          ∷ claim 2 2 9 1 0 0 0
+          ∷ claim 2 2 11 1 0 0 0
           ∷ [];
     }
 
 pub agrees-23 : first-wrong list-23 ≡ 0
-unfolding first-wrong entries apply Direct.start Direct.tick Pipelined.start Pipelined.tick book-words rate-words release-words arrive-words into-frame row-sum column-sum sum least some-of word
+unfolding first-wrong entries apply Direct.start Direct.tick Pipelined.start Pipelined.tick book-words rate-words release-words release-rate-words arrive-words into-frame booking bookings row-sum column-sum sum least some-of word
 agrees-23 = refl
 
 abbrev list-24 : Case
@@ -2519,15 +2444,315 @@ list-24 =
     record {
       switch =
           record {
-            clock = clock-of 0 0 77;
-            bookings = 103 ∷ 7 ∷ 103 ∷ 7 ∷ 4 ∷ 102 ∷ 4 ∷ 2 ∷ 1 ∷ [];
-            credits = 4 ∷ 103 ∷ 1 ∷ 4 ∷ 1 ∷ 7 ∷ 103 ∷ 102 ∷ 2 ∷ [];
-            queues = 104 ∷ 102 ∷ 101 ∷ 7 ∷ 4 ∷ 7 ∷ 7 ∷ 7 ∷ 4 ∷ [];
-            copy = 1 ∷ 2 ∷ 104 ∷ 1 ∷ 3 ∷ 4 ∷ 103 ∷ 2 ∷ 2 ∷ [];
-            flight = 3 ∷ 1 ∷ 2 ∷ 1 ∷ 4 ∷ 102 ∷ 4 ∷ 4 ∷ 7 ∷ 1 ∷ 2 ∷ 104 ∷ 7 ∷ 103 ∷ 101 ∷ 101 ∷ 2 ∷ 104 ∷ [];
+            clock = clock-of 0 0 77 100000001;
+            book = book-of (7 ∷ 103 ∷ 7 ∷ 4 ∷ 102 ∷ 4 ∷ 2 ∷ 1 ∷ 4 ∷ []) (103 ∷ 1 ∷ 4 ∷ 1 ∷ 7 ∷ 103 ∷ 102 ∷ 2 ∷ 104 ∷ []);
+            credits = 102 ∷ 101 ∷ 7 ∷ 4 ∷ 7 ∷ 7 ∷ 7 ∷ 4 ∷ 1 ∷ [];
+            queues = 2 ∷ 104 ∷ 1 ∷ 3 ∷ 4 ∷ 103 ∷ 2 ∷ 2 ∷ 3 ∷ [];
+            copy = 1 ∷ 2 ∷ 1 ∷ 4 ∷ 102 ∷ 4 ∷ 4 ∷ 7 ∷ 1 ∷ [];
+            flight = 2 ∷ 104 ∷ 7 ∷ 103 ∷ 101 ∷ 101 ∷ 2 ∷ 104 ∷ 101 ∷ 101 ∷ 1 ∷ 3 ∷ 1 ∷ 1 ∷ 7 ∷ 1 ∷ 7 ∷ 4 ∷ [];
           };
       calls =
-          start direct 1 6
+          start direct 3 4 99999999
+          ∷ book-rate 1 1 8333333
+          ∷ book-rate 1 1 8333333
+          ∷ book 1 2 1
+          ∷ book 1 1 1
+          ∷ book-rate 3 2 8333333
+          ∷ book-rate 3 2 8333333
+          ∷ book-rate 3 2 16666666
+          ∷ book-rate 3 2 8333333
+          ∷ book-rate 3 2 8333333
+          ∷ book 1 2 2
+          ∷ book-rate 3 3 8333334
+          ∷ book-rate 2 1 8333333
+          ∷ book-rate 2 1 8333333
+          ∷ arrive 2 2 65535
+          ∷ arrive 2 2 65535
+          ∷ arrive 2 2 65535
+          ∷ arrive 2 2 65535
+          ∷ arrive 2 2 65535
+          ∷ arrive 2 2 65535
+          ∷ arrive 2 2 65535
+          ∷ arrive 2 2 65535
+          ∷ arrive 2 2 65535
+          ∷ arrive 2 2 65535
+          ∷ arrive 2 2 65535
+          ∷ arrive 2 2 65535
+          ∷ arrive 2 2 65535
+          ∷ arrive 2 2 65535
+          ∷ arrive 2 2 65535
+          ∷ arrive 2 2 16976
+          ∷ arrive 2 2 16975
+          ∷ arrive 2 2 1
+          ∷ arrive 1 1 70
+          ∷ arrive 3 1 63
+          ∷ arrive 3 3 68
+          ∷ arrive 3 2 80
+          ∷ arrive 1 3 61
+          ∷ arrive 1 1 76
+          ∷ arrive 3 1 56
+          ∷ arrive 2 1 66
+          ∷ arrive 1 3 66
+          ∷ arrive 3 1 89
+          ∷ arrive 1 3 48
+          ∷ arrive 1 3 63
+          ∷ arrive 3 3 51
+          ∷ arrive 2 2 48
+          ∷ arrive 1 2 54
+          ∷ tick direct
+          ∷ tick direct
+          ∷ tick direct
+          ∷ arrive 3 1 84
+          ∷ tick direct
+          ∷ tick direct
+          ∷ tick direct
+          ∷ tick direct
+          ∷ book 3 2 1
+          ∷ arrive 3 2 80
+          ∷ tick direct
+          ∷ tick direct
+          ∷ tick direct
+          ∷ arrive 1 2 68
+          ∷ release 1 2 2
+          ∷ tick direct
+          ∷ tick direct
+          ∷ tick direct
+          ∷ tick direct
+          ∷ book-rate 1 3 25000000
+          ∷ tick direct
+          ∷ tick direct
+          ∷ tick direct
+          ∷ book 1 3 1
+          ∷ tick direct
+          ∷ release-rate 2 1 16666666
+          ∷ arrive 2 1 58
+          ∷ tick direct
+          ∷ tick direct
+          ∷ book-rate 4 3 1
+          ∷ book-rate 4 2 1
+          ∷ book-rate 3 3 8333334
+          ∷ book-rate 3 2 8333333
+          ∷ tick direct
+          ∷ book 3 2 2
+          ∷ tick direct
+          ∷ [];
+      expected =
+          claim 1 1 1 1 2 4 1
+          ∷ claim 1 1 5 1 2 4 1
+          ∷ claim 1 1 9 1 2 4 1
+          ∷ claim 1 1 13 1 2 4 1
+          ∷ claim 1 1 17 1 2 4 1
+          ∷ claim 1 1 21 1 1 2 1
+          ∷ claim 1 2 1 1 2 4 1
+          ∷ claim 1 2 5 1 2 4 1
+          ∷ claim 1 2 9 1 2 4 1
+          ∷ claim 1 2 13 1 2 4 1
+          ∷ claim 1 2 17 1 2 4 1
+          ∷ claim 1 2 21 1 2 2 1
+          ∷ claim 1 3 1 0 3 4 0
+          ∷ claim 1 3 5 0 3 4 0
+          ∷ claim 1 3 9 0 3 4 0
+          ∷ claim 1 3 13 0 3 4 0
+          ∷ claim 1 3 17 0 3 4 0
+          ∷ claim 1 3 21 0 3 2 0
+          ∷ claim 2 1 1 1 1 4 1
+          ∷ claim 2 1 5 1 1 4 1
+          ∷ claim 2 1 9 1 1 4 1
+          ∷ claim 2 1 13 1 1 4 1
+          ∷ claim 2 1 17 1 1 4 1
+          ∷ claim 2 1 21 0 1 2 0
+          ∷ claim 2 2 1 0 3 4 0
+          ∷ claim 2 2 5 0 3 4 0
+          ∷ claim 2 2 9 0 3 4 0
+          ∷ claim 2 2 13 0 3 4 0
+          ∷ claim 2 2 17 0 3 4 0
+          ∷ claim 2 2 21 0 2 2 0
+          ∷ claim 2 3 1 0 2 0 0
+          ∷ claim 2 3 5 0 2 0 0
+          ∷ claim 2 3 9 0 2 0 0
+          ∷ claim 2 3 13 0 2 0 0
+          ∷ claim 2 3 17 0 2 0 0
+          ∷ claim 2 3 21 0 1 0 0
+          ∷ claim 3 1 1 0 4 4 0
+          ∷ claim 3 1 5 0 4 4 0
+          ∷ claim 3 1 9 0 4 4 0
+          ∷ claim 3 1 13 0 4 4 0
+          ∷ claim 3 1 17 0 4 4 0
+          ∷ claim 3 1 21 0 3 2 0
+          ∷ claim 3 2 1 1 2 4 1
+          ∷ claim 3 2 5 1 2 4 1
+          ∷ claim 3 2 9 1 2 4 1
+          ∷ claim 3 2 13 1 2 4 1
+          ∷ claim 3 2 17 1 2 4 1
+          ∷ claim 3 2 21 1 2 2 1
+          ∷ claim 3 3 1 1 1 4 1
+          ∷ claim 3 3 5 1 1 4 1
+          ∷ claim 3 3 9 1 1 4 1
+          ∷ claim 3 3 13 1 1 4 1
+          ∷ claim 3 3 17 1 1 4 1
+          ∷ claim 3 3 21 1 1 2 1
+          ∷ [];
+    }
+
+pub agrees-24 : first-wrong list-24 ≡ 0
+unfolding first-wrong entries apply Direct.start Direct.tick Pipelined.start Pipelined.tick book-words rate-words release-words release-rate-words arrive-words into-frame booking bookings row-sum column-sum sum least some-of word
+agrees-24 = refl
+
+abbrev list-25 : Case
+list-25 =
+    record {
+      switch =
+          record {
+            clock = clock-of 3 0 1 1;
+            book = book-of (2 ∷ 2 ∷ 103 ∷ 103 ∷ 1 ∷ 101 ∷ 2 ∷ 2 ∷ 101 ∷ []) (1 ∷ 103 ∷ 102 ∷ 7 ∷ 1 ∷ 104 ∷ 101 ∷ 4 ∷ 2 ∷ []);
+            credits = 3 ∷ 4 ∷ 1 ∷ 3 ∷ 102 ∷ 3 ∷ 2 ∷ 4 ∷ 3 ∷ [];
+            queues = 4 ∷ 102 ∷ 103 ∷ 2 ∷ 4 ∷ 1 ∷ 1 ∷ 3 ∷ 7 ∷ [];
+            copy = 1 ∷ 104 ∷ 101 ∷ 2 ∷ 102 ∷ 1 ∷ 3 ∷ 3 ∷ 104 ∷ [];
+            flight = 102 ∷ 2 ∷ 103 ∷ 7 ∷ 4 ∷ 102 ∷ 2 ∷ 102 ∷ 7 ∷ 103 ∷ 3 ∷ 3 ∷ 103 ∷ 1 ∷ 102 ∷ 3 ∷ 2 ∷ 104 ∷ [];
+          };
+      calls =
+          start pipelined 3 5 0
+          ∷ book-rate 2 2 1
+          ∷ book-rate 2 2 1
+          ∷ book-rate 2 2 1
+          ∷ book 3 1 2
+          ∷ book-rate 3 3 1
+          ∷ book-rate 3 3 1
+          ∷ book-rate 3 3 1
+          ∷ arrive 1 3 6
+          ∷ arrive 3 2 6
+          ∷ arrive 3 3 6
+          ∷ arrive 3 1 11
+          ∷ arrive 1 3 7
+          ∷ arrive 2 2 11
+          ∷ arrive 1 2 9
+          ∷ arrive 1 2 8
+          ∷ arrive 2 3 10
+          ∷ arrive 2 1 7
+          ∷ arrive 3 3 7
+          ∷ arrive 2 2 9
+          ∷ arrive 2 1 7
+          ∷ arrive 2 2 10
+          ∷ arrive 1 2 7
+          ∷ arrive 3 1 9
+          ∷ tick pipelined
+          ∷ tick pipelined
+          ∷ release-rate 2 2 1
+          ∷ tick pipelined
+          ∷ arrive 3 3 10
+          ∷ tick pipelined
+          ∷ book-rate 2 3 1
+          ∷ tick pipelined
+          ∷ release 3 1 1
+          ∷ book-rate 2 3 1
+          ∷ tick pipelined
+          ∷ tick pipelined
+          ∷ release-rate 3 1 1
+          ∷ book-rate 2 2 1
+          ∷ arrive 2 2 10
+          ∷ tick pipelined
+          ∷ arrive 3 1 12
+          ∷ arrive 3 1 8
+          ∷ arrive 2 1 8
+          ∷ release 3 1 1
+          ∷ release 3 1 1
+          ∷ arrive 2 1 10
+          ∷ book 2 2 1
+          ∷ tick pipelined
+          ∷ tick pipelined
+          ∷ release-rate 3 1 1
+          ∷ start pipelined 3 10001 0
+          ∷ tick pipelined
+          ∷ book-rate 1 1 0
+          ∷ arrive 3 1 11
+          ∷ book-rate 3 1 1
+          ∷ release 2 2 1
+          ∷ arrive 1 2 9
+          ∷ tick pipelined
+          ∷ tick pipelined
+          ∷ arrive 1 2 12
+          ∷ tick pipelined
+          ∷ tick pipelined
+          ∷ book 2 2 1
+          ∷ arrive 3 1 9
+          ∷ tick pipelined
+          ∷ book-rate 3 1 1
+          ∷ book 1 1 1
+          ∷ release-rate 2 2 1
+          ∷ tick pipelined
+          ∷ tick pipelined
+          ∷ arrive 3 2 10
+          ∷ release-rate 3 2 0
+          ∷ tick pipelined
+          ∷ tick pipelined
+          ∷ [];
+      expected =
+          claim 1 1 1 0 0 0 0
+          ∷ claim 1 1 6 0 0 0 0
+          ∷ claim 1 1 11 0 2 0 0
+          ∷ claim 1 1 16 0 0 0 0
+          ∷ claim 1 1 21 0 0 0 0
+          ∷ claim 1 2 1 0 0 0 0
+          ∷ claim 1 2 6 0 0 4 0
+          ∷ claim 1 2 11 0 0 5 0
+          ∷ claim 1 2 16 0 1 5 0
+          ∷ claim 1 2 21 0 0 1 0
+          ∷ claim 1 3 1 0 0 0 0
+          ∷ claim 1 3 6 0 0 4 0
+          ∷ claim 1 3 11 0 0 5 0
+          ∷ claim 1 3 16 0 0 5 0
+          ∷ claim 1 3 21 0 0 1 0
+          ∷ claim 2 1 1 0 0 0 0
+          ∷ claim 2 1 6 0 0 4 0
+          ∷ claim 2 1 11 0 2 5 0
+          ∷ claim 2 1 16 0 1 5 0
+          ∷ claim 2 1 21 0 0 1 0
+          ∷ claim 2 2 1 0 0 0 0
+          ∷ claim 2 2 6 0 0 4 0
+          ∷ claim 2 2 11 0 0 5 0
+          ∷ claim 2 2 16 1 0 5 1
+          ∷ claim 2 2 21 0 0 1 0
+          ∷ claim 2 3 1 0 0 0 0
+          ∷ claim 2 3 6 0 0 4 0
+          ∷ claim 2 3 11 0 0 5 0
+          ∷ claim 2 3 16 0 1 5 0
+          ∷ claim 2 3 21 0 0 1 0
+          ∷ claim 3 1 1 0 0 0 0
+          ∷ claim 3 1 6 0 0 4 0
+          ∷ claim 3 1 11 2 0 5 2
+          ∷ claim 3 1 16 0 0 5 0
+          ∷ claim 3 1 21 0 0 1 0
+          ∷ claim 3 2 1 0 0 0 0
+          ∷ claim 3 2 6 0 0 4 0
+          ∷ claim 3 2 11 0 2 5 0
+          ∷ claim 3 2 16 0 1 5 0
+          ∷ claim 3 2 21 0 0 1 0
+          ∷ claim 3 3 1 0 0 0 0
+          ∷ claim 3 3 6 0 0 4 0
+          ∷ claim 3 3 11 0 2 5 0
+          ∷ claim 3 3 16 0 0 5 0
+          ∷ claim 3 3 21 0 0 1 0
+          ∷ [];
+    }
+
+pub agrees-25 : first-wrong list-25 ≡ 0
+unfolding first-wrong entries apply Direct.start Direct.tick Pipelined.start Pipelined.tick book-words rate-words release-words release-rate-words arrive-words into-frame booking bookings row-sum column-sum sum least some-of word
+agrees-25 = refl
+
+abbrev list-26 : Case
+list-26 =
+    record {
+      switch =
+          record {
+            clock = clock-of 9 2 5 0;
+            book = book-of (1 ∷ 7 ∷ 1 ∷ 103 ∷ 1 ∷ 102 ∷ 103 ∷ 101 ∷ 101 ∷ []) (3 ∷ 101 ∷ 2 ∷ 101 ∷ 4 ∷ 101 ∷ 4 ∷ 102 ∷ 2 ∷ []);
+            credits = 2 ∷ 7 ∷ 104 ∷ 1 ∷ 3 ∷ 3 ∷ 101 ∷ 1 ∷ 3 ∷ [];
+            queues = 3 ∷ 103 ∷ 104 ∷ 4 ∷ 7 ∷ 1 ∷ 1 ∷ 104 ∷ 103 ∷ [];
+            copy = 101 ∷ 103 ∷ 102 ∷ 1 ∷ 1 ∷ 4 ∷ 3 ∷ 3 ∷ 104 ∷ [];
+            flight = 101 ∷ 2 ∷ 1 ∷ 103 ∷ 101 ∷ 3 ∷ 7 ∷ 2 ∷ 4 ∷ 103 ∷ 104 ∷ 103 ∷ 4 ∷ 101 ∷ 7 ∷ 2 ∷ 101 ∷ 4 ∷ [];
+          };
+      calls =
+          start direct 1 2 7
           ∷ book 1 1 1
           ∷ arrive 1 1 65535
           ∷ arrive 1 1 65535
@@ -2547,3253 +2772,38 @@ list-24 =
           ∷ arrive 1 1 16976
           ∷ arrive 1 1 16975
           ∷ arrive 1 1 1
-          ∷ arrive 1 1 7
-          ∷ tick direct
-          ∷ arrive 1 1 7
-          ∷ tick direct
-          ∷ tick direct
-          ∷ arrive 1 1 7
-          ∷ arrive 1 1 11
-          ∷ tick direct
-          ∷ tick direct
-          ∷ tick direct
-          ∷ arrive 1 1 12
-          ∷ arrive 1 1 7
-          ∷ book 1 1 3
-          ∷ arrive 1 1 8
-          ∷ arrive 1 1 9
-          ∷ arrive 1 1 65536
-          ∷ arrive 1 1 7
-          ∷ arrive 1 1 9
-          ∷ tick direct
-          ∷ tick direct
-          ∷ arrive 1 1 10
-          ∷ arrive 1 1 8
-          ∷ tick direct
-          ∷ tick direct
-          ∷ tick direct
-          ∷ tick direct
-          ∷ release 1 0 1
-          ∷ tick direct
-          ∷ [];
-      expected =
-          claim 1 1 1 1 0 6 1
-          ∷ claim 1 1 7 1 0 6 1
-          ∷ claim 1 1 13 1 0 1 1
-          ∷ [];
-    }
-
-pub agrees-24 : first-wrong list-24 ≡ 0
-unfolding first-wrong entries apply Direct.start Direct.tick Pipelined.start Pipelined.tick book-words rate-words release-words arrive-words into-frame row-sum column-sum sum least some-of word
-agrees-24 = refl
-
-abbrev list-25 : Case
-list-25 =
-    record {
-      switch =
-          record {
-            clock = clock-of 3 0 1;
-            bookings = 101 ∷ 2 ∷ 2 ∷ 103 ∷ 103 ∷ 1 ∷ 101 ∷ 2 ∷ 2 ∷ [];
-            credits = 101 ∷ 1 ∷ 103 ∷ 102 ∷ 7 ∷ 1 ∷ 104 ∷ 101 ∷ 4 ∷ [];
-            queues = 2 ∷ 3 ∷ 4 ∷ 1 ∷ 3 ∷ 102 ∷ 3 ∷ 2 ∷ 4 ∷ [];
-            copy = 3 ∷ 4 ∷ 102 ∷ 103 ∷ 2 ∷ 4 ∷ 1 ∷ 1 ∷ 3 ∷ [];
-            flight = 7 ∷ 1 ∷ 104 ∷ 101 ∷ 2 ∷ 102 ∷ 1 ∷ 3 ∷ 3 ∷ 104 ∷ 102 ∷ 2 ∷ 103 ∷ 7 ∷ 4 ∷ 102 ∷ 2 ∷ 102 ∷ [];
-          };
-      calls =
-          start pipelined 2 4
-          ∷ book-rate 2 2 99999999 24999999
-          ∷ book 1 1 1
-          ∷ book 2 1 1
-          ∷ arrive 1 2 5
-          ∷ arrive 1 2 5
-          ∷ arrive 1 1 2
-          ∷ arrive 2 1 5
-          ∷ arrive 1 1 3
-          ∷ arrive 2 1 3
-          ∷ arrive 1 1 4
-          ∷ arrive 2 2 5
-          ∷ release 2 1 1
-          ∷ release 1 1 1
-          ∷ tick pipelined
-          ∷ tick pipelined
-          ∷ arrive 1 2 5
-          ∷ tick pipelined
-          ∷ tick pipelined
-          ∷ tick pipelined
-          ∷ tick pipelined
-          ∷ book 2 2 1
-          ∷ tick pipelined
-          ∷ tick pipelined
-          ∷ tick pipelined
-          ∷ tick pipelined
-          ∷ arrive 2 2 5
-          ∷ tick pipelined
-          ∷ tick pipelined
-          ∷ tick pipelined
-          ∷ [];
-      expected =
-          claim 1 1 1 0 0 0 0
-          ∷ claim 1 1 5 0 0 4 0
-          ∷ claim 1 1 9 0 0 4 0
-          ∷ claim 1 1 13 0 0 1 0
-          ∷ claim 1 2 1 0 0 0 0
-          ∷ claim 1 2 5 0 1 4 0
-          ∷ claim 1 2 9 0 1 4 0
-          ∷ claim 1 2 13 0 2 2 0
-          ∷ claim 2 1 1 0 0 0 0
-          ∷ claim 2 1 5 0 1 4 0
-          ∷ claim 2 1 9 0 1 4 0
-          ∷ claim 2 1 13 0 2 2 0
-          ∷ claim 2 2 1 0 0 0 0
-          ∷ claim 2 2 5 1 0 4 1
-          ∷ claim 2 2 9 1 0 1 1
-          ∷ claim 2 2 13 2 0 1 1
-          ∷ [];
-    }
-
-pub agrees-25 : first-wrong list-25 ≡ 0
-unfolding first-wrong entries apply Direct.start Direct.tick Pipelined.start Pipelined.tick book-words rate-words release-words arrive-words into-frame row-sum column-sum sum least some-of word
-agrees-25 = refl
-
-abbrev list-26 : Case
-list-26 =
-    record {
-      switch =
-          record {
-            clock = clock-of 9 2 5;
-            bookings = 3 ∷ 1 ∷ 7 ∷ 1 ∷ 103 ∷ 1 ∷ 102 ∷ 103 ∷ 101 ∷ [];
-            credits = 101 ∷ 3 ∷ 101 ∷ 2 ∷ 101 ∷ 4 ∷ 101 ∷ 4 ∷ 102 ∷ [];
-            queues = 2 ∷ 2 ∷ 7 ∷ 104 ∷ 1 ∷ 3 ∷ 3 ∷ 101 ∷ 1 ∷ [];
-            copy = 3 ∷ 3 ∷ 103 ∷ 104 ∷ 4 ∷ 7 ∷ 1 ∷ 1 ∷ 104 ∷ [];
-            flight = 103 ∷ 101 ∷ 103 ∷ 102 ∷ 1 ∷ 1 ∷ 4 ∷ 3 ∷ 3 ∷ 104 ∷ 101 ∷ 2 ∷ 1 ∷ 103 ∷ 101 ∷ 3 ∷ 7 ∷ 2 ∷ [];
-          };
-      calls =
-          start direct 2 7
-          ∷ book 2 1 1
-          ∷ book-rate 1 2 1 1
-          ∷ book-rate 2 1 1 1
-          ∷ book 2 1 1
-          ∷ arrive 2 2 2
-          ∷ arrive 2 2 1
-          ∷ arrive 2 2 2
-          ∷ arrive 1 1 1
-          ∷ arrive 2 2 1
-          ∷ arrive 2 1 2
-          ∷ arrive 2 1 1
-          ∷ tick direct
-          ∷ tick direct
-          ∷ tick direct
-          ∷ tick direct
-          ∷ arrive 1 2 1
-          ∷ arrive 2 2 1
-          ∷ arrive 1 1 1
-          ∷ tick direct
-          ∷ arrive 2 2 2
-          ∷ tick direct
-          ∷ book 1 1 0
-          ∷ tick direct
-          ∷ book 2 3 1
-          ∷ arrive 2 1 2
-          ∷ tick direct
-          ∷ tick direct
-          ∷ arrive 1 1 1
-          ∷ tick direct
-          ∷ tick direct
-          ∷ tick direct
-          ∷ tick direct
-          ∷ tick direct
-          ∷ tick direct
-          ∷ arrive 1 1 2
-          ∷ release 2 1 2
-          ∷ tick direct
-          ∷ tick direct
-          ∷ tick direct
-          ∷ arrive 2 1 1
-          ∷ tick direct
-          ∷ tick direct
-          ∷ arrive 2 2 1
-          ∷ release 2 1 1
-          ∷ arrive 1 1 1
-          ∷ tick direct
-          ∷ tick direct
-          ∷ release 1 1 2
-          ∷ tick direct
-          ∷ tick direct
-          ∷ [];
-      expected =
-          claim 1 1 1 0 2 4 0
-          ∷ claim 1 1 8 0 2 1 0
-          ∷ claim 1 1 15 0 2 3 0
-          ∷ claim 1 1 22 0 0 0 0
-          ∷ claim 1 2 1 0 0 2 0
-          ∷ claim 1 2 8 0 0 0 0
-          ∷ claim 1 2 15 0 0 0 0
-          ∷ claim 1 2 22 0 0 0 0
-          ∷ claim 2 1 1 2 0 4 2
-          ∷ claim 2 1 8 2 0 2 2
-          ∷ claim 2 1 15 2 0 1 1
-          ∷ claim 2 1 22 0 0 0 0
-          ∷ claim 2 2 1 0 2 7 0
-          ∷ claim 2 2 8 0 2 7 0
-          ∷ claim 2 2 15 0 2 2 0
-          ∷ claim 2 2 22 0 0 0 0
-          ∷ [];
-    }
-
-pub agrees-26 : first-wrong list-26 ≡ 0
-unfolding first-wrong entries apply Direct.start Direct.tick Pipelined.start Pipelined.tick book-words rate-words release-words arrive-words into-frame row-sum column-sum sum least some-of word
-agrees-26 = refl
-
-abbrev list-27 : Case
-list-27 =
-    record {
-      switch =
-          record {
-            clock = clock-of 9 10001 77;
-            bookings = 1 ∷ 101 ∷ 104 ∷ 1 ∷ 3 ∷ 104 ∷ 101 ∷ 3 ∷ 102 ∷ [];
-            credits = 101 ∷ 2 ∷ 1 ∷ 3 ∷ 102 ∷ 7 ∷ 2 ∷ 3 ∷ 102 ∷ [];
-            queues = 2 ∷ 104 ∷ 103 ∷ 4 ∷ 102 ∷ 101 ∷ 3 ∷ 4 ∷ 7 ∷ [];
-            copy = 1 ∷ 2 ∷ 3 ∷ 1 ∷ 104 ∷ 4 ∷ 104 ∷ 4 ∷ 2 ∷ [];
-            flight = 1 ∷ 4 ∷ 102 ∷ 2 ∷ 2 ∷ 101 ∷ 101 ∷ 1 ∷ 101 ∷ 2 ∷ 7 ∷ 3 ∷ 103 ∷ 4 ∷ 1 ∷ 104 ∷ 1 ∷ 4 ∷ [];
-          };
-      calls =
-          start pipelined 2 5
-          ∷ book-rate 2 2 7 2
-          ∷ book 2 1 1
-          ∷ book-rate 2 1 7 1
-          ∷ book-rate 2 2 1000 400
-          ∷ arrive 1 1 2
-          ∷ arrive 1 1 2
-          ∷ arrive 1 2 3
-          ∷ tick pipelined
-          ∷ tick pipelined
-          ∷ arrive 2 2 3
-          ∷ release 2 1 1
-          ∷ book-rate 1 2 1000 1001
-          ∷ tick pipelined
-          ∷ arrive 2 1 3
-          ∷ arrive 2 1 5
-          ∷ tick pipelined
-          ∷ start pipelined 2 0
-          ∷ tick pipelined
-          ∷ tick pipelined
-          ∷ tick pipelined
-          ∷ arrive 2 1 2
-          ∷ tick pipelined
-          ∷ tick pipelined
-          ∷ arrive 1 2 2
-          ∷ book 4294967297 2 1
-          ∷ tick pipelined
-          ∷ tick pipelined
-          ∷ book-rate 2 2 7 1
-          ∷ book-rate 1 1 1 1
-          ∷ tick pipelined
-          ∷ tick pipelined
-          ∷ tick pipelined
-          ∷ tick pipelined
-          ∷ arrive 1 2 2
-          ∷ tick pipelined
-          ∷ tick pipelined
-          ∷ tick pipelined
-          ∷ tick pipelined
-          ∷ tick pipelined
-          ∷ [];
-      expected =
-          claim 1 1 1 0 0 1 0
-          ∷ claim 1 1 6 0 1 3 0
-          ∷ claim 1 1 11 0 0 0 0
-          ∷ claim 1 1 16 0 0 0 0
-          ∷ claim 1 1 21 0 0 0 0
-          ∷ claim 1 2 1 0 0 1 0
-          ∷ claim 1 2 6 0 2 5 0
-          ∷ claim 1 2 11 0 2 3 0
-          ∷ claim 1 2 16 0 3 1 0
-          ∷ claim 1 2 21 0 3 1 0
-          ∷ claim 2 1 1 0 0 0 0
-          ∷ claim 2 1 6 1 2 4 1
-          ∷ claim 2 1 11 0 2 5 0
-          ∷ claim 2 1 16 0 3 3 0
-          ∷ claim 2 1 21 0 3 0 0
-          ∷ claim 2 2 1 0 0 0 0
-          ∷ claim 2 2 6 2 1 2 1
-          ∷ claim 2 2 11 2 0 0 0
-          ∷ claim 2 2 16 3 0 0 0
-          ∷ claim 2 2 21 3 0 0 0
-          ∷ [];
-    }
-
-pub agrees-27 : first-wrong list-27 ≡ 0
-unfolding first-wrong entries apply Direct.start Direct.tick Pipelined.start Pipelined.tick book-words rate-words release-words arrive-words into-frame row-sum column-sum sum least some-of word
-agrees-27 = refl
-
-abbrev list-28 : Case
-list-28 =
-    record {
-      switch =
-          record {
-            clock = clock-of 9 1 5;
-            bookings = 104 ∷ 1 ∷ 1 ∷ 101 ∷ 4 ∷ 2 ∷ 2 ∷ 3 ∷ 104 ∷ [];
-            credits = 102 ∷ 4 ∷ 2 ∷ 1 ∷ 1 ∷ 7 ∷ 2 ∷ 2 ∷ 102 ∷ [];
-            queues = 103 ∷ 102 ∷ 2 ∷ 1 ∷ 7 ∷ 2 ∷ 7 ∷ 2 ∷ 2 ∷ [];
-            copy = 102 ∷ 4 ∷ 2 ∷ 2 ∷ 7 ∷ 2 ∷ 103 ∷ 101 ∷ 101 ∷ [];
-            flight = 2 ∷ 2 ∷ 2 ∷ 101 ∷ 103 ∷ 1 ∷ 7 ∷ 1 ∷ 1 ∷ 2 ∷ 102 ∷ 2 ∷ 1 ∷ 2 ∷ 3 ∷ 103 ∷ 1 ∷ 1 ∷ [];
-          };
-      calls =
-          start direct 1 3
-          ∷ book 1 1 1
-          ∷ arrive 1 1 71
-          ∷ arrive 1 1 82
-          ∷ tick direct
-          ∷ book-rate 1 1 1000 0
-          ∷ tick direct
-          ∷ tick direct
-          ∷ book-rate 1 1 100000000 33333333
-          ∷ tick direct
-          ∷ tick direct
-          ∷ tick direct
-          ∷ tick direct
-          ∷ tick direct
-          ∷ tick direct
-          ∷ tick direct
-          ∷ tick direct
-          ∷ tick direct
-          ∷ tick direct
-          ∷ arrive 1 1 80
-          ∷ book-rate 1 1 100000000 33333333
-          ∷ tick direct
-          ∷ arrive 1 1 67
-          ∷ tick direct
-          ∷ tick direct
-          ∷ tick direct
-          ∷ tick direct
-          ∷ tick direct
-          ∷ [];
-      expected =
-          claim 1 1 1 1 0 3 1
-          ∷ claim 1 1 4 2 0 3 2
-          ∷ claim 1 1 7 2 0 3 2
-          ∷ claim 1 1 10 2 0 3 2
-          ∷ claim 1 1 13 2 0 3 2
-          ∷ claim 1 1 16 2 0 3 2
-          ∷ claim 1 1 19 2 0 1 1
-          ∷ [];
-    }
-
-pub agrees-28 : first-wrong list-28 ≡ 0
-unfolding first-wrong entries apply Direct.start Direct.tick Pipelined.start Pipelined.tick book-words rate-words release-words arrive-words into-frame row-sum column-sum sum least some-of word
-agrees-28 = refl
-
-abbrev list-29 : Case
-list-29 =
-    record {
-      switch =
-          record {
-            clock = clock-of 2 1 0;
-            bookings = 7 ∷ 2 ∷ 2 ∷ 103 ∷ 7 ∷ 2 ∷ 1 ∷ 101 ∷ 3 ∷ [];
-            credits = 103 ∷ 2 ∷ 3 ∷ 2 ∷ 102 ∷ 1 ∷ 102 ∷ 7 ∷ 2 ∷ [];
-            queues = 104 ∷ 1 ∷ 103 ∷ 101 ∷ 1 ∷ 7 ∷ 3 ∷ 7 ∷ 2 ∷ [];
-            copy = 7 ∷ 1 ∷ 3 ∷ 4 ∷ 2 ∷ 3 ∷ 103 ∷ 2 ∷ 1 ∷ [];
-            flight = 2 ∷ 3 ∷ 2 ∷ 2 ∷ 104 ∷ 4 ∷ 2 ∷ 1 ∷ 7 ∷ 1 ∷ 4 ∷ 102 ∷ 104 ∷ 1 ∷ 1 ∷ 101 ∷ 1 ∷ 101 ∷ [];
-          };
-      calls =
-          start pipelined 2 6
-          ∷ book-rate 1 1 100000000 16666666
-          ∷ book 2 2 1
-          ∷ arrive 1 2 11
-          ∷ arrive 2 1 9
-          ∷ arrive 1 1 6
-          ∷ tick pipelined
-          ∷ tick pipelined
-          ∷ tick pipelined
-          ∷ tick pipelined
-          ∷ release 2 2 1
-          ∷ tick pipelined
-          ∷ tick pipelined
-          ∷ arrive 1 1 6
-          ∷ tick pipelined
-          ∷ tick pipelined
-          ∷ tick pipelined
-          ∷ tick pipelined
-          ∷ book-rate 1 2 1000 166
-          ∷ tick pipelined
-          ∷ tick pipelined
-          ∷ tick pipelined
-          ∷ tick pipelined
-          ∷ tick pipelined
-          ∷ start pipelined 20 32
-          ∷ tick pipelined
-          ∷ release 1 2 1
-          ∷ book-rate 2 1 1 1
-          ∷ tick pipelined
-          ∷ tick pipelined
-          ∷ tick pipelined
-          ∷ tick pipelined
-          ∷ arrive 1 2 10
-          ∷ tick pipelined
-          ∷ [];
-      expected =
-          claim 1 1 1 0 0 2 0
-          ∷ claim 1 1 7 1 0 6 1
-          ∷ claim 1 1 13 1 0 4 1
-          ∷ claim 1 1 19 1 1 0 0
-          ∷ claim 1 2 1 0 0 2 0
-          ∷ claim 1 2 7 0 2 6 0
-          ∷ claim 1 2 13 0 1 6 0
-          ∷ claim 1 2 19 1 1 4 1
-          ∷ claim 2 1 1 0 0 2 0
-          ∷ claim 2 1 7 0 2 6 0
-          ∷ claim 2 1 13 0 1 6 0
-          ∷ claim 2 1 19 0 1 4 0
-          ∷ claim 2 2 1 0 0 0 0
-          ∷ claim 2 2 7 1 0 0 0
-          ∷ claim 2 2 13 0 0 0 0
-          ∷ claim 2 2 19 0 1 0 0
-          ∷ [];
-    }
-
-pub agrees-29 : first-wrong list-29 ≡ 0
-unfolding first-wrong entries apply Direct.start Direct.tick Pipelined.start Pipelined.tick book-words rate-words release-words arrive-words into-frame row-sum column-sum sum least some-of word
-agrees-29 = refl
-
-abbrev list-30 : Case
-list-30 =
-    record {
-      switch =
-          record {
-            clock = clock-of 2 5 1;
-            bookings = 2 ∷ 2 ∷ 7 ∷ 101 ∷ 2 ∷ 4 ∷ 1 ∷ 7 ∷ 103 ∷ [];
-            credits = 7 ∷ 3 ∷ 102 ∷ 101 ∷ 102 ∷ 103 ∷ 1 ∷ 104 ∷ 1 ∷ [];
-            queues = 2 ∷ 103 ∷ 3 ∷ 103 ∷ 102 ∷ 2 ∷ 1 ∷ 103 ∷ 3 ∷ [];
-            copy = 4 ∷ 101 ∷ 104 ∷ 2 ∷ 2 ∷ 2 ∷ 103 ∷ 103 ∷ 103 ∷ [];
-            flight = 102 ∷ 103 ∷ 104 ∷ 3 ∷ 1 ∷ 7 ∷ 102 ∷ 101 ∷ 4 ∷ 7 ∷ 4 ∷ 2 ∷ 4 ∷ 103 ∷ 7 ∷ 103 ∷ 4 ∷ 7 ∷ [];
-          };
-      calls =
-          start direct 2 4
-          ∷ book 1 2 1
-          ∷ book 2 2 1
-          ∷ arrive 2 1 69
-          ∷ arrive 1 1 70
-          ∷ arrive 2 1 76
-          ∷ arrive 1 2 76
-          ∷ arrive 2 1 53
-          ∷ arrive 2 2 66
-          ∷ tick direct
-          ∷ arrive 1 2 87
-          ∷ book-rate 2 1 7 1
-          ∷ book-rate 2 1 0 1
-          ∷ arrive 1 2 56
-          ∷ release 1 2 1
-          ∷ tick direct
-          ∷ release 2 2 1
-          ∷ tick direct
-          ∷ arrive 2 1 86
-          ∷ tick direct
-          ∷ tick direct
-          ∷ tick direct
-          ∷ book 1 0 1
-          ∷ tick direct
-          ∷ release 2 1 1
-          ∷ tick direct
-          ∷ arrive 1 1 48
-          ∷ tick direct
-          ∷ tick direct
-          ∷ tick direct
-          ∷ tick direct
-          ∷ book-rate 1 1 7 2
-          ∷ tick direct
-          ∷ arrive 0 1 1
-          ∷ arrive 1 2 70
-          ∷ tick direct
-          ∷ tick direct
-          ∷ tick direct
-          ∷ arrive 2 2 83
-          ∷ arrive 2 1 46
-          ∷ arrive 1 2 70
-          ∷ book 2 2 1
-          ∷ arrive 1 1 67
-          ∷ tick direct
-          ∷ tick direct
-          ∷ tick direct
-          ∷ tick direct
-          ∷ tick direct
-          ∷ [];
-      expected =
-          claim 1 1 1 0 1 4 0
-          ∷ claim 1 1 5 0 1 4 0
-          ∷ claim 1 1 9 0 0 4 0
-          ∷ claim 1 1 13 2 0 4 2
-          ∷ claim 1 1 17 2 0 4 2
-          ∷ claim 1 1 21 2 0 1 1
-          ∷ claim 1 2 1 1 1 4 1
-          ∷ claim 1 2 5 0 0 4 0
-          ∷ claim 1 2 9 0 0 4 0
-          ∷ claim 1 2 13 0 2 4 0
-          ∷ claim 1 2 17 0 3 4 0
-          ∷ claim 1 2 21 0 3 1 0
-          ∷ claim 2 1 1 0 1 4 0
-          ∷ claim 2 1 5 1 0 4 1
-          ∷ claim 2 1 9 0 0 4 0
-          ∷ claim 2 1 13 0 2 4 0
-          ∷ claim 2 1 17 0 3 4 0
-          ∷ claim 2 1 21 0 3 1 0
-          ∷ claim 2 2 1 1 1 4 1
-          ∷ claim 2 2 5 0 1 4 0
-          ∷ claim 2 2 9 0 0 4 0
-          ∷ claim 2 2 13 0 0 4 0
-          ∷ claim 2 2 17 1 0 4 1
-          ∷ claim 2 2 21 1 0 1 1
-          ∷ [];
-    }
-
-pub agrees-30 : first-wrong list-30 ≡ 0
-unfolding first-wrong entries apply Direct.start Direct.tick Pipelined.start Pipelined.tick book-words rate-words release-words arrive-words into-frame row-sum column-sum sum least some-of word
-agrees-30 = refl
-
-abbrev list-31 : Case
-list-31 =
-    record {
-      switch =
-          record {
-            clock = clock-of 0 0 77;
-            bookings = 103 ∷ 2 ∷ 3 ∷ 7 ∷ 1 ∷ 102 ∷ 4 ∷ 2 ∷ 1 ∷ [];
-            credits = 3 ∷ 103 ∷ 104 ∷ 1 ∷ 1 ∷ 7 ∷ 1 ∷ 101 ∷ 103 ∷ [];
-            queues = 4 ∷ 3 ∷ 2 ∷ 2 ∷ 101 ∷ 101 ∷ 2 ∷ 1 ∷ 103 ∷ [];
-            copy = 3 ∷ 102 ∷ 101 ∷ 3 ∷ 1 ∷ 102 ∷ 3 ∷ 3 ∷ 3 ∷ [];
-            flight = 4 ∷ 102 ∷ 1 ∷ 104 ∷ 101 ∷ 3 ∷ 2 ∷ 1 ∷ 1 ∷ 1 ∷ 7 ∷ 3 ∷ 7 ∷ 7 ∷ 1 ∷ 101 ∷ 101 ∷ 3 ∷ [];
-          };
-      calls =
-          start pipelined 2 7
-          ∷ book-rate 1 2 100000000 14285714
-          ∷ book 2 1 1
-          ∷ book 2 2 2
-          ∷ arrive 1 2 79
-          ∷ arrive 1 1 75
-          ∷ tick pipelined
-          ∷ book-rate 2 2 1000 143
-          ∷ arrive 2 2 56
-          ∷ tick pipelined
-          ∷ tick pipelined
-          ∷ arrive 2 0 1
-          ∷ tick pipelined
-          ∷ tick pipelined
-          ∷ tick pipelined
-          ∷ tick pipelined
-          ∷ tick pipelined
-          ∷ tick pipelined
-          ∷ tick pipelined
-          ∷ tick pipelined
-          ∷ tick pipelined
-          ∷ tick pipelined
-          ∷ release 1 2 1
-          ∷ tick pipelined
-          ∷ tick pipelined
-          ∷ tick pipelined
-          ∷ tick pipelined
-          ∷ tick pipelined
-          ∷ tick pipelined
-          ∷ [];
-      expected =
-          claim 1 1 1 0 0 3 0
-          ∷ claim 1 1 8 0 2 7 0
-          ∷ claim 1 1 15 0 2 6 0
-          ∷ claim 1 2 1 0 0 3 0
-          ∷ claim 1 2 8 1 2 7 1
-          ∷ claim 1 2 15 1 2 6 1
-          ∷ claim 2 1 1 0 0 0 0
-          ∷ claim 2 1 8 1 2 0 0
-          ∷ claim 2 1 15 1 2 0 0
-          ∷ claim 2 2 1 0 0 3 0
-          ∷ claim 2 2 8 2 2 7 2
-          ∷ claim 2 2 15 2 2 6 2
-          ∷ [];
-    }
-
-pub agrees-31 : first-wrong list-31 ≡ 0
-unfolding first-wrong entries apply Direct.start Direct.tick Pipelined.start Pipelined.tick book-words rate-words release-words arrive-words into-frame row-sum column-sum sum least some-of word
-agrees-31 = refl
-
-abbrev list-32 : Case
-list-32 =
-    record {
-      switch =
-          record {
-            clock = clock-of 1 2 4000000000;
-            bookings = 1 ∷ 101 ∷ 103 ∷ 4 ∷ 4 ∷ 3 ∷ 2 ∷ 1 ∷ 2 ∷ [];
-            credits = 2 ∷ 103 ∷ 102 ∷ 3 ∷ 2 ∷ 1 ∷ 4 ∷ 102 ∷ 2 ∷ [];
-            queues = 3 ∷ 7 ∷ 2 ∷ 103 ∷ 2 ∷ 2 ∷ 2 ∷ 104 ∷ 2 ∷ [];
-            copy = 101 ∷ 101 ∷ 101 ∷ 4 ∷ 102 ∷ 103 ∷ 4 ∷ 101 ∷ 3 ∷ [];
-            flight = 101 ∷ 101 ∷ 3 ∷ 101 ∷ 2 ∷ 2 ∷ 102 ∷ 1 ∷ 2 ∷ 4 ∷ 7 ∷ 2 ∷ 1 ∷ 101 ∷ 2 ∷ 104 ∷ 4 ∷ 3 ∷ [];
-          };
-      calls =
-          start direct 1 6
-          ∷ book 1 1 1
-          ∷ arrive 1 1 3
-          ∷ arrive 1 1 3
-          ∷ tick direct
-          ∷ book-rate 4294967297 1 1000 1
-          ∷ tick direct
-          ∷ tick direct
-          ∷ tick direct
-          ∷ tick direct
-          ∷ start direct 3 4
-          ∷ book 3 2 1
-          ∷ book-rate 1 3 7 3
-          ∷ book 2 2 1
-          ∷ book 2 2 1
-          ∷ book 3 1 1
-          ∷ book 3 1 1
-          ∷ arrive 2 2 65535
-          ∷ arrive 2 2 65535
-          ∷ arrive 2 2 65535
-          ∷ arrive 2 2 65535
-          ∷ arrive 2 2 65535
-          ∷ arrive 2 2 65535
-          ∷ arrive 2 2 65535
-          ∷ arrive 2 2 65535
-          ∷ arrive 2 2 65535
-          ∷ arrive 2 2 65535
-          ∷ arrive 2 2 65535
-          ∷ arrive 2 2 65535
-          ∷ arrive 2 2 65535
-          ∷ arrive 2 2 65535
-          ∷ arrive 2 2 65535
-          ∷ arrive 2 2 16976
-          ∷ arrive 2 2 16975
-          ∷ arrive 2 2 1
-          ∷ arrive 3 3 9
-          ∷ arrive 2 2 10
-          ∷ arrive 1 2 12
-          ∷ arrive 1 2 8
-          ∷ arrive 2 2 12
-          ∷ arrive 1 3 12
-          ∷ arrive 2 3 11
-          ∷ arrive 3 2 7
-          ∷ arrive 2 3 7
-          ∷ arrive 3 3 11
-          ∷ arrive 3 1 11
-          ∷ arrive 1 1 11
-          ∷ arrive 1 2 11
-          ∷ tick direct
-          ∷ arrive 4294967297 1 1
-          ∷ tick direct
-          ∷ tick direct
-          ∷ tick direct
-          ∷ arrive 3 0 1
-          ∷ tick direct
-          ∷ tick direct
-          ∷ tick direct
-          ∷ book 3 2 1
-          ∷ tick direct
-          ∷ book 3 4294967297 1
-          ∷ book-rate 2 3 1000 250
-          ∷ book 2 2 5
-          ∷ arrive 1 1 12
-          ∷ arrive 2 3 7
-          ∷ start direct 33 4
-          ∷ tick direct
-          ∷ tick direct
-          ∷ book-rate 1 2 7 2
-          ∷ tick direct
-          ∷ tick direct
-          ∷ tick direct
-          ∷ book 3 1 1
-          ∷ tick direct
-          ∷ tick direct
-          ∷ tick direct
-          ∷ tick direct
-          ∷ tick direct
-          ∷ tick direct
-          ∷ [];
-      expected =
-          claim 1 1 1 0 3 4 0
-          ∷ claim 1 1 5 0 3 4 0
-          ∷ claim 1 1 9 0 3 4 0
-          ∷ claim 1 1 13 0 3 4 0
-          ∷ claim 1 1 17 0 3 3 0
-          ∷ claim 1 2 1 0 4 4 0
-          ∷ claim 1 2 5 0 4 4 0
-          ∷ claim 1 2 9 0 4 4 0
-          ∷ claim 1 2 13 0 4 4 0
-          ∷ claim 1 2 17 0 4 3 0
-          ∷ claim 1 3 1 2 0 4 2
-          ∷ claim 1 3 5 2 0 4 2
-          ∷ claim 1 3 9 2 0 4 2
-          ∷ claim 1 3 13 2 0 4 2
-          ∷ claim 1 3 17 2 0 3 2
-          ∷ claim 2 1 1 0 2 0 0
-          ∷ claim 2 1 5 0 2 0 0
-          ∷ claim 2 1 9 0 2 0 0
-          ∷ claim 2 1 13 0 2 0 0
-          ∷ claim 2 1 17 0 2 0 0
-          ∷ claim 2 2 1 1 1 4 1
-          ∷ claim 2 2 5 1 1 4 1
-          ∷ claim 2 2 9 1 1 4 1
-          ∷ claim 2 2 13 1 1 4 1
-          ∷ claim 2 2 17 1 1 3 1
-          ∷ claim 2 3 1 0 3 4 0
-          ∷ claim 2 3 5 0 3 4 0
-          ∷ claim 2 3 9 0 3 4 0
-          ∷ claim 2 3 13 0 3 4 0
-          ∷ claim 2 3 17 0 3 3 0
-          ∷ claim 3 1 1 1 1 4 1
-          ∷ claim 3 1 5 1 1 4 1
-          ∷ claim 3 1 9 1 1 4 1
-          ∷ claim 3 1 13 1 1 4 1
-          ∷ claim 3 1 17 1 1 3 1
-          ∷ claim 3 2 1 1 2 4 1
-          ∷ claim 3 2 5 1 2 4 1
-          ∷ claim 3 2 9 1 2 4 1
-          ∷ claim 3 2 13 1 2 4 1
-          ∷ claim 3 2 17 1 2 3 1
-          ∷ claim 3 3 1 0 4 4 0
-          ∷ claim 3 3 5 0 4 4 0
-          ∷ claim 3 3 9 0 4 4 0
-          ∷ claim 3 3 13 0 4 4 0
-          ∷ claim 3 3 17 0 4 3 0
-          ∷ [];
-    }
-
-pub agrees-32 : first-wrong list-32 ≡ 0
-unfolding first-wrong entries apply Direct.start Direct.tick Pipelined.start Pipelined.tick book-words rate-words release-words arrive-words into-frame row-sum column-sum sum least some-of word
-agrees-32 = refl
-
-abbrev list-33 : Case
-list-33 =
-    record {
-      switch =
-          record {
-            clock = clock-of 0 5 77;
-            bookings = 4 ∷ 102 ∷ 1 ∷ 7 ∷ 104 ∷ 1 ∷ 2 ∷ 103 ∷ 102 ∷ [];
-            credits = 2 ∷ 1 ∷ 101 ∷ 3 ∷ 4 ∷ 102 ∷ 102 ∷ 2 ∷ 1 ∷ [];
-            queues = 1 ∷ 4 ∷ 103 ∷ 1 ∷ 3 ∷ 1 ∷ 2 ∷ 7 ∷ 2 ∷ [];
-            copy = 1 ∷ 103 ∷ 7 ∷ 2 ∷ 103 ∷ 4 ∷ 104 ∷ 2 ∷ 103 ∷ [];
-            flight = 104 ∷ 102 ∷ 102 ∷ 2 ∷ 101 ∷ 2 ∷ 2 ∷ 102 ∷ 2 ∷ 3 ∷ 102 ∷ 7 ∷ 103 ∷ 103 ∷ 104 ∷ 102 ∷ 3 ∷ 3 ∷ [];
-          };
-      calls =
-          start pipelined 3 3
-          ∷ book-rate 1 2 100000000 33333333
-          ∷ book 2 1 1
-          ∷ book-rate 3 3 100000000 33333334
-          ∷ book 1 2 1
-          ∷ book 2 2 1
-          ∷ book-rate 1 1 1000 334
-          ∷ book-rate 1 1 1000 333
-          ∷ book-rate 1 2 7 2
-          ∷ book 2 3 2
-          ∷ arrive 1 3 9
-          ∷ arrive 2 3 9
-          ∷ arrive 3 1 7
-          ∷ arrive 3 2 10
-          ∷ arrive 2 3 11
-          ∷ arrive 3 1 9
-          ∷ book 2 1 1
-          ∷ book-rate 3 3 1000 334
-          ∷ book-rate 1 2 7 2
-          ∷ arrive 2 3 8
-          ∷ release 1 2 1
-          ∷ tick pipelined
-          ∷ book 1 2 1
-          ∷ tick pipelined
-          ∷ book 3 2 1
-          ∷ start pipelined 16 32
-          ∷ arrive 2 1 9
-          ∷ arrive 3 3 10
-          ∷ book 3 2 2
-          ∷ tick pipelined
-          ∷ tick pipelined
-          ∷ book-rate 4 3 1000 1
-          ∷ tick pipelined
-          ∷ arrive 2 2 7
-          ∷ arrive 3 3 6
-          ∷ tick pipelined
-          ∷ tick pipelined
-          ∷ tick pipelined
-          ∷ arrive 1 2 12
-          ∷ tick pipelined
-          ∷ book 3 2 2
-          ∷ book-rate 2 1 100000000 33333333
-          ∷ book 3 1 1
-          ∷ arrive 3 1 65536
-          ∷ tick pipelined
-          ∷ tick pipelined
-          ∷ tick pipelined
-          ∷ release 2 1 1
-          ∷ book 3 2 1
-          ∷ tick pipelined
-          ∷ tick pipelined
-          ∷ tick pipelined
-          ∷ start pipelined 17 32
-          ∷ start pipelined 3 2
-          ∷ tick pipelined
-          ∷ tick pipelined
-          ∷ tick pipelined
-          ∷ start pipelined 3 2
-          ∷ tick pipelined
-          ∷ tick pipelined
-          ∷ tick pipelined
-          ∷ tick pipelined
-          ∷ tick pipelined
-          ∷ [];
-      expected =
-          claim 1 1 1 0 0 0 0
-          ∷ claim 1 1 4 0 0 0 0
-          ∷ claim 1 1 7 0 3 0 0
-          ∷ claim 1 1 10 0 4 0 0
-          ∷ claim 1 1 13 0 4 0 0
-          ∷ claim 1 1 16 0 4 0 0
-          ∷ claim 1 1 19 0 3 0 0
-          ∷ claim 1 1 22 0 3 0 0
-          ∷ claim 1 2 1 0 0 0 0
-          ∷ claim 1 2 4 0 0 0 0
-          ∷ claim 1 2 7 1 0 0 0
-          ∷ claim 1 2 10 2 0 0 0
-          ∷ claim 1 2 13 2 0 1 1
-          ∷ claim 1 2 16 2 0 3 2
-          ∷ claim 1 2 19 2 0 3 2
-          ∷ claim 1 2 22 2 0 3 2
-          ∷ claim 1 3 1 0 0 0 0
-          ∷ claim 1 3 4 0 0 0 0
-          ∷ claim 1 3 7 0 3 3 0
-          ∷ claim 1 3 10 0 4 3 0
-          ∷ claim 1 3 13 0 4 3 0
-          ∷ claim 1 3 16 0 4 3 0
-          ∷ claim 1 3 19 0 4 3 0
-          ∷ claim 1 3 22 0 4 3 0
-          ∷ claim 2 1 1 0 0 0 0
-          ∷ claim 2 1 4 0 0 0 0
-          ∷ claim 2 1 7 2 0 2 2
-          ∷ claim 2 1 10 2 0 3 2
-          ∷ claim 2 1 13 2 0 2 2
-          ∷ claim 2 1 16 2 0 0 0
-          ∷ claim 2 1 19 1 0 0 0
-          ∷ claim 2 1 22 1 0 0 0
-          ∷ claim 2 2 1 0 0 0 0
-          ∷ claim 2 2 4 0 0 0 0
-          ∷ claim 2 2 7 0 3 0 0
-          ∷ claim 2 2 10 0 4 2 0
-          ∷ claim 2 2 13 0 4 3 0
-          ∷ claim 2 2 16 0 4 3 0
-          ∷ claim 2 2 19 0 3 3 0
-          ∷ claim 2 2 22 0 3 3 0
-          ∷ claim 2 3 1 0 0 0 0
-          ∷ claim 2 3 4 0 0 0 0
-          ∷ claim 2 3 7 0 4 3 0
-          ∷ claim 2 3 10 0 4 3 0
-          ∷ claim 2 3 13 0 4 3 0
-          ∷ claim 2 3 16 0 4 3 0
-          ∷ claim 2 3 19 0 3 3 0
-          ∷ claim 2 3 22 0 3 3 0
-          ∷ claim 3 1 1 0 0 0 0
-          ∷ claim 3 1 4 0 0 0 0
-          ∷ claim 3 1 7 0 4 3 0
-          ∷ claim 3 1 10 0 4 3 0
-          ∷ claim 3 1 13 0 4 3 0
-          ∷ claim 3 1 16 0 4 3 0
-          ∷ claim 3 1 19 0 3 3 0
-          ∷ claim 3 1 22 0 3 3 0
-          ∷ claim 3 2 1 0 0 0 0
-          ∷ claim 3 2 4 0 0 0 0
-          ∷ claim 3 2 7 0 3 3 0
-          ∷ claim 3 2 10 0 4 3 0
-          ∷ claim 3 2 13 0 4 3 0
-          ∷ claim 3 2 16 0 4 3 0
-          ∷ claim 3 2 19 0 4 3 0
-          ∷ claim 3 2 22 0 4 3 0
-          ∷ claim 3 3 1 0 0 0 0
-          ∷ claim 3 3 4 0 0 0 0
-          ∷ claim 3 3 7 2 0 3 2
-          ∷ claim 3 3 10 2 0 3 2
-          ∷ claim 3 3 13 2 0 3 2
-          ∷ claim 3 3 16 2 0 3 2
-          ∷ claim 3 3 19 2 0 3 2
-          ∷ claim 3 3 22 2 0 3 2
-          ∷ [];
-    }
-
-pub agrees-33 : first-wrong list-33 ≡ 0
-unfolding first-wrong entries apply Direct.start Direct.tick Pipelined.start Pipelined.tick book-words rate-words release-words arrive-words into-frame row-sum column-sum sum least some-of word
-agrees-33 = refl
-
-abbrev list-34 : Case
-list-34 =
-    record {
-      switch =
-          record {
-            clock = clock-of 33 5 5;
-            bookings = 101 ∷ 1 ∷ 4 ∷ 1 ∷ 2 ∷ 2 ∷ 104 ∷ 102 ∷ 3 ∷ [];
-            credits = 2 ∷ 3 ∷ 101 ∷ 2 ∷ 101 ∷ 7 ∷ 102 ∷ 101 ∷ 3 ∷ [];
-            queues = 104 ∷ 103 ∷ 104 ∷ 2 ∷ 3 ∷ 3 ∷ 1 ∷ 4 ∷ 101 ∷ [];
-            copy = 2 ∷ 1 ∷ 101 ∷ 1 ∷ 2 ∷ 3 ∷ 101 ∷ 2 ∷ 1 ∷ [];
-            flight = 1 ∷ 7 ∷ 1 ∷ 1 ∷ 3 ∷ 7 ∷ 3 ∷ 2 ∷ 1 ∷ 4 ∷ 1 ∷ 103 ∷ 7 ∷ 4 ∷ 101 ∷ 2 ∷ 1 ∷ 2 ∷ [];
-          };
-      calls =
-          start direct 2 4
-          ∷ book-rate 2 2 1 1
-          ∷ book 2 2 1
-          ∷ book 2 2 1
-          ∷ arrive 2 2 4
-          ∷ arrive 1 2 4
-          ∷ arrive 2 1 4
-          ∷ arrive 1 2 4
-          ∷ arrive 1 1 2
-          ∷ arrive 2 2 4
-          ∷ arrive 1 2 4
-          ∷ arrive 2 1 5
-          ∷ tick direct
-          ∷ tick direct
-          ∷ start direct 0 4
-          ∷ tick direct
-          ∷ tick direct
-          ∷ start direct 1 5
-          ∷ book-rate 1 1 99999999 20000000
-          ∷ arrive 1 1 2
-          ∷ tick direct
-          ∷ tick direct
-          ∷ tick direct
-          ∷ tick direct
-          ∷ tick direct
-          ∷ book 1 1 1
-          ∷ arrive 1 1 1
-          ∷ tick direct
-          ∷ tick direct
-          ∷ arrive 1 1 1
-          ∷ book 1 1 1
-          ∷ tick direct
-          ∷ tick direct
-          ∷ book 1 1 6
-          ∷ tick direct
-          ∷ arrive 1 1 2
-          ∷ arrive 1 1 1
-          ∷ tick direct
-          ∷ book 1 1 1
-          ∷ tick direct
-          ∷ start direct 9 32
-          ∷ tick direct
-          ∷ arrive 1 1 65536
-          ∷ arrive 1 1 1
-          ∷ tick direct
-          ∷ tick direct
-          ∷ tick direct
-          ∷ arrive 1 1 1
-          ∷ tick direct
-          ∷ tick direct
-          ∷ tick direct
-          ∷ [];
-      expected =
-          claim 1 1 1 2 0 2 2
-          ∷ claim 1 1 6 3 0 2 2
-          ∷ claim 1 1 11 3 0 4 3
-          ∷ claim 1 1 16 3 0 1 1
-          ∷ [];
-    }
-
-pub agrees-34 : first-wrong list-34 ≡ 0
-unfolding first-wrong entries apply Direct.start Direct.tick Pipelined.start Pipelined.tick book-words rate-words release-words arrive-words into-frame row-sum column-sum sum least some-of word
-agrees-34 = refl
-
-abbrev list-35 : Case
-list-35 =
-    record {
-      switch =
-          record {
-            clock = clock-of 3 10001 5;
-            bookings = 103 ∷ 104 ∷ 1 ∷ 101 ∷ 1 ∷ 1 ∷ 7 ∷ 4 ∷ 102 ∷ [];
-            credits = 2 ∷ 2 ∷ 102 ∷ 7 ∷ 101 ∷ 104 ∷ 7 ∷ 1 ∷ 1 ∷ [];
-            queues = 102 ∷ 1 ∷ 2 ∷ 101 ∷ 102 ∷ 102 ∷ 2 ∷ 1 ∷ 3 ∷ [];
-            copy = 1 ∷ 104 ∷ 7 ∷ 1 ∷ 101 ∷ 103 ∷ 1 ∷ 101 ∷ 2 ∷ [];
-            flight = 1 ∷ 2 ∷ 1 ∷ 2 ∷ 3 ∷ 2 ∷ 1 ∷ 104 ∷ 1 ∷ 3 ∷ 2 ∷ 2 ∷ 4 ∷ 101 ∷ 2 ∷ 102 ∷ 3 ∷ 4 ∷ [];
-          };
-      calls =
-          start pipelined 3 7
-          ∷ book 2 3 1
-          ∷ book-rate 2 3 100000000 42857142
-          ∷ book-rate 3 1 1000 142
-          ∷ book-rate 1 3 1000 143
-          ∷ book 3 2 1
-          ∷ book-rate 3 3 1 1
-          ∷ book-rate 3 3 7 1
-          ∷ book-rate 1 2 99999999 14285715
-          ∷ arrive 2 1 65535
-          ∷ arrive 2 1 65535
-          ∷ arrive 2 1 65535
-          ∷ arrive 2 1 65535
-          ∷ arrive 2 1 65535
-          ∷ arrive 2 1 65535
-          ∷ arrive 2 1 65535
-          ∷ arrive 2 1 65535
-          ∷ arrive 2 1 65535
-          ∷ arrive 2 1 65535
-          ∷ arrive 2 1 65535
-          ∷ arrive 2 1 65535
-          ∷ arrive 2 1 65535
-          ∷ arrive 2 1 65535
-          ∷ arrive 2 1 65535
-          ∷ arrive 2 1 16976
-          ∷ arrive 2 1 16975
-          ∷ arrive 2 1 1
-          ∷ arrive 2 2 72
-          ∷ arrive 2 1 77
-          ∷ arrive 1 2 61
-          ∷ arrive 1 3 52
-          ∷ tick pipelined
-          ∷ tick pipelined
-          ∷ tick pipelined
-          ∷ tick pipelined
-          ∷ tick pipelined
-          ∷ release 2 3 1
-          ∷ tick pipelined
-          ∷ tick pipelined
-          ∷ arrive 3 1 54
-          ∷ arrive 1 3 57
-          ∷ arrive 3 1 57
-          ∷ tick pipelined
-          ∷ tick pipelined
-          ∷ arrive 2 3 48
-          ∷ tick pipelined
-          ∷ tick pipelined
-          ∷ tick pipelined
-          ∷ tick pipelined
-          ∷ tick pipelined
-          ∷ tick pipelined
-          ∷ tick pipelined
-          ∷ tick pipelined
-          ∷ arrive 1 2 60
-          ∷ arrive 2 2 72
-          ∷ book-rate 2 1 1000 142
-          ∷ book 3 2 1
-          ∷ arrive 2 1 65536
-          ∷ arrive 3 2 71
-          ∷ book-rate 3 1 99999999 14285714
-          ∷ tick pipelined
-          ∷ book 2 3 1
-          ∷ tick pipelined
-          ∷ tick pipelined
-          ∷ [];
-      expected =
-          claim 1 1 1 0 0 0 0
-          ∷ claim 1 1 8 0 3 0 0
-          ∷ claim 1 1 15 0 3 0 0
-          ∷ claim 1 2 1 0 0 1 0
-          ∷ claim 1 2 8 2 1 7 2
-          ∷ claim 1 2 15 2 1 7 2
-          ∷ claim 1 3 1 0 0 1 0
-          ∷ claim 1 3 8 0 6 7 0
-          ∷ claim 1 3 15 0 5 7 0
-          ∷ claim 2 1 1 0 0 1 0
-          ∷ claim 2 1 8 0 5 7 0
-          ∷ claim 2 1 15 0 4 7 0
-          ∷ claim 2 2 1 0 0 1 0
-          ∷ claim 2 2 8 0 7 7 0
-          ∷ claim 2 2 15 0 6 7 0
-          ∷ claim 2 3 1 0 0 0 0
-          ∷ claim 2 3 8 4 0 0 0
-          ∷ claim 2 3 15 3 0 7 3
-          ∷ claim 3 1 1 0 0 0 0
-          ∷ claim 3 1 8 1 1 3 1
-          ∷ claim 3 1 15 1 1 7 1
-          ∷ claim 3 2 1 0 0 0 0
-          ∷ claim 3 2 8 1 3 0 0
-          ∷ claim 3 2 15 1 3 0 0
-          ∷ claim 3 3 1 0 0 0 0
-          ∷ claim 3 3 8 0 6 0 0
-          ∷ claim 3 3 15 0 5 0 0
-          ∷ [];
-    }
-
-pub agrees-35 : first-wrong list-35 ≡ 0
-unfolding first-wrong entries apply Direct.start Direct.tick Pipelined.start Pipelined.tick book-words rate-words release-words arrive-words into-frame row-sum column-sum sum least some-of word
-agrees-35 = refl
-
-abbrev list-36 : Case
-list-36 =
-    record {
-      switch =
-          record {
-            clock = clock-of 33 5 1;
-            bookings = 4 ∷ 1 ∷ 3 ∷ 101 ∷ 2 ∷ 101 ∷ 7 ∷ 7 ∷ 104 ∷ [];
-            credits = 7 ∷ 103 ∷ 3 ∷ 104 ∷ 2 ∷ 7 ∷ 4 ∷ 2 ∷ 4 ∷ [];
-            queues = 7 ∷ 103 ∷ 1 ∷ 104 ∷ 102 ∷ 1 ∷ 104 ∷ 3 ∷ 2 ∷ [];
-            copy = 1 ∷ 101 ∷ 2 ∷ 103 ∷ 7 ∷ 102 ∷ 4 ∷ 3 ∷ 103 ∷ [];
-            flight = 104 ∷ 104 ∷ 101 ∷ 4 ∷ 101 ∷ 102 ∷ 2 ∷ 2 ∷ 103 ∷ 7 ∷ 104 ∷ 4 ∷ 4 ∷ 103 ∷ 7 ∷ 101 ∷ 3 ∷ 2 ∷ [];
-          };
-      calls =
-          start direct 1 7
-          ∷ book-rate 1 1 100000000 14285715
-          ∷ arrive 1 1 60
-          ∷ arrive 1 1 46
-          ∷ tick direct
-          ∷ arrive 1 1 65
-          ∷ arrive 1 1 48
-          ∷ tick direct
-          ∷ tick direct
-          ∷ tick direct
-          ∷ book 1 1 0
-          ∷ arrive 1 4294967297 1
-          ∷ tick direct
-          ∷ tick direct
-          ∷ arrive 1 1 75
-          ∷ tick direct
-          ∷ tick direct
-          ∷ tick direct
-          ∷ tick direct
-          ∷ tick direct
-          ∷ tick direct
-          ∷ tick direct
-          ∷ tick direct
-          ∷ tick direct
-          ∷ tick direct
-          ∷ arrive 1 1 52
-          ∷ tick direct
-          ∷ arrive 1 1 84
-          ∷ tick direct
-          ∷ arrive 1 1 78
-          ∷ tick direct
-          ∷ tick direct
-          ∷ tick direct
-          ∷ book 1 1 2
-          ∷ tick direct
-          ∷ book 1 1 1
-          ∷ release 1 1 1
-          ∷ arrive 1 1 79
-          ∷ book 2 1 1
-          ∷ arrive 1 1 81
-          ∷ tick direct
-          ∷ tick direct
-          ∷ [];
-      expected =
-          claim 1 1 1 2 0 7 2
-          ∷ claim 1 1 8 2 0 7 2
-          ∷ claim 1 1 15 2 0 7 2
-          ∷ claim 1 1 22 4 0 3 3
-          ∷ [];
-    }
-
-pub agrees-36 : first-wrong list-36 ≡ 0
-unfolding first-wrong entries apply Direct.start Direct.tick Pipelined.start Pipelined.tick book-words rate-words release-words arrive-words into-frame row-sum column-sum sum least some-of word
-agrees-36 = refl
-
-abbrev list-37 : Case
-list-37 =
-    record {
-      switch =
-          record {
-            clock = clock-of 33 2 1;
-            bookings = 104 ∷ 2 ∷ 4 ∷ 3 ∷ 7 ∷ 103 ∷ 2 ∷ 2 ∷ 3 ∷ [];
-            credits = 102 ∷ 7 ∷ 1 ∷ 1 ∷ 1 ∷ 7 ∷ 1 ∷ 103 ∷ 2 ∷ [];
-            queues = 1 ∷ 103 ∷ 102 ∷ 104 ∷ 103 ∷ 4 ∷ 2 ∷ 3 ∷ 2 ∷ [];
-            copy = 1 ∷ 7 ∷ 4 ∷ 2 ∷ 7 ∷ 103 ∷ 104 ∷ 2 ∷ 2 ∷ [];
-            flight = 104 ∷ 3 ∷ 2 ∷ 4 ∷ 104 ∷ 2 ∷ 1 ∷ 104 ∷ 102 ∷ 102 ∷ 104 ∷ 4 ∷ 2 ∷ 104 ∷ 4 ∷ 2 ∷ 101 ∷ 4 ∷ [];
-          };
-      calls =
-          start pipelined 2 5
-          ∷ book-rate 2 2 100000000 20000000
-          ∷ book 2 1 1
-          ∷ arrive 2 2 87
-          ∷ arrive 2 1 84
-          ∷ arrive 1 1 58
-          ∷ arrive 2 1 86
-          ∷ tick pipelined
-          ∷ tick pipelined
-          ∷ arrive 1 2 53
-          ∷ tick pipelined
-          ∷ book 0 2 1
-          ∷ tick pipelined
-          ∷ arrive 2 2 55
-          ∷ book 1 1 1
-          ∷ tick pipelined
-          ∷ tick pipelined
-          ∷ arrive 2 2 74
-          ∷ tick pipelined
-          ∷ arrive 3 1 1
-          ∷ tick pipelined
-          ∷ arrive 2 2 45
-          ∷ tick pipelined
-          ∷ tick pipelined
-          ∷ tick pipelined
-          ∷ tick pipelined
-          ∷ tick pipelined
-          ∷ tick pipelined
-          ∷ tick pipelined
-          ∷ tick pipelined
-          ∷ tick pipelined
-          ∷ tick pipelined
-          ∷ tick pipelined
-          ∷ arrive 2 2 54
-          ∷ tick pipelined
-          ∷ book-rate 1 1 100000000 20000001
-          ∷ book-rate 1 0 1000 1
-          ∷ book-rate 1 2 1000 1001
-          ∷ tick pipelined
-          ∷ tick pipelined
-          ∷ book-rate 2 2 100000000 20000000
-          ∷ arrive 2 1 89
-          ∷ arrive 1 1 65
-          ∷ arrive 2 1 48
-          ∷ release 2 2 6
-          ∷ tick pipelined
-          ∷ arrive 2 1 82
-          ∷ release 1 2 1
-          ∷ arrive 2 2 78
-          ∷ tick pipelined
-          ∷ [];
-      expected =
-          claim 1 1 1 0 0 1 0
-          ∷ claim 1 1 6 0 1 5 0
-          ∷ claim 1 1 11 1 1 5 1
-          ∷ claim 1 1 16 1 1 5 1
-          ∷ claim 1 1 21 1 1 5 1
-          ∷ claim 1 2 1 0 0 0 0
-          ∷ claim 1 2 6 0 1 4 0
-          ∷ claim 1 2 11 0 2 5 0
-          ∷ claim 1 2 16 0 2 5 0
-          ∷ claim 1 2 21 0 2 5 0
-          ∷ claim 2 1 1 0 0 1 0
-          ∷ claim 2 1 6 1 1 5 1
-          ∷ claim 2 1 11 1 2 5 1
-          ∷ claim 2 1 16 1 2 5 1
-          ∷ claim 2 1 21 1 2 5 1
-          ∷ claim 2 2 1 0 0 1 0
-          ∷ claim 2 2 6 1 1 5 1
-          ∷ claim 2 2 11 1 1 5 1
-          ∷ claim 2 2 16 1 1 5 1
-          ∷ claim 2 2 21 1 1 5 1
-          ∷ [];
-    }
-
-pub agrees-37 : first-wrong list-37 ≡ 0
-unfolding first-wrong entries apply Direct.start Direct.tick Pipelined.start Pipelined.tick book-words rate-words release-words arrive-words into-frame row-sum column-sum sum least some-of word
-agrees-37 = refl
-
-abbrev list-38 : Case
-list-38 =
-    record {
-      switch =
-          record {
-            clock = clock-of 0 1 5;
-            bookings = 2 ∷ 2 ∷ 2 ∷ 103 ∷ 102 ∷ 2 ∷ 103 ∷ 101 ∷ 1 ∷ [];
-            credits = 2 ∷ 1 ∷ 2 ∷ 1 ∷ 1 ∷ 103 ∷ 102 ∷ 3 ∷ 102 ∷ [];
-            queues = 2 ∷ 4 ∷ 4 ∷ 1 ∷ 1 ∷ 104 ∷ 4 ∷ 2 ∷ 4 ∷ [];
-            copy = 102 ∷ 3 ∷ 4 ∷ 7 ∷ 4 ∷ 7 ∷ 103 ∷ 103 ∷ 2 ∷ [];
-            flight = 102 ∷ 104 ∷ 101 ∷ 7 ∷ 1 ∷ 7 ∷ 103 ∷ 101 ∷ 4 ∷ 4 ∷ 3 ∷ 4 ∷ 103 ∷ 102 ∷ 104 ∷ 2 ∷ 2 ∷ 1 ∷ [];
-          };
-      calls =
-          start direct 2 6
-          ∷ book-rate 2 2 1 1
-          ∷ book 2 1 3
-          ∷ book-rate 2 2 1 1
-          ∷ arrive 2 2 72
-          ∷ arrive 1 2 79
-          ∷ arrive 2 1 51
-          ∷ arrive 1 1 61
-          ∷ arrive 2 2 89
-          ∷ arrive 1 1 76
-          ∷ tick direct
-          ∷ tick direct
-          ∷ arrive 2 2 83
-          ∷ tick direct
-          ∷ arrive 2 1 61
-          ∷ tick direct
-          ∷ tick direct
-          ∷ tick direct
-          ∷ tick direct
-          ∷ tick direct
-          ∷ tick direct
-          ∷ tick direct
-          ∷ tick direct
-          ∷ arrive 1 2 64
-          ∷ tick direct
-          ∷ tick direct
-          ∷ tick direct
-          ∷ tick direct
-          ∷ [];
-      expected =
-          claim 1 1 1 0 3 6 0
-          ∷ claim 1 1 7 0 3 6 0
-          ∷ claim 1 1 13 0 3 3 0
-          ∷ claim 1 2 1 0 0 6 0
-          ∷ claim 1 2 7 0 0 6 0
-          ∷ claim 1 2 13 0 0 3 0
-          ∷ claim 2 1 1 3 0 6 3
-          ∷ claim 2 1 7 3 0 6 3
-          ∷ claim 2 1 13 3 0 3 3
-          ∷ claim 2 2 1 0 3 6 0
-          ∷ claim 2 2 7 0 3 6 0
-          ∷ claim 2 2 13 0 3 3 0
-          ∷ [];
-    }
-
-pub agrees-38 : first-wrong list-38 ≡ 0
-unfolding first-wrong entries apply Direct.start Direct.tick Pipelined.start Pipelined.tick book-words rate-words release-words arrive-words into-frame row-sum column-sum sum least some-of word
-agrees-38 = refl
-
-abbrev list-39 : Case
-list-39 =
-    record {
-      switch =
-          record {
-            clock = clock-of 2 0 0;
-            bookings = 104 ∷ 2 ∷ 1 ∷ 2 ∷ 2 ∷ 103 ∷ 104 ∷ 1 ∷ 104 ∷ [];
-            credits = 7 ∷ 1 ∷ 2 ∷ 4 ∷ 102 ∷ 2 ∷ 102 ∷ 102 ∷ 2 ∷ [];
-            queues = 3 ∷ 4 ∷ 104 ∷ 2 ∷ 2 ∷ 1 ∷ 3 ∷ 104 ∷ 103 ∷ [];
-            copy = 2 ∷ 2 ∷ 3 ∷ 3 ∷ 1 ∷ 3 ∷ 102 ∷ 101 ∷ 101 ∷ [];
-            flight = 101 ∷ 1 ∷ 104 ∷ 1 ∷ 2 ∷ 1 ∷ 2 ∷ 102 ∷ 1 ∷ 102 ∷ 104 ∷ 4 ∷ 102 ∷ 1 ∷ 102 ∷ 103 ∷ 104 ∷ 102 ∷ [];
-          };
-      calls =
-          start pipelined 3 7
-          ∷ book 2 1 1
-          ∷ book 3 1 2
-          ∷ book 2 2 1
-          ∷ book-rate 1 1 99999999 14285715
-          ∷ arrive 2 3 61
-          ∷ arrive 2 3 85
-          ∷ arrive 1 1 77
-          ∷ arrive 2 1 59
-          ∷ arrive 3 3 87
-          ∷ arrive 2 3 82
-          ∷ arrive 1 2 46
-          ∷ arrive 2 2 89
-          ∷ arrive 3 1 50
-          ∷ arrive 1 1 80
-          ∷ arrive 2 2 56
-          ∷ arrive 1 3 64
-          ∷ arrive 2 3 57
-          ∷ arrive 1 2 54
-          ∷ tick pipelined
-          ∷ tick pipelined
-          ∷ tick pipelined
-          ∷ tick pipelined
-          ∷ tick pipelined
-          ∷ tick pipelined
-          ∷ tick pipelined
-          ∷ tick pipelined
-          ∷ tick pipelined
-          ∷ arrive 3 1 47
-          ∷ tick pipelined
-          ∷ tick pipelined
-          ∷ [];
-      expected =
-          claim 1 1 1 0 0 1 0
-          ∷ claim 1 1 8 0 3 5 0
-          ∷ claim 1 2 1 0 0 1 0
-          ∷ claim 1 2 8 0 1 5 0
-          ∷ claim 1 3 1 0 0 1 0
-          ∷ claim 1 3 8 0 0 5 0
-          ∷ claim 2 1 1 0 0 1 0
-          ∷ claim 2 1 8 1 3 5 1
-          ∷ claim 2 2 1 0 0 1 0
-          ∷ claim 2 2 8 1 1 5 1
-          ∷ claim 2 3 1 0 0 1 0
-          ∷ claim 2 3 8 0 2 5 0
-          ∷ claim 3 1 1 0 0 1 0
-          ∷ claim 3 1 8 2 1 5 2
-          ∷ claim 3 2 1 0 0 0 0
-          ∷ claim 3 2 8 0 3 0 0
-          ∷ claim 3 3 1 0 0 1 0
-          ∷ claim 3 3 8 0 2 5 0
-          ∷ [];
-    }
-
-pub agrees-39 : first-wrong list-39 ≡ 0
-unfolding first-wrong entries apply Direct.start Direct.tick Pipelined.start Pipelined.tick book-words rate-words release-words arrive-words into-frame row-sum column-sum sum least some-of word
-agrees-39 = refl
-
-abbrev list-40 : Case
-list-40 =
-    record {
-      switch =
-          record {
-            clock = clock-of 9 1 0;
-            bookings = 2 ∷ 1 ∷ 102 ∷ 2 ∷ 103 ∷ 7 ∷ 3 ∷ 4 ∷ 4 ∷ [];
-            credits = 2 ∷ 101 ∷ 103 ∷ 4 ∷ 101 ∷ 1 ∷ 102 ∷ 1 ∷ 4 ∷ [];
-            queues = 101 ∷ 102 ∷ 3 ∷ 104 ∷ 2 ∷ 102 ∷ 104 ∷ 104 ∷ 102 ∷ [];
-            copy = 2 ∷ 1 ∷ 3 ∷ 103 ∷ 1 ∷ 101 ∷ 1 ∷ 1 ∷ 1 ∷ [];
-            flight = 4 ∷ 4 ∷ 7 ∷ 2 ∷ 103 ∷ 102 ∷ 2 ∷ 4 ∷ 4 ∷ 103 ∷ 103 ∷ 1 ∷ 101 ∷ 104 ∷ 4 ∷ 1 ∷ 7 ∷ 103 ∷ [];
-          };
-      calls =
-          start direct 2 6
-          ∷ book-rate 2 2 99999999 16666667
-          ∷ book-rate 1 1 100000000 33333333
-          ∷ arrive 2 2 4
-          ∷ arrive 2 2 2
-          ∷ arrive 1 1 2
-          ∷ arrive 1 2 2
-          ∷ tick direct
-          ∷ release 1 1 1
-          ∷ tick direct
-          ∷ tick direct
-          ∷ book 1 1 1
-          ∷ tick direct
-          ∷ tick direct
-          ∷ arrive 2 2 3
-          ∷ book 1 3 1
-          ∷ tick direct
-          ∷ arrive 2 1 5
-          ∷ tick direct
-          ∷ tick direct
-          ∷ tick direct
-          ∷ arrive 1 1 3
-          ∷ arrive 2 0 1
-          ∷ release 2 2 7
-          ∷ tick direct
-          ∷ [];
-      expected =
-          claim 1 1 1 2 0 2 2
-          ∷ claim 1 1 7 2 0 1 1
-          ∷ claim 1 2 1 0 4 4 0
-          ∷ claim 1 2 7 0 4 0 0
-          ∷ claim 2 1 1 0 4 0 0
-          ∷ claim 2 1 7 0 4 4 0
-          ∷ claim 2 2 1 2 0 6 2
-          ∷ claim 2 2 7 2 0 4 2
-          ∷ [];
-    }
-
-pub agrees-40 : first-wrong list-40 ≡ 0
-unfolding first-wrong entries apply Direct.start Direct.tick Pipelined.start Pipelined.tick book-words rate-words release-words arrive-words into-frame row-sum column-sum sum least some-of word
-agrees-40 = refl
-
-abbrev list-41 : Case
-list-41 =
-    record {
-      switch =
-          record {
-            clock = clock-of 3 0 4000000000;
-            bookings = 2 ∷ 2 ∷ 7 ∷ 3 ∷ 104 ∷ 1 ∷ 3 ∷ 104 ∷ 3 ∷ [];
-            credits = 4 ∷ 2 ∷ 103 ∷ 3 ∷ 1 ∷ 2 ∷ 103 ∷ 3 ∷ 101 ∷ [];
-            queues = 4 ∷ 1 ∷ 101 ∷ 102 ∷ 101 ∷ 4 ∷ 104 ∷ 1 ∷ 2 ∷ [];
-            copy = 1 ∷ 1 ∷ 102 ∷ 4 ∷ 2 ∷ 7 ∷ 3 ∷ 103 ∷ 102 ∷ [];
-            flight = 102 ∷ 102 ∷ 7 ∷ 3 ∷ 2 ∷ 1 ∷ 101 ∷ 1 ∷ 1 ∷ 4 ∷ 7 ∷ 2 ∷ 102 ∷ 104 ∷ 1 ∷ 7 ∷ 102 ∷ 1 ∷ [];
-          };
-      calls =
-          start pipelined 3 3
-          ∷ book 3 1 1
-          ∷ book 2 3 1
-          ∷ book 2 3 1
-          ∷ book 3 3 1
-          ∷ book 2 2 1
-          ∷ book 3 2 1
-          ∷ arrive 2 1 2
-          ∷ arrive 3 1 3
-          ∷ arrive 3 3 5
-          ∷ arrive 3 2 3
-          ∷ arrive 1 2 3
-          ∷ arrive 1 1 3
-          ∷ arrive 2 2 2
-          ∷ arrive 1 3 3
-          ∷ arrive 1 1 3
-          ∷ arrive 3 3 3
-          ∷ arrive 3 1 5
-          ∷ arrive 1 3 4
-          ∷ tick pipelined
-          ∷ tick pipelined
-          ∷ book-rate 1 3 1 1
-          ∷ release 3 1 1
-          ∷ tick pipelined
-          ∷ start pipelined 3 6
-          ∷ book-rate 1 1 100000000 33333333
-          ∷ book 3 2 1
-          ∷ book 3 3 1
-          ∷ book-rate 2 2 99999999 16666666
-          ∷ book-rate 3 3 1 1
-          ∷ book 1 2 1
-          ∷ book-rate 2 1 99999999 16666666
-          ∷ book 2 2 1
-          ∷ book-rate 2 2 1000 167
-          ∷ arrive 3 1 63
-          ∷ arrive 1 1 50
-          ∷ arrive 2 1 64
-          ∷ arrive 2 3 69
-          ∷ arrive 3 1 75
-          ∷ arrive 2 2 48
-          ∷ arrive 1 2 49
-          ∷ arrive 3 2 64
-          ∷ arrive 3 2 48
-          ∷ arrive 3 2 75
-          ∷ arrive 3 1 47
-          ∷ arrive 3 2 77
-          ∷ arrive 1 1 82
-          ∷ arrive 3 1 81
-          ∷ arrive 1 2 87
-          ∷ arrive 3 2 52
-          ∷ arrive 2 3 60
-          ∷ tick pipelined
-          ∷ tick pipelined
-          ∷ tick pipelined
-          ∷ arrive 3 2 67
-          ∷ arrive 3 1 53
-          ∷ tick pipelined
-          ∷ arrive 2 3 48
-          ∷ tick pipelined
-          ∷ tick pipelined
-          ∷ tick pipelined
-          ∷ tick pipelined
-          ∷ tick pipelined
-          ∷ tick pipelined
-          ∷ tick pipelined
-          ∷ [];
-      expected =
-          claim 1 1 1 0 0 0 0
-          ∷ claim 1 1 7 2 2 6 2
-          ∷ claim 1 2 1 0 0 0 0
-          ∷ claim 1 2 7 1 4 6 1
-          ∷ claim 1 3 1 0 0 0 0
-          ∷ claim 1 3 7 0 4 0 0
-          ∷ claim 2 1 1 0 0 0 0
-          ∷ claim 2 1 7 1 3 6 1
-          ∷ claim 2 2 1 0 0 0 0
-          ∷ claim 2 2 7 1 3 6 1
-          ∷ claim 2 3 1 0 0 0 0
-          ∷ claim 2 3 7 0 3 6 0
-          ∷ claim 3 1 1 0 0 0 0
-          ∷ claim 3 1 7 0 5 6 0
-          ∷ claim 3 2 1 0 0 0 0
-          ∷ claim 3 2 7 1 3 6 1
-          ∷ claim 3 3 1 0 0 0 0
-          ∷ claim 3 3 7 1 1 0 0
-          ∷ [];
-    }
-
-pub agrees-41 : first-wrong list-41 ≡ 0
-unfolding first-wrong entries apply Direct.start Direct.tick Pipelined.start Pipelined.tick book-words rate-words release-words arrive-words into-frame row-sum column-sum sum least some-of word
-agrees-41 = refl
-
-abbrev list-42 : Case
-list-42 =
-    record {
-      switch =
-          record {
-            clock = clock-of 1 1 77;
-            bookings = 1 ∷ 2 ∷ 103 ∷ 101 ∷ 2 ∷ 104 ∷ 104 ∷ 2 ∷ 3 ∷ [];
-            credits = 102 ∷ 3 ∷ 104 ∷ 4 ∷ 1 ∷ 103 ∷ 3 ∷ 2 ∷ 101 ∷ [];
-            queues = 7 ∷ 3 ∷ 102 ∷ 2 ∷ 4 ∷ 1 ∷ 104 ∷ 104 ∷ 104 ∷ [];
-            copy = 1 ∷ 3 ∷ 1 ∷ 3 ∷ 102 ∷ 2 ∷ 102 ∷ 104 ∷ 101 ∷ [];
-            flight = 102 ∷ 102 ∷ 2 ∷ 1 ∷ 2 ∷ 101 ∷ 101 ∷ 103 ∷ 7 ∷ 3 ∷ 7 ∷ 7 ∷ 7 ∷ 102 ∷ 102 ∷ 102 ∷ 7 ∷ 7 ∷ [];
-          };
-      calls =
-          start direct 3 1
-          ∷ book-rate 1 2 1000 1000
-          ∷ book-rate 2 1 100000000 100000000
-          ∷ book-rate 2 1 7 7
-          ∷ book 3 1 1
-          ∷ book-rate 3 1 7 7
-          ∷ book-rate 3 2 7 7
-          ∷ arrive 2 2 65535
-          ∷ arrive 2 2 65535
-          ∷ arrive 2 2 65535
-          ∷ arrive 2 2 65535
-          ∷ arrive 2 2 65535
-          ∷ arrive 2 2 65535
-          ∷ arrive 2 2 65535
-          ∷ arrive 2 2 65535
-          ∷ arrive 2 2 65535
-          ∷ arrive 2 2 65535
-          ∷ arrive 2 2 65535
-          ∷ arrive 2 2 65535
-          ∷ arrive 2 2 65535
-          ∷ arrive 2 2 65535
-          ∷ arrive 2 2 65535
-          ∷ arrive 2 2 16976
-          ∷ arrive 2 2 16975
-          ∷ arrive 2 2 1
-          ∷ arrive 2 3 7
-          ∷ arrive 3 3 8
-          ∷ arrive 3 3 6
-          ∷ tick direct
-          ∷ arrive 3 3 11
-          ∷ release 2 1 1
-          ∷ tick direct
-          ∷ tick direct
-          ∷ tick direct
-          ∷ tick direct
-          ∷ tick direct
-          ∷ start direct 7 32
-          ∷ arrive 1 1 10
-          ∷ arrive 2 1 8
-          ∷ tick direct
-          ∷ tick direct
-          ∷ tick direct
-          ∷ tick direct
-          ∷ tick direct
-          ∷ tick direct
-          ∷ book 2 3 1
-          ∷ tick direct
-          ∷ tick direct
-          ∷ tick direct
-          ∷ start direct 3 0
-          ∷ arrive 1 1 8
-          ∷ tick direct
-          ∷ tick direct
-          ∷ [];
-      expected =
-          claim 1 1 1 0 2 0 0
-          ∷ claim 1 1 2 0 1 0 0
-          ∷ claim 1 1 3 0 1 0 0
-          ∷ claim 1 1 4 0 1 0 0
-          ∷ claim 1 1 5 0 1 0 0
-          ∷ claim 1 1 6 0 1 0 0
-          ∷ claim 1 1 7 0 1 1 0
-          ∷ claim 1 1 8 0 1 1 0
-          ∷ claim 1 1 9 0 1 1 0
-          ∷ claim 1 1 10 0 1 1 0
-          ∷ claim 1 1 11 0 1 1 0
-          ∷ claim 1 1 12 0 1 1 0
-          ∷ claim 1 1 13 0 1 1 0
-          ∷ claim 1 1 14 0 1 1 0
-          ∷ claim 1 1 15 0 1 1 0
-          ∷ claim 1 1 16 0 1 1 0
-          ∷ claim 1 1 17 0 1 1 0
-          ∷ claim 1 2 1 1 0 0 0
-          ∷ claim 1 2 2 1 0 0 0
-          ∷ claim 1 2 3 1 0 0 0
-          ∷ claim 1 2 4 1 0 0 0
-          ∷ claim 1 2 5 1 0 0 0
-          ∷ claim 1 2 6 1 0 0 0
-          ∷ claim 1 2 7 1 0 0 0
-          ∷ claim 1 2 8 1 0 0 0
-          ∷ claim 1 2 9 1 0 0 0
-          ∷ claim 1 2 10 1 0 0 0
-          ∷ claim 1 2 11 1 0 0 0
-          ∷ claim 1 2 12 1 0 0 0
-          ∷ claim 1 2 13 1 0 0 0
-          ∷ claim 1 2 14 1 0 0 0
-          ∷ claim 1 2 15 1 0 0 0
-          ∷ claim 1 2 16 1 0 0 0
-          ∷ claim 1 2 17 1 0 0 0
-          ∷ claim 1 3 1 0 1 0 0
-          ∷ claim 1 3 2 0 1 0 0
-          ∷ claim 1 3 3 0 1 0 0
-          ∷ claim 1 3 4 0 1 0 0
-          ∷ claim 1 3 5 0 1 0 0
-          ∷ claim 1 3 6 0 1 0 0
-          ∷ claim 1 3 7 0 1 0 0
-          ∷ claim 1 3 8 0 1 0 0
-          ∷ claim 1 3 9 0 1 0 0
-          ∷ claim 1 3 10 0 1 0 0
-          ∷ claim 1 3 11 0 1 0 0
-          ∷ claim 1 3 12 0 1 0 0
-          ∷ claim 1 3 13 0 2 0 0
-          ∷ claim 1 3 14 0 2 0 0
-          ∷ claim 1 3 15 0 2 0 0
-          ∷ claim 1 3 16 0 2 0 0
-          ∷ claim 1 3 17 0 2 0 0
-          ∷ claim 2 1 1 1 0 0 0
-          ∷ claim 2 1 2 0 0 0 0
-          ∷ claim 2 1 3 0 0 0 0
-          ∷ claim 2 1 4 0 0 0 0
-          ∷ claim 2 1 5 0 0 0 0
-          ∷ claim 2 1 6 0 0 0 0
-          ∷ claim 2 1 7 0 0 1 0
-          ∷ claim 2 1 8 0 0 1 0
-          ∷ claim 2 1 9 0 0 1 0
-          ∷ claim 2 1 10 0 0 1 0
-          ∷ claim 2 1 11 0 0 1 0
-          ∷ claim 2 1 12 0 0 1 0
-          ∷ claim 2 1 13 0 1 1 0
-          ∷ claim 2 1 14 0 1 1 0
-          ∷ claim 2 1 15 0 1 1 0
-          ∷ claim 2 1 16 0 1 1 0
-          ∷ claim 2 1 17 0 1 1 0
-          ∷ claim 2 2 1 0 2 1 0
-          ∷ claim 2 2 2 0 1 1 0
-          ∷ claim 2 2 3 0 1 1 0
-          ∷ claim 2 2 4 0 1 1 0
-          ∷ claim 2 2 5 0 1 1 0
-          ∷ claim 2 2 6 0 1 1 0
-          ∷ claim 2 2 7 0 1 1 0
-          ∷ claim 2 2 8 0 1 1 0
-          ∷ claim 2 2 9 0 1 1 0
-          ∷ claim 2 2 10 0 1 1 0
-          ∷ claim 2 2 11 0 1 1 0
-          ∷ claim 2 2 12 0 1 1 0
-          ∷ claim 2 2 13 0 2 1 0
-          ∷ claim 2 2 14 0 2 1 0
-          ∷ claim 2 2 15 0 2 1 0
-          ∷ claim 2 2 16 0 2 1 0
-          ∷ claim 2 2 17 0 2 1 0
-          ∷ claim 2 3 1 0 1 1 0
-          ∷ claim 2 3 2 0 0 1 0
-          ∷ claim 2 3 3 0 0 1 0
-          ∷ claim 2 3 4 0 0 1 0
-          ∷ claim 2 3 5 0 0 1 0
-          ∷ claim 2 3 6 0 0 1 0
-          ∷ claim 2 3 7 0 0 1 0
-          ∷ claim 2 3 8 0 0 1 0
-          ∷ claim 2 3 9 0 0 1 0
-          ∷ claim 2 3 10 0 0 1 0
-          ∷ claim 2 3 11 0 0 1 0
-          ∷ claim 2 3 12 0 0 1 0
-          ∷ claim 2 3 13 1 0 1 1
-          ∷ claim 2 3 14 1 0 1 1
-          ∷ claim 2 3 15 1 0 1 1
-          ∷ claim 2 3 16 1 0 1 1
-          ∷ claim 2 3 17 1 0 1 1
-          ∷ claim 3 1 1 0 1 0 0
-          ∷ claim 3 1 2 0 0 0 0
-          ∷ claim 3 1 3 0 0 0 0
-          ∷ claim 3 1 4 0 0 0 0
-          ∷ claim 3 1 5 0 0 0 0
-          ∷ claim 3 1 6 0 0 0 0
-          ∷ claim 3 1 7 0 0 0 0
-          ∷ claim 3 1 8 0 0 0 0
-          ∷ claim 3 1 9 0 0 0 0
-          ∷ claim 3 1 10 0 0 0 0
-          ∷ claim 3 1 11 0 0 0 0
-          ∷ claim 3 1 12 0 0 0 0
-          ∷ claim 3 1 13 0 0 0 0
-          ∷ claim 3 1 14 0 0 0 0
-          ∷ claim 3 1 15 0 0 0 0
-          ∷ claim 3 1 16 0 0 0 0
-          ∷ claim 3 1 17 0 0 0 0
-          ∷ claim 3 2 1 0 1 0 0
-          ∷ claim 3 2 2 0 1 0 0
-          ∷ claim 3 2 3 0 1 0 0
-          ∷ claim 3 2 4 0 1 0 0
-          ∷ claim 3 2 5 0 1 0 0
-          ∷ claim 3 2 6 0 1 0 0
-          ∷ claim 3 2 7 0 1 0 0
-          ∷ claim 3 2 8 0 1 0 0
-          ∷ claim 3 2 9 0 1 0 0
-          ∷ claim 3 2 10 0 1 0 0
-          ∷ claim 3 2 11 0 1 0 0
-          ∷ claim 3 2 12 0 1 0 0
-          ∷ claim 3 2 13 0 1 0 0
-          ∷ claim 3 2 14 0 1 0 0
-          ∷ claim 3 2 15 0 1 0 0
-          ∷ claim 3 2 16 0 1 0 0
-          ∷ claim 3 2 17 0 1 0 0
-          ∷ claim 3 3 1 0 0 1 0
-          ∷ claim 3 3 2 0 0 1 0
-          ∷ claim 3 3 3 0 0 1 0
-          ∷ claim 3 3 4 0 0 1 0
-          ∷ claim 3 3 5 0 0 1 0
-          ∷ claim 3 3 6 0 0 1 0
-          ∷ claim 3 3 7 0 0 1 0
-          ∷ claim 3 3 8 0 0 1 0
-          ∷ claim 3 3 9 0 0 1 0
-          ∷ claim 3 3 10 0 0 1 0
-          ∷ claim 3 3 11 0 0 1 0
-          ∷ claim 3 3 12 0 0 1 0
-          ∷ claim 3 3 13 0 1 1 0
-          ∷ claim 3 3 14 0 1 1 0
-          ∷ claim 3 3 15 0 1 1 0
-          ∷ claim 3 3 16 0 1 1 0
-          ∷ claim 3 3 17 0 1 1 0
-          ∷ [];
-    }
-
-pub agrees-42 : first-wrong list-42 ≡ 0
-unfolding first-wrong entries apply Direct.start Direct.tick Pipelined.start Pipelined.tick book-words rate-words release-words arrive-words into-frame row-sum column-sum sum least some-of word
-agrees-42 = refl
-
-abbrev list-43 : Case
-list-43 =
-    record {
-      switch =
-          record {
-            clock = clock-of 9 5 5;
-            bookings = 2 ∷ 4 ∷ 1 ∷ 2 ∷ 103 ∷ 1 ∷ 4 ∷ 1 ∷ 4 ∷ [];
-            credits = 103 ∷ 3 ∷ 3 ∷ 4 ∷ 2 ∷ 102 ∷ 1 ∷ 102 ∷ 101 ∷ [];
-            queues = 4 ∷ 1 ∷ 104 ∷ 104 ∷ 102 ∷ 7 ∷ 1 ∷ 101 ∷ 104 ∷ [];
-            copy = 3 ∷ 102 ∷ 102 ∷ 101 ∷ 1 ∷ 103 ∷ 1 ∷ 7 ∷ 103 ∷ [];
-            flight = 3 ∷ 1 ∷ 103 ∷ 4 ∷ 3 ∷ 3 ∷ 103 ∷ 101 ∷ 3 ∷ 4 ∷ 7 ∷ 102 ∷ 1 ∷ 7 ∷ 102 ∷ 103 ∷ 102 ∷ 103 ∷ [];
-          };
-      calls =
-          start pipelined 1 3
-          ∷ book-rate 1 1 99999999 33333334
-          ∷ arrive 1 1 10
-          ∷ arrive 1 1 9
-          ∷ tick pipelined
-          ∷ book-rate 1 1 100000001 1
-          ∷ tick pipelined
-          ∷ tick pipelined
-          ∷ tick pipelined
-          ∷ tick pipelined
-          ∷ tick pipelined
-          ∷ book 1 1 0
-          ∷ arrive 1 1 7
-          ∷ tick pipelined
-          ∷ release 1 1 1
-          ∷ tick pipelined
-          ∷ tick pipelined
-          ∷ tick pipelined
-          ∷ arrive 1 1 12
-          ∷ tick pipelined
-          ∷ tick pipelined
-          ∷ tick pipelined
-          ∷ release 1 1 1
-          ∷ book-rate 1 1 1000 333
-          ∷ tick pipelined
-          ∷ book-rate 1 1 99999999 33333333
-          ∷ arrive 1 1 12
-          ∷ book-rate 1 0 1000 1
-          ∷ book-rate 1 1 99999999 33333334
-          ∷ tick pipelined
-          ∷ tick pipelined
-          ∷ tick pipelined
-          ∷ tick pipelined
-          ∷ [];
-      expected =
-          claim 1 1 1 0 0 1 0
-          ∷ claim 1 1 4 2 0 3 2
-          ∷ claim 1 1 7 2 0 3 2
-          ∷ claim 1 1 10 1 0 3 1
-          ∷ claim 1 1 13 1 0 3 1
-          ∷ claim 1 1 16 1 0 3 1
-          ∷ claim 1 1 19 2 0 1 1
-          ∷ [];
-    }
-
-pub agrees-43 : first-wrong list-43 ≡ 0
-unfolding first-wrong entries apply Direct.start Direct.tick Pipelined.start Pipelined.tick book-words rate-words release-words arrive-words into-frame row-sum column-sum sum least some-of word
-agrees-43 = refl
-
-abbrev list-44 : Case
-list-44 =
-    record {
-      switch =
-          record {
-            clock = clock-of 3 0 5;
-            bookings = 101 ∷ 2 ∷ 1 ∷ 3 ∷ 102 ∷ 4 ∷ 101 ∷ 1 ∷ 1 ∷ [];
-            credits = 2 ∷ 3 ∷ 1 ∷ 3 ∷ 2 ∷ 104 ∷ 102 ∷ 3 ∷ 4 ∷ [];
-            queues = 2 ∷ 103 ∷ 4 ∷ 102 ∷ 102 ∷ 4 ∷ 1 ∷ 7 ∷ 103 ∷ [];
-            copy = 2 ∷ 104 ∷ 101 ∷ 2 ∷ 101 ∷ 101 ∷ 103 ∷ 103 ∷ 2 ∷ [];
-            flight = 4 ∷ 1 ∷ 104 ∷ 1 ∷ 101 ∷ 2 ∷ 4 ∷ 7 ∷ 102 ∷ 104 ∷ 101 ∷ 1 ∷ 2 ∷ 101 ∷ 7 ∷ 104 ∷ 101 ∷ 2 ∷ [];
-          };
-      calls =
-          start direct 2 6
-          ∷ book-rate 2 2 1 1
-          ∷ book-rate 1 1 1 1
-          ∷ book-rate 1 1 7 2
-          ∷ book 2 2 1
-          ∷ arrive 1 1 8
-          ∷ arrive 2 2 7
-          ∷ arrive 1 1 7
-          ∷ arrive 1 1 9
-          ∷ tick direct
-          ∷ tick direct
-          ∷ arrive 2 2 10
-          ∷ arrive 2 1 6
-          ∷ book-rate 1 1 1000 167
-          ∷ arrive 2 2 12
-          ∷ tick direct
-          ∷ start direct 3 4
-          ∷ book-rate 3 2 99999999 24999999
-          ∷ book 1 1 1
-          ∷ book-rate 2 2 100000000 25000000
-          ∷ book 2 3 2
-          ∷ book 3 2 1
-          ∷ book 2 1 1
-          ∷ book 2 2 1
-          ∷ book 1 2 1
-          ∷ arrive 3 3 2
-          ∷ arrive 2 1 1
-          ∷ arrive 3 2 2
-          ∷ tick direct
-          ∷ tick direct
-          ∷ tick direct
-          ∷ tick direct
-          ∷ arrive 3 3 2
-          ∷ arrive 1 1 2
-          ∷ tick direct
-          ∷ tick direct
-          ∷ tick direct
-          ∷ tick direct
-          ∷ tick direct
-          ∷ tick direct
-          ∷ tick direct
-          ∷ tick direct
-          ∷ tick direct
-          ∷ tick direct
-          ∷ book 1 3 1
-          ∷ arrive 3 3 2
-          ∷ tick direct
-          ∷ arrive 1 2 2
-          ∷ arrive 2 1 2
-          ∷ tick direct
-          ∷ release 3 2 1
-          ∷ arrive 2 1 1
-          ∷ tick direct
-          ∷ book 2 1 1
-          ∷ arrive 3 2 1
-          ∷ tick direct
-          ∷ tick direct
-          ∷ [];
-      expected =
-          claim 1 1 1 1 1 0 0
-          ∷ claim 1 1 5 1 1 2 1
-          ∷ claim 1 1 9 1 1 0 0
-          ∷ claim 1 1 13 1 1 0 0
-          ∷ claim 1 1 17 1 2 0 0
-          ∷ claim 1 2 1 0 3 0 0
-          ∷ claim 1 2 5 0 3 0 0
-          ∷ claim 1 2 9 0 3 0 0
-          ∷ claim 1 2 13 0 3 1 0
-          ∷ claim 1 2 17 0 3 1 0
-          ∷ claim 1 3 1 0 1 0 0
-          ∷ claim 1 3 5 0 1 0 0
-          ∷ claim 1 3 9 0 1 0 0
-          ∷ claim 1 3 13 0 1 0 0
-          ∷ claim 1 3 17 1 1 0 0
-          ∷ claim 2 1 1 1 2 1 1
-          ∷ claim 2 1 5 1 2 0 0
-          ∷ claim 2 1 9 1 2 0 0
-          ∷ claim 2 1 13 1 2 1 1
-          ∷ claim 2 1 17 1 2 2 1
-          ∷ claim 2 2 1 1 2 0 0
-          ∷ claim 2 2 5 1 2 0 0
-          ∷ claim 2 2 9 1 2 0 0
-          ∷ claim 2 2 13 1 2 0 0
-          ∷ claim 2 2 17 1 1 0 0
-          ∷ claim 2 3 1 0 2 0 0
-          ∷ claim 2 3 5 0 2 0 0
-          ∷ claim 2 3 9 0 2 0 0
-          ∷ claim 2 3 13 0 2 0 0
-          ∷ claim 2 3 17 0 3 0 0
-          ∷ claim 3 1 1 0 3 0 0
-          ∷ claim 3 1 5 0 3 0 0
-          ∷ claim 3 1 9 0 3 0 0
-          ∷ claim 3 1 13 0 3 0 0
-          ∷ claim 3 1 17 0 2 0 0
-          ∷ claim 3 2 1 1 1 2 1
-          ∷ claim 3 2 5 1 1 0 0
-          ∷ claim 3 2 9 1 1 0 0
-          ∷ claim 3 2 13 1 1 0 0
-          ∷ claim 3 2 17 0 1 1 0
-          ∷ claim 3 3 1 0 1 4 0
-          ∷ claim 3 3 5 0 1 2 0
-          ∷ claim 3 3 9 0 1 0 0
-          ∷ claim 3 3 13 0 1 2 0
-          ∷ claim 3 3 17 0 1 0 0
-          ∷ [];
-    }
-
-pub agrees-44 : first-wrong list-44 ≡ 0
-unfolding first-wrong entries apply Direct.start Direct.tick Pipelined.start Pipelined.tick book-words rate-words release-words arrive-words into-frame row-sum column-sum sum least some-of word
-agrees-44 = refl
-
-abbrev list-45 : Case
-list-45 =
-    record {
-      switch =
-          record {
-            clock = clock-of 9 5 1;
-            bookings = 103 ∷ 1 ∷ 4 ∷ 102 ∷ 104 ∷ 104 ∷ 101 ∷ 103 ∷ 3 ∷ [];
-            credits = 2 ∷ 103 ∷ 7 ∷ 2 ∷ 3 ∷ 101 ∷ 2 ∷ 102 ∷ 1 ∷ [];
-            queues = 7 ∷ 3 ∷ 1 ∷ 7 ∷ 104 ∷ 103 ∷ 7 ∷ 2 ∷ 101 ∷ [];
-            copy = 2 ∷ 102 ∷ 104 ∷ 2 ∷ 1 ∷ 2 ∷ 7 ∷ 7 ∷ 3 ∷ [];
-            flight = 7 ∷ 103 ∷ 1 ∷ 1 ∷ 102 ∷ 101 ∷ 3 ∷ 2 ∷ 7 ∷ 101 ∷ 1 ∷ 104 ∷ 104 ∷ 102 ∷ 7 ∷ 103 ∷ 7 ∷ 2 ∷ [];
-          };
-      calls =
-          start pipelined 2 2
-          ∷ book-rate 2 2 1 1
-          ∷ book-rate 1 2 100000000 50000000
-          ∷ arrive 1 1 46
-          ∷ arrive 2 1 56
-          ∷ arrive 1 2 53
-          ∷ arrive 1 1 56
-          ∷ arrive 2 1 52
-          ∷ arrive 2 1 87
-          ∷ arrive 1 2 72
-          ∷ arrive 1 1 74
-          ∷ book-rate 2 2 100000000 50000001
-          ∷ tick pipelined
-          ∷ tick pipelined
-          ∷ tick pipelined
-          ∷ tick pipelined
-          ∷ tick pipelined
-          ∷ tick pipelined
-          ∷ start pipelined 2 3
-          ∷ book 2 1 1
-          ∷ book 2 1 1
-          ∷ book 2 1 1
-          ∷ book-rate 2 1 100000000 33333333
-          ∷ arrive 2 1 11
-          ∷ arrive 2 1 9
-          ∷ tick pipelined
-          ∷ tick pipelined
-          ∷ tick pipelined
-          ∷ tick pipelined
-          ∷ release 2 1 1
-          ∷ tick pipelined
-          ∷ tick pipelined
-          ∷ book 2 2 1
-          ∷ tick pipelined
-          ∷ arrive 1 1 65536
-          ∷ tick pipelined
-          ∷ tick pipelined
-          ∷ start pipelined 33 3
-          ∷ tick pipelined
-          ∷ arrive 2 2 12
-          ∷ arrive 1 1 9
-          ∷ tick pipelined
-          ∷ arrive 1 2 9
-          ∷ tick pipelined
-          ∷ tick pipelined
-          ∷ book-rate 1 2 1 1
-          ∷ tick pipelined
-          ∷ tick pipelined
-          ∷ tick pipelined
-          ∷ release 2 1 1
-          ∷ book-rate 0 1 1000 1
-          ∷ tick pipelined
-          ∷ tick pipelined
-          ∷ arrive 2 1 12
-          ∷ release 2 2 1
-          ∷ book-rate 1 2 100000001 1
-          ∷ arrive 1 1 9
-          ∷ tick pipelined
-          ∷ [];
-      expected =
-          claim 1 1 1 0 0 0 0
-          ∷ claim 1 1 4 0 0 0 0
-          ∷ claim 1 1 7 0 2 0 0
-          ∷ claim 1 1 10 0 1 0 0
-          ∷ claim 1 1 13 0 1 1 0
-          ∷ claim 1 1 16 0 1 3 0
-          ∷ claim 1 1 19 0 1 2 0
-          ∷ claim 1 2 1 0 0 0 0
-          ∷ claim 1 2 4 0 0 0 0
-          ∷ claim 1 2 7 0 0 0 0
-          ∷ claim 1 2 10 0 0 0 0
-          ∷ claim 1 2 13 0 1 0 0
-          ∷ claim 1 2 16 0 1 3 0
-          ∷ claim 1 2 19 0 1 2 0
-          ∷ claim 2 1 1 0 0 0 0
-          ∷ claim 2 1 4 0 0 2 0
-          ∷ claim 2 1 7 2 0 3 2
-          ∷ claim 2 1 10 1 0 3 1
-          ∷ claim 2 1 13 1 1 3 1
-          ∷ claim 2 1 16 1 1 3 1
-          ∷ claim 2 1 19 1 1 2 1
-          ∷ claim 2 2 1 0 0 0 0
-          ∷ claim 2 2 4 0 0 0 0
-          ∷ claim 2 2 7 0 2 0 0
-          ∷ claim 2 2 10 0 1 0 0
-          ∷ claim 2 2 13 1 1 2 1
-          ∷ claim 2 2 16 1 1 3 1
-          ∷ claim 2 2 19 1 1 2 1
-          ∷ [];
-    }
-
-pub agrees-45 : first-wrong list-45 ≡ 0
-unfolding first-wrong entries apply Direct.start Direct.tick Pipelined.start Pipelined.tick book-words rate-words release-words arrive-words into-frame row-sum column-sum sum least some-of word
-agrees-45 = refl
-
-abbrev list-46 : Case
-list-46 =
-    record {
-      switch =
-          record {
-            clock = clock-of 3 5 0;
-            bookings = 4 ∷ 104 ∷ 103 ∷ 3 ∷ 102 ∷ 1 ∷ 1 ∷ 2 ∷ 104 ∷ [];
-            credits = 104 ∷ 3 ∷ 102 ∷ 101 ∷ 4 ∷ 2 ∷ 4 ∷ 102 ∷ 7 ∷ [];
-            queues = 103 ∷ 2 ∷ 1 ∷ 102 ∷ 103 ∷ 7 ∷ 1 ∷ 3 ∷ 4 ∷ [];
-            copy = 1 ∷ 1 ∷ 102 ∷ 4 ∷ 103 ∷ 104 ∷ 3 ∷ 2 ∷ 2 ∷ [];
-            flight = 2 ∷ 7 ∷ 1 ∷ 104 ∷ 2 ∷ 101 ∷ 103 ∷ 1 ∷ 2 ∷ 102 ∷ 104 ∷ 1 ∷ 102 ∷ 2 ∷ 101 ∷ 103 ∷ 2 ∷ 3 ∷ [];
-          };
-      calls =
-          start direct 3 4
-          ∷ book 1 3 1
-          ∷ book 3 1 1
-          ∷ book 1 1 1
-          ∷ book 3 2 1
-          ∷ book-rate 2 1 1000 250
-          ∷ book-rate 3 1 1000 250
-          ∷ book 3 2 1
-          ∷ arrive 2 3 2
-          ∷ arrive 2 2 1
-          ∷ arrive 1 2 2
-          ∷ arrive 1 3 2
-          ∷ arrive 1 3 2
-          ∷ arrive 3 1 1
-          ∷ arrive 1 2 1
-          ∷ tick direct
-          ∷ tick direct
-          ∷ tick direct
-          ∷ tick direct
-          ∷ tick direct
-          ∷ tick direct
-          ∷ tick direct
-          ∷ book-rate 1 2 1000 1001
-          ∷ tick direct
-          ∷ tick direct
-          ∷ tick direct
-          ∷ arrive 3 2 2
-          ∷ book 3 4294967297 1
-          ∷ tick direct
-          ∷ arrive 3 3 2
-          ∷ tick direct
-          ∷ book 2 1 1
-          ∷ tick direct
-          ∷ tick direct
-          ∷ tick direct
-          ∷ tick direct
-          ∷ tick direct
-          ∷ tick direct
-          ∷ tick direct
-          ∷ [];
-      expected =
-          claim 1 1 1 1 2 0 0
-          ∷ claim 1 1 5 1 2 0 0
-          ∷ claim 1 1 9 1 2 0 0
-          ∷ claim 1 1 13 1 2 0 0
-          ∷ claim 1 1 17 1 2 0 0
-          ∷ claim 1 2 1 0 3 4 0
-          ∷ claim 1 2 5 0 3 0 0
-          ∷ claim 1 2 9 0 3 0 0
-          ∷ claim 1 2 13 0 3 0 0
-          ∷ claim 1 2 17 0 3 0 0
-          ∷ claim 1 3 1 1 1 4 1
-          ∷ claim 1 3 5 1 1 3 1
-          ∷ claim 1 3 9 1 1 0 0
-          ∷ claim 1 3 13 1 1 0 0
-          ∷ claim 1 3 17 1 1 0 0
-          ∷ claim 2 1 1 0 2 0 0
-          ∷ claim 2 1 5 0 2 0 0
-          ∷ claim 2 1 9 0 2 0 0
-          ∷ claim 2 1 13 0 2 0 0
-          ∷ claim 2 1 17 0 2 0 0
-          ∷ claim 2 2 1 0 1 1 0
-          ∷ claim 2 2 5 0 1 0 0
-          ∷ claim 2 2 9 0 1 0 0
-          ∷ claim 2 2 13 0 1 0 0
-          ∷ claim 2 2 17 0 1 0 0
-          ∷ claim 2 3 1 0 1 3 0
-          ∷ claim 2 3 5 0 1 0 0
-          ∷ claim 2 3 9 0 1 0 0
-          ∷ claim 2 3 13 0 1 0 0
-          ∷ claim 2 3 17 0 1 0 0
-          ∷ claim 3 1 1 1 2 1 1
-          ∷ claim 3 1 5 1 2 0 0
-          ∷ claim 3 1 9 1 2 0 0
-          ∷ claim 3 1 13 1 2 0 0
-          ∷ claim 3 1 17 1 2 0 0
-          ∷ claim 3 2 1 1 1 0 0
-          ∷ claim 3 2 5 1 1 0 0
-          ∷ claim 3 2 9 1 1 2 1
-          ∷ claim 3 2 13 1 1 0 0
-          ∷ claim 3 2 17 1 1 0 0
-          ∷ claim 3 3 1 0 3 0 0
-          ∷ claim 3 3 5 0 3 0 0
-          ∷ claim 3 3 9 0 3 1 0
-          ∷ claim 3 3 13 0 3 2 0
-          ∷ claim 3 3 17 0 3 0 0
-          ∷ [];
-    }
-
-pub agrees-46 : first-wrong list-46 ≡ 0
-unfolding first-wrong entries apply Direct.start Direct.tick Pipelined.start Pipelined.tick book-words rate-words release-words arrive-words into-frame row-sum column-sum sum least some-of word
-agrees-46 = refl
-
-abbrev list-47 : Case
-list-47 =
-    record {
-      switch =
-          record {
-            clock = clock-of 3 1 4000000000;
-            bookings = 2 ∷ 102 ∷ 7 ∷ 1 ∷ 104 ∷ 7 ∷ 103 ∷ 2 ∷ 7 ∷ [];
-            credits = 102 ∷ 2 ∷ 3 ∷ 103 ∷ 104 ∷ 3 ∷ 2 ∷ 101 ∷ 3 ∷ [];
-            queues = 104 ∷ 2 ∷ 103 ∷ 104 ∷ 4 ∷ 101 ∷ 104 ∷ 101 ∷ 1 ∷ [];
-            copy = 104 ∷ 7 ∷ 103 ∷ 2 ∷ 3 ∷ 2 ∷ 104 ∷ 103 ∷ 102 ∷ [];
-            flight = 104 ∷ 1 ∷ 3 ∷ 1 ∷ 7 ∷ 104 ∷ 1 ∷ 101 ∷ 7 ∷ 102 ∷ 2 ∷ 102 ∷ 102 ∷ 104 ∷ 4 ∷ 2 ∷ 104 ∷ 1 ∷ [];
-          };
-      calls =
-          start pipelined 1 4
-          ∷ book-rate 1 1 100000000 25000000
-          ∷ arrive 1 1 88
-          ∷ tick pipelined
-          ∷ tick pipelined
-          ∷ book 1 1 5
-          ∷ book-rate 1 1 1 1
-          ∷ tick pipelined
-          ∷ tick pipelined
-          ∷ start pipelined 0 4
-          ∷ tick pipelined
-          ∷ tick pipelined
-          ∷ arrive 1 1 68
-          ∷ tick pipelined
-          ∷ tick pipelined
-          ∷ book 1 1 2
-          ∷ arrive 1 1 84
-          ∷ arrive 1 1 70
-          ∷ tick pipelined
-          ∷ tick pipelined
-          ∷ tick pipelined
-          ∷ tick pipelined
-          ∷ arrive 1 1 58
-          ∷ tick pipelined
-          ∷ tick pipelined
-          ∷ tick pipelined
-          ∷ [];
-      expected =
-          claim 1 1 1 0 0 2 0
-          ∷ claim 1 1 5 1 0 4 1
-          ∷ claim 1 1 9 1 0 4 1
-          ∷ claim 1 1 13 1 0 4 1
-          ∷ [];
-    }
-
-pub agrees-47 : first-wrong list-47 ≡ 0
-unfolding first-wrong entries apply Direct.start Direct.tick Pipelined.start Pipelined.tick book-words rate-words release-words arrive-words into-frame row-sum column-sum sum least some-of word
-agrees-47 = refl
-
-abbrev list-48 : Case
-list-48 =
-    record {
-      switch =
-          record {
-            clock = clock-of 33 10001 4000000000;
-            bookings = 3 ∷ 7 ∷ 2 ∷ 102 ∷ 1 ∷ 3 ∷ 101 ∷ 101 ∷ 1 ∷ [];
-            credits = 101 ∷ 2 ∷ 102 ∷ 1 ∷ 1 ∷ 1 ∷ 1 ∷ 104 ∷ 2 ∷ [];
-            queues = 2 ∷ 4 ∷ 4 ∷ 101 ∷ 4 ∷ 7 ∷ 1 ∷ 103 ∷ 1 ∷ [];
-            copy = 4 ∷ 4 ∷ 1 ∷ 102 ∷ 1 ∷ 103 ∷ 2 ∷ 103 ∷ 1 ∷ [];
-            flight = 3 ∷ 7 ∷ 104 ∷ 102 ∷ 4 ∷ 104 ∷ 2 ∷ 1 ∷ 3 ∷ 104 ∷ 101 ∷ 1 ∷ 1 ∷ 4 ∷ 1 ∷ 3 ∷ 1 ∷ 101 ∷ [];
-          };
-      calls =
-          start direct 3 7
-          ∷ book-rate 1 1 1 1
-          ∷ book 2 1 2
-          ∷ book 2 2 1
-          ∷ book-rate 2 2 7 2
-          ∷ book-rate 2 1 100000000 14285714
-          ∷ book 2 2 2
-          ∷ book 1 2 1
-          ∷ book 1 1 1
-          ∷ book 3 3 1
-          ∷ arrive 3 1 4
-          ∷ arrive 3 2 2
-          ∷ arrive 1 1 3
-          ∷ arrive 1 2 5
-          ∷ arrive 2 3 3
           ∷ arrive 1 1 5
-          ∷ arrive 1 2 2
-          ∷ arrive 1 1 5
-          ∷ arrive 1 1 2
-          ∷ arrive 2 3 4
+          ∷ start direct 17 32 7
           ∷ tick direct
-          ∷ start direct 3 3
-          ∷ book-rate 2 1 1 1
-          ∷ book 3 2 1
-          ∷ book 2 3 1
-          ∷ book-rate 2 2 1 1
-          ∷ book 3 2 1
-          ∷ book-rate 2 2 1 1
-          ∷ book-rate 1 1 1 1
-          ∷ book-rate 3 1 100000000 33333334
-          ∷ arrive 1 2 2
-          ∷ arrive 3 2 2
-          ∷ arrive 2 1 2
-          ∷ arrive 3 2 2
-          ∷ arrive 1 1 1
-          ∷ arrive 1 1 2
-          ∷ arrive 3 2 1
-          ∷ arrive 3 3 1
-          ∷ arrive 3 3 2
-          ∷ arrive 2 2 2
-          ∷ arrive 2 3 1
-          ∷ arrive 1 2 2
-          ∷ arrive 1 2 2
-          ∷ arrive 2 3 2
-          ∷ arrive 2 1 2
-          ∷ arrive 1 3 2
-          ∷ arrive 3 3 2
-          ∷ tick direct
-          ∷ tick direct
-          ∷ tick direct
-          ∷ start direct 0 3
-          ∷ release 2 3 1
-          ∷ book-rate 4 2 1000 1
-          ∷ arrive 2 3 2
-          ∷ arrive 3 1 1
-          ∷ arrive 3 1 2
-          ∷ tick direct
-          ∷ tick direct
-          ∷ arrive 3 1 2
-          ∷ tick direct
-          ∷ tick direct
-          ∷ tick direct
-          ∷ tick direct
-          ∷ arrive 1 1 2
-          ∷ book 1 1 1
-          ∷ tick direct
-          ∷ tick direct
-          ∷ book-rate 1 1 100000001 1
-          ∷ tick direct
-          ∷ release 4294967297 1 1
-          ∷ book 1 2 1
-          ∷ release 1 1 1
-          ∷ arrive 1 3 1
-          ∷ arrive 2 1 1
-          ∷ arrive 3 1 1
-          ∷ tick direct
-          ∷ tick direct
-          ∷ tick direct
-          ∷ tick direct
-          ∷ arrive 2 3 2
-          ∷ tick direct
-          ∷ tick direct
-          ∷ tick direct
-          ∷ tick direct
-          ∷ tick direct
-          ∷ tick direct
-          ∷ book 1 1 1
-          ∷ tick direct
-          ∷ [];
-      expected =
-          claim 1 1 1 0 0 3 0
-          ∷ claim 1 1 4 0 0 0 0
-          ∷ claim 1 1 7 0 0 0 0
-          ∷ claim 1 1 10 1 0 2 1
-          ∷ claim 1 1 13 0 0 0 0
-          ∷ claim 1 1 16 0 0 0 0
-          ∷ claim 1 1 19 0 0 0 0
-          ∷ claim 1 1 22 0 0 0 0
-          ∷ claim 1 2 1 0 2 3 0
-          ∷ claim 1 2 4 0 2 3 0
-          ∷ claim 1 2 7 0 2 3 0
-          ∷ claim 1 2 10 0 3 3 0
-          ∷ claim 1 2 13 0 2 2 0
-          ∷ claim 1 2 16 0 2 0 0
-          ∷ claim 1 2 19 0 2 0 0
-          ∷ claim 1 2 22 0 2 0 0
-          ∷ claim 1 3 1 0 1 3 0
-          ∷ claim 1 3 4 0 0 2 0
-          ∷ claim 1 3 7 0 0 0 0
-          ∷ claim 1 3 10 0 1 0 0
-          ∷ claim 1 3 13 0 0 3 0
-          ∷ claim 1 3 16 0 0 0 0
-          ∷ claim 1 3 19 0 0 0 0
-          ∷ claim 1 3 22 0 0 0 0
-          ∷ claim 2 1 1 0 1 3 0
-          ∷ claim 2 1 4 0 0 3 0
-          ∷ claim 2 1 7 0 0 1 0
-          ∷ claim 2 1 10 0 1 0 0
-          ∷ claim 2 1 13 0 0 1 0
-          ∷ claim 2 1 16 0 0 0 0
-          ∷ claim 2 1 19 0 0 0 0
-          ∷ claim 2 1 22 0 0 0 0
-          ∷ claim 2 2 1 0 3 3 0
-          ∷ claim 2 2 4 0 2 3 0
-          ∷ claim 2 2 7 0 2 3 0
-          ∷ claim 2 2 10 0 2 1 0
-          ∷ claim 2 2 13 0 2 0 0
-          ∷ claim 2 2 16 0 2 0 0
-          ∷ claim 2 2 19 0 2 0 0
-          ∷ claim 2 2 22 0 2 0 0
-          ∷ claim 2 3 1 1 0 3 1
-          ∷ claim 2 3 4 0 0 3 0
-          ∷ claim 2 3 7 0 0 3 0
-          ∷ claim 2 3 10 0 0 2 0
-          ∷ claim 2 3 13 0 0 0 0
-          ∷ claim 2 3 16 0 0 2 0
-          ∷ claim 2 3 19 0 0 0 0
-          ∷ claim 2 3 22 0 0 0 0
-          ∷ claim 3 1 1 0 2 0 0
-          ∷ claim 3 1 4 0 2 3 0
-          ∷ claim 3 1 7 0 2 3 0
-          ∷ claim 3 1 10 0 3 3 0
-          ∷ claim 3 1 13 0 2 3 0
-          ∷ claim 3 1 16 0 2 1 0
-          ∷ claim 3 1 19 0 2 0 0
-          ∷ claim 3 1 22 0 2 0 0
-          ∷ claim 3 2 1 2 0 3 2
-          ∷ claim 3 2 4 2 0 3 2
-          ∷ claim 3 2 7 2 0 1 1
-          ∷ claim 3 2 10 2 0 0 0
-          ∷ claim 3 2 13 2 0 0 0
-          ∷ claim 3 2 16 2 0 0 0
-          ∷ claim 3 2 19 2 0 0 0
-          ∷ claim 3 2 22 2 0 0 0
-          ∷ claim 3 3 1 0 3 3 0
-          ∷ claim 3 3 4 0 2 3 0
-          ∷ claim 3 3 7 0 2 3 0
-          ∷ claim 3 3 10 0 2 3 0
-          ∷ claim 3 3 13 0 2 3 0
-          ∷ claim 3 3 16 0 2 3 0
-          ∷ claim 3 3 19 0 2 1 0
-          ∷ claim 3 3 22 0 2 0 0
-          ∷ [];
-    }
-
-pub agrees-48 : first-wrong list-48 ≡ 0
-unfolding first-wrong entries apply Direct.start Direct.tick Pipelined.start Pipelined.tick book-words rate-words release-words arrive-words into-frame row-sum column-sum sum least some-of word
-agrees-48 = refl
-
-abbrev list-49 : Case
-list-49 =
-    record {
-      switch =
-          record {
-            clock = clock-of 0 1 77;
-            bookings = 101 ∷ 101 ∷ 102 ∷ 102 ∷ 101 ∷ 103 ∷ 103 ∷ 103 ∷ 102 ∷ [];
-            credits = 3 ∷ 101 ∷ 1 ∷ 1 ∷ 2 ∷ 103 ∷ 104 ∷ 2 ∷ 2 ∷ [];
-            queues = 104 ∷ 102 ∷ 101 ∷ 1 ∷ 2 ∷ 103 ∷ 1 ∷ 103 ∷ 101 ∷ [];
-            copy = 2 ∷ 1 ∷ 1 ∷ 1 ∷ 1 ∷ 2 ∷ 3 ∷ 2 ∷ 101 ∷ [];
-            flight = 1 ∷ 104 ∷ 7 ∷ 2 ∷ 1 ∷ 101 ∷ 2 ∷ 104 ∷ 1 ∷ 4 ∷ 4 ∷ 101 ∷ 101 ∷ 1 ∷ 4 ∷ 101 ∷ 1 ∷ 1 ∷ [];
-          };
-      calls =
-          start pipelined 2 7
-          ∷ book 1 2 1
-          ∷ book 1 2 1
-          ∷ arrive 2 1 2
+          ∷ book-rate 1 1 2
           ∷ arrive 1 1 4
           ∷ arrive 1 1 4
-          ∷ arrive 1 2 4
-          ∷ arrive 2 1 2
-          ∷ arrive 2 1 4
-          ∷ arrive 2 1 2
-          ∷ arrive 1 2 2
-          ∷ tick pipelined
-          ∷ arrive 1 2 2
-          ∷ tick pipelined
+          ∷ tick direct
+          ∷ tick direct
+          ∷ tick direct
+          ∷ release-rate 1 2 1
+          ∷ release-rate 1 1 1
+          ∷ tick direct
+          ∷ tick direct
+          ∷ book 1 1 1
+          ∷ tick direct
+          ∷ tick direct
+          ∷ tick direct
+          ∷ tick direct
+          ∷ tick direct
+          ∷ tick direct
+          ∷ tick direct
+          ∷ tick direct
+          ∷ tick direct
+          ∷ arrive 1 1 2
+          ∷ arrive 1 1 3
+          ∷ release-rate 1 1 1
+          ∷ tick direct
+          ∷ tick direct
+          ∷ tick direct
+          ∷ tick direct
+          ∷ arrive 2 1 1
           ∷ arrive 1 1 4
-          ∷ tick pipelined
-          ∷ tick pipelined
-          ∷ arrive 1 1 5
-          ∷ book-rate 2 2 7 1
-          ∷ tick pipelined
-          ∷ arrive 1 1 2
-          ∷ tick pipelined
-          ∷ tick pipelined
-          ∷ tick pipelined
-          ∷ tick pipelined
-          ∷ tick pipelined
-          ∷ tick pipelined
-          ∷ arrive 2 2 4
-          ∷ tick pipelined
-          ∷ arrive 1 2 4
-          ∷ tick pipelined
-          ∷ tick pipelined
-          ∷ arrive 2 1 3
-          ∷ tick pipelined
-          ∷ [];
-      expected =
-          claim 1 1 1 0 0 3 0
-          ∷ claim 1 1 8 0 2 7 0
-          ∷ claim 1 1 15 0 2 2 0
-          ∷ claim 1 2 1 0 0 3 0
-          ∷ claim 1 2 8 2 0 7 2
-          ∷ claim 1 2 15 2 1 2 2
-          ∷ claim 2 1 1 0 0 3 0
-          ∷ claim 2 1 8 0 0 7 0
-          ∷ claim 2 1 15 0 1 2 0
-          ∷ claim 2 2 1 0 0 0 0
-          ∷ claim 2 2 8 0 2 0 0
-          ∷ claim 2 2 15 1 2 2 0
-          ∷ [];
-    }
-
-pub agrees-49 : first-wrong list-49 ≡ 0
-unfolding first-wrong entries apply Direct.start Direct.tick Pipelined.start Pipelined.tick book-words rate-words release-words arrive-words into-frame row-sum column-sum sum least some-of word
-agrees-49 = refl
-
-abbrev list-50 : Case
-list-50 =
-    record {
-      switch =
-          record {
-            clock = clock-of 3 2 77;
-            bookings = 1 ∷ 1 ∷ 1 ∷ 4 ∷ 1 ∷ 2 ∷ 3 ∷ 4 ∷ 103 ∷ [];
-            credits = 103 ∷ 101 ∷ 2 ∷ 3 ∷ 2 ∷ 2 ∷ 2 ∷ 102 ∷ 1 ∷ [];
-            queues = 1 ∷ 1 ∷ 3 ∷ 3 ∷ 2 ∷ 104 ∷ 2 ∷ 1 ∷ 2 ∷ [];
-            copy = 7 ∷ 2 ∷ 1 ∷ 4 ∷ 102 ∷ 1 ∷ 2 ∷ 2 ∷ 7 ∷ [];
-            flight = 102 ∷ 104 ∷ 4 ∷ 1 ∷ 1 ∷ 103 ∷ 2 ∷ 4 ∷ 7 ∷ 2 ∷ 1 ∷ 101 ∷ 103 ∷ 4 ∷ 4 ∷ 103 ∷ 101 ∷ 7 ∷ [];
-          };
-      calls =
-          start direct 2 2
-          ∷ book 2 2 1
-          ∷ book 2 1 1
-          ∷ arrive 2 1 8
-          ∷ arrive 2 2 7
-          ∷ arrive 1 2 8
-          ∷ arrive 2 1 11
-          ∷ arrive 2 1 10
-          ∷ arrive 1 1 8
-          ∷ book 1 2 1
-          ∷ tick direct
-          ∷ tick direct
-          ∷ arrive 2 1 10
-          ∷ tick direct
-          ∷ tick direct
-          ∷ tick direct
-          ∷ start direct 2 0
-          ∷ arrive 1 2 6
-          ∷ tick direct
-          ∷ tick direct
-          ∷ arrive 1 1 6
-          ∷ tick direct
-          ∷ tick direct
-          ∷ release 2 4294967297 1
-          ∷ tick direct
-          ∷ tick direct
-          ∷ tick direct
-          ∷ arrive 1 1 8
-          ∷ tick direct
-          ∷ arrive 1 2 8
-          ∷ tick direct
-          ∷ tick direct
-          ∷ tick direct
-          ∷ [];
-      expected =
-          claim 1 1 1 0 0 2 0
-          ∷ claim 1 1 3 0 0 2 0
-          ∷ claim 1 1 5 0 0 2 0
-          ∷ claim 1 1 7 0 0 2 0
-          ∷ claim 1 1 9 0 0 2 0
-          ∷ claim 1 1 11 0 0 2 0
-          ∷ claim 1 1 13 0 0 2 0
-          ∷ claim 1 1 15 0 0 2 0
-          ∷ claim 1 2 1 0 1 2 0
-          ∷ claim 1 2 3 0 1 2 0
-          ∷ claim 1 2 5 0 1 2 0
-          ∷ claim 1 2 7 0 1 2 0
-          ∷ claim 1 2 9 0 1 2 0
-          ∷ claim 1 2 11 0 1 2 0
-          ∷ claim 1 2 13 0 1 2 0
-          ∷ claim 1 2 15 0 1 2 0
-          ∷ claim 2 1 1 0 1 2 0
-          ∷ claim 2 1 3 0 1 2 0
-          ∷ claim 2 1 5 0 1 2 0
-          ∷ claim 2 1 7 0 1 2 0
-          ∷ claim 2 1 9 0 1 2 0
-          ∷ claim 2 1 11 0 1 2 0
-          ∷ claim 2 1 13 0 1 2 0
-          ∷ claim 2 1 15 0 1 2 0
-          ∷ claim 2 2 1 1 0 2 1
-          ∷ claim 2 2 3 1 0 2 1
-          ∷ claim 2 2 5 1 0 2 1
-          ∷ claim 2 2 7 1 0 1 1
-          ∷ claim 2 2 9 1 0 0 0
-          ∷ claim 2 2 11 1 0 0 0
-          ∷ claim 2 2 13 1 0 0 0
-          ∷ claim 2 2 15 1 0 0 0
-          ∷ [];
-    }
-
-pub agrees-50 : first-wrong list-50 ≡ 0
-unfolding first-wrong entries apply Direct.start Direct.tick Pipelined.start Pipelined.tick book-words rate-words release-words arrive-words into-frame row-sum column-sum sum least some-of word
-agrees-50 = refl
-
-abbrev list-51 : Case
-list-51 =
-    record {
-      switch =
-          record {
-            clock = clock-of 9 1 4000000000;
-            bookings = 1 ∷ 2 ∷ 2 ∷ 4 ∷ 2 ∷ 1 ∷ 3 ∷ 2 ∷ 2 ∷ [];
-            credits = 2 ∷ 103 ∷ 1 ∷ 104 ∷ 102 ∷ 1 ∷ 1 ∷ 1 ∷ 1 ∷ [];
-            queues = 101 ∷ 7 ∷ 102 ∷ 4 ∷ 2 ∷ 4 ∷ 7 ∷ 1 ∷ 2 ∷ [];
-            copy = 7 ∷ 2 ∷ 4 ∷ 103 ∷ 2 ∷ 1 ∷ 102 ∷ 102 ∷ 1 ∷ [];
-            flight = 101 ∷ 7 ∷ 102 ∷ 101 ∷ 2 ∷ 4 ∷ 103 ∷ 3 ∷ 3 ∷ 102 ∷ 3 ∷ 7 ∷ 103 ∷ 1 ∷ 4 ∷ 101 ∷ 4 ∷ 2 ∷ [];
-          };
-      calls =
-          start pipelined 2 7
-          ∷ book-rate 2 2 1000 571
-          ∷ book 1 1 1
-          ∷ book 1 2 1
-          ∷ arrive 1 2 65535
-          ∷ arrive 1 2 65535
-          ∷ arrive 1 2 65535
-          ∷ arrive 1 2 65535
-          ∷ arrive 1 2 65535
-          ∷ arrive 1 2 65535
-          ∷ arrive 1 2 65535
-          ∷ arrive 1 2 65535
-          ∷ arrive 1 2 65535
-          ∷ arrive 1 2 65535
-          ∷ arrive 1 2 65535
-          ∷ arrive 1 2 65535
-          ∷ arrive 1 2 65535
-          ∷ arrive 1 2 65535
-          ∷ arrive 1 2 65535
-          ∷ arrive 1 2 16976
-          ∷ arrive 1 2 16975
-          ∷ arrive 1 2 1
-          ∷ arrive 2 1 68
-          ∷ arrive 1 1 47
-          ∷ arrive 2 1 77
-          ∷ arrive 1 1 51
-          ∷ arrive 2 2 59
-          ∷ arrive 1 2 88
-          ∷ arrive 1 1 88
-          ∷ arrive 1 1 84
-          ∷ arrive 2 2 46
-          ∷ tick pipelined
-          ∷ book-rate 1 1 1 1
-          ∷ tick pipelined
-          ∷ arrive 1 2 89
-          ∷ book 1 4294967297 1
-          ∷ tick pipelined
-          ∷ arrive 1 2 53
-          ∷ tick pipelined
-          ∷ tick pipelined
-          ∷ tick pipelined
-          ∷ tick pipelined
-          ∷ tick pipelined
-          ∷ tick pipelined
-          ∷ tick pipelined
-          ∷ tick pipelined
-          ∷ arrive 2 4294967297 1
-          ∷ arrive 1 2 56
-          ∷ tick pipelined
-          ∷ tick pipelined
-          ∷ tick pipelined
-          ∷ book 1 1 1
-          ∷ tick pipelined
-          ∷ book-rate 2 1 99999999 57142857
-          ∷ book 3 1 1
-          ∷ arrive 3 2 1
-          ∷ arrive 2 2 82
-          ∷ book 2 2 4
-          ∷ tick pipelined
-          ∷ [];
-      expected =
-          claim 1 1 1 0 0 3 0
-          ∷ claim 1 1 8 1 0 7 1
-          ∷ claim 1 1 15 1 0 3 1
-          ∷ claim 1 2 1 0 0 3 0
-          ∷ claim 1 2 8 0 5 7 0
-          ∷ claim 1 2 15 0 5 3 0
-          ∷ claim 2 1 1 0 0 3 0
-          ∷ claim 2 1 8 0 5 7 0
-          ∷ claim 2 1 15 0 5 3 0
-          ∷ claim 2 2 1 0 0 3 0
-          ∷ claim 2 2 8 4 0 7 4
-          ∷ claim 2 2 15 4 0 3 3
-          ∷ [];
-    }
-
-pub agrees-51 : first-wrong list-51 ≡ 0
-unfolding first-wrong entries apply Direct.start Direct.tick Pipelined.start Pipelined.tick book-words rate-words release-words arrive-words into-frame row-sum column-sum sum least some-of word
-agrees-51 = refl
-
-abbrev list-52 : Case
-list-52 =
-    record {
-      switch =
-          record {
-            clock = clock-of 2 5 4000000000;
-            bookings = 101 ∷ 2 ∷ 104 ∷ 102 ∷ 1 ∷ 2 ∷ 2 ∷ 1 ∷ 102 ∷ [];
-            credits = 101 ∷ 2 ∷ 1 ∷ 3 ∷ 104 ∷ 104 ∷ 101 ∷ 1 ∷ 103 ∷ [];
-            queues = 3 ∷ 4 ∷ 104 ∷ 4 ∷ 1 ∷ 2 ∷ 104 ∷ 2 ∷ 103 ∷ [];
-            copy = 1 ∷ 101 ∷ 4 ∷ 4 ∷ 1 ∷ 2 ∷ 4 ∷ 2 ∷ 7 ∷ [];
-            flight = 2 ∷ 101 ∷ 104 ∷ 102 ∷ 2 ∷ 2 ∷ 101 ∷ 104 ∷ 1 ∷ 104 ∷ 7 ∷ 102 ∷ 2 ∷ 3 ∷ 1 ∷ 102 ∷ 1 ∷ 4 ∷ [];
-          };
-      calls =
-          start direct 1 4
-          ∷ book 1 1 1
-          ∷ arrive 1 1 2
-          ∷ arrive 1 1 2
-          ∷ book 1 1 0
-          ∷ tick direct
-          ∷ tick direct
-          ∷ tick direct
-          ∷ tick direct
-          ∷ tick direct
-          ∷ tick direct
-          ∷ book-rate 1 1 0 1
-          ∷ start direct 30 32
-          ∷ tick direct
-          ∷ tick direct
-          ∷ tick direct
-          ∷ book-rate 1 2 1000 1
-          ∷ tick direct
-          ∷ arrive 1 1 0
-          ∷ tick direct
-          ∷ tick direct
-          ∷ tick direct
-          ∷ tick direct
-          ∷ book 1 1 1
-          ∷ tick direct
-          ∷ book-rate 1 1 0 1
-          ∷ release 1 1 0
-          ∷ tick direct
-          ∷ tick direct
-          ∷ tick direct
-          ∷ [];
-      expected =
-          claim 1 1 1 1 0 4 1
-          ∷ claim 1 1 5 1 0 0 0
-          ∷ claim 1 1 9 1 0 0 0
-          ∷ claim 1 1 13 1 0 0 0
-          ∷ claim 1 1 17 2 0 0 0
-          ∷ [];
-    }
-
-pub agrees-52 : first-wrong list-52 ≡ 0
-unfolding first-wrong entries apply Direct.start Direct.tick Pipelined.start Pipelined.tick book-words rate-words release-words arrive-words into-frame row-sum column-sum sum least some-of word
-agrees-52 = refl
-
-abbrev list-53 : Case
-list-53 =
-    record {
-      switch =
-          record {
-            clock = clock-of 9 2 0;
-            bookings = 2 ∷ 3 ∷ 102 ∷ 2 ∷ 1 ∷ 2 ∷ 1 ∷ 7 ∷ 7 ∷ [];
-            credits = 101 ∷ 2 ∷ 7 ∷ 3 ∷ 2 ∷ 2 ∷ 101 ∷ 101 ∷ 2 ∷ [];
-            queues = 4 ∷ 1 ∷ 104 ∷ 4 ∷ 7 ∷ 103 ∷ 1 ∷ 101 ∷ 2 ∷ [];
-            copy = 2 ∷ 104 ∷ 1 ∷ 1 ∷ 102 ∷ 102 ∷ 101 ∷ 1 ∷ 4 ∷ [];
-            flight = 1 ∷ 101 ∷ 104 ∷ 102 ∷ 1 ∷ 3 ∷ 3 ∷ 2 ∷ 102 ∷ 102 ∷ 103 ∷ 4 ∷ 102 ∷ 2 ∷ 7 ∷ 1 ∷ 1 ∷ 7 ∷ [];
-          };
-      calls =
-          start pipelined 3 3
-          ∷ book-rate 3 1 100000000 33333333
-          ∷ book 2 2 1
-          ∷ book-rate 3 2 1000 333
-          ∷ book 3 2 1
-          ∷ book 2 1 1
-          ∷ book 2 2 1
-          ∷ book-rate 3 2 100000000 33333334
-          ∷ book-rate 1 2 99999999 33333334
-          ∷ book-rate 2 1 7 2
-          ∷ arrive 3 2 9
-          ∷ arrive 3 2 11
-          ∷ arrive 1 2 7
-          ∷ arrive 3 1 10
-          ∷ arrive 3 3 7
-          ∷ arrive 1 2 12
-          ∷ arrive 3 1 7
-          ∷ arrive 2 3 11
-          ∷ arrive 3 1 8
-          ∷ arrive 3 2 11
-          ∷ arrive 2 3 8
-          ∷ arrive 1 2 10
-          ∷ arrive 2 1 10
-          ∷ arrive 1 2 11
-          ∷ arrive 3 1 10
-          ∷ arrive 3 1 8
-          ∷ book 1 2 1
-          ∷ tick pipelined
-          ∷ tick pipelined
-          ∷ arrive 1 3 9
-          ∷ tick pipelined
-          ∷ book-rate 2 2 0 1
-          ∷ start pipelined 9 32
-          ∷ tick pipelined
-          ∷ start pipelined 2 6
-          ∷ book 1 2 1
-          ∷ book 1 2 1
-          ∷ arrive 2 2 55
-          ∷ arrive 1 2 45
-          ∷ arrive 1 1 90
-          ∷ arrive 2 1 49
-          ∷ tick pipelined
-          ∷ tick pipelined
-          ∷ tick pipelined
-          ∷ tick pipelined
-          ∷ book-rate 1 1 0 1
-          ∷ tick pipelined
-          ∷ book-rate 1 2 1 1
-          ∷ tick pipelined
-          ∷ arrive 1 2 61
-          ∷ book-rate 1 2 99999999 16666667
-          ∷ book-rate 2 2 99999999 16666666
-          ∷ tick pipelined
-          ∷ arrive 2 4294967297 1
-          ∷ tick pipelined
-          ∷ tick pipelined
-          ∷ arrive 2 1 87
-          ∷ tick pipelined
-          ∷ tick pipelined
-          ∷ release 1 3 1
-          ∷ tick pipelined
-          ∷ tick pipelined
-          ∷ arrive 1 2 74
-          ∷ tick pipelined
-          ∷ tick pipelined
-          ∷ tick pipelined
-          ∷ tick pipelined
-          ∷ tick pipelined
-          ∷ tick pipelined
-          ∷ tick pipelined
-          ∷ tick pipelined
-          ∷ tick pipelined
-          ∷ tick pipelined
-          ∷ tick pipelined
-          ∷ [];
-      expected =
-          claim 1 1 1 0 0 2 0
-          ∷ claim 1 1 7 0 2 6 0
-          ∷ claim 1 1 13 0 2 6 0
-          ∷ claim 1 1 19 0 2 6 0
-          ∷ claim 1 1 25 0 2 1 0
-          ∷ claim 1 2 1 0 0 2 0
-          ∷ claim 1 2 7 2 0 6 2
-          ∷ claim 1 2 13 2 1 6 2
-          ∷ claim 1 2 19 2 1 6 2
-          ∷ claim 1 2 25 2 1 1 1
-          ∷ claim 2 1 1 0 0 2 0
-          ∷ claim 2 1 7 0 0 6 0
-          ∷ claim 2 1 13 0 1 6 0
-          ∷ claim 2 1 19 0 1 6 0
-          ∷ claim 2 1 25 0 1 1 0
-          ∷ claim 2 2 1 0 0 2 0
-          ∷ claim 2 2 7 0 2 6 0
-          ∷ claim 2 2 13 1 2 6 1
-          ∷ claim 2 2 19 1 2 6 1
-          ∷ claim 2 2 25 1 2 1 0
-          ∷ [];
-    }
-
-pub agrees-53 : first-wrong list-53 ≡ 0
-unfolding first-wrong entries apply Direct.start Direct.tick Pipelined.start Pipelined.tick book-words rate-words release-words arrive-words into-frame row-sum column-sum sum least some-of word
-agrees-53 = refl
-
-abbrev list-54 : Case
-list-54 =
-    record {
-      switch =
-          record {
-            clock = clock-of 3 1 4000000000;
-            bookings = 1 ∷ 104 ∷ 1 ∷ 104 ∷ 104 ∷ 102 ∷ 7 ∷ 4 ∷ 102 ∷ [];
-            credits = 7 ∷ 1 ∷ 2 ∷ 4 ∷ 1 ∷ 1 ∷ 7 ∷ 103 ∷ 2 ∷ [];
-            queues = 2 ∷ 104 ∷ 1 ∷ 2 ∷ 102 ∷ 1 ∷ 2 ∷ 7 ∷ 1 ∷ [];
-            copy = 7 ∷ 103 ∷ 104 ∷ 102 ∷ 2 ∷ 102 ∷ 2 ∷ 104 ∷ 103 ∷ [];
-            flight = 3 ∷ 102 ∷ 1 ∷ 104 ∷ 1 ∷ 1 ∷ 3 ∷ 101 ∷ 7 ∷ 2 ∷ 101 ∷ 1 ∷ 1 ∷ 3 ∷ 4 ∷ 104 ∷ 1 ∷ 3 ∷ [];
-          };
-      calls =
-          start direct 2 3
-          ∷ book 2 2 1
-          ∷ book-rate 1 1 99999999 33333333
-          ∷ arrive 2 2 2
-          ∷ arrive 2 2 2
-          ∷ arrive 2 1 2
-          ∷ tick direct
-          ∷ start direct 3 3
-          ∷ book 3 1 1
-          ∷ book-rate 3 2 7 2
-          ∷ book 3 1 1
-          ∷ book-rate 2 3 99999999 33333334
-          ∷ book-rate 1 2 1000 333
-          ∷ book-rate 3 1 1000 333
-          ∷ book 3 3 1
-          ∷ arrive 3 2 10
-          ∷ arrive 3 2 9
-          ∷ arrive 2 3 7
-          ∷ arrive 1 3 9
-          ∷ arrive 3 3 8
-          ∷ arrive 2 2 12
-          ∷ arrive 3 2 8
-          ∷ arrive 2 2 11
-          ∷ arrive 3 1 10
-          ∷ arrive 2 1 7
-          ∷ arrive 1 1 8
-          ∷ arrive 1 3 8
-          ∷ arrive 2 2 7
-          ∷ arrive 1 1 12
-          ∷ arrive 1 3 11
-          ∷ arrive 3 1 11
-          ∷ arrive 3 1 6
-          ∷ arrive 1 1 6
-          ∷ tick direct
-          ∷ release 1 1 2
-          ∷ arrive 1 3 6
-          ∷ tick direct
-          ∷ arrive 2 3 12
-          ∷ book-rate 1 2 99999999 33333333
-          ∷ tick direct
-          ∷ tick direct
-          ∷ tick direct
-          ∷ tick direct
-          ∷ tick direct
-          ∷ release 1 1 4
-          ∷ book-rate 3 4 1000 1
-          ∷ tick direct
-          ∷ tick direct
-          ∷ book 1 2 2
-          ∷ tick direct
-          ∷ tick direct
-          ∷ tick direct
-          ∷ arrive 3 2 8
-          ∷ tick direct
-          ∷ tick direct
-          ∷ tick direct
-          ∷ arrive 3 1 10
-          ∷ tick direct
-          ∷ tick direct
-          ∷ [];
-      expected =
-          claim 1 1 1 0 2 3 0
-          ∷ claim 1 1 4 0 2 3 0
-          ∷ claim 1 1 7 0 2 3 0
-          ∷ claim 1 1 10 0 2 3 0
-          ∷ claim 1 1 13 0 2 3 0
-          ∷ claim 1 1 16 0 2 2 0
-          ∷ claim 1 2 1 1 1 0 0
-          ∷ claim 1 2 4 1 1 0 0
-          ∷ claim 1 2 7 1 1 0 0
-          ∷ claim 1 2 10 1 1 0 0
-          ∷ claim 1 2 13 1 1 0 0
-          ∷ claim 1 2 16 1 1 0 0
-          ∷ claim 1 3 1 0 3 3 0
-          ∷ claim 1 3 4 0 3 3 0
-          ∷ claim 1 3 7 0 3 3 0
-          ∷ claim 1 3 10 0 3 3 0
-          ∷ claim 1 3 13 0 3 3 0
-          ∷ claim 1 3 16 0 3 2 0
-          ∷ claim 2 1 1 0 3 3 0
-          ∷ claim 2 1 4 0 3 3 0
-          ∷ claim 2 1 7 0 3 3 0
-          ∷ claim 2 1 10 0 3 3 0
-          ∷ claim 2 1 13 0 3 3 0
-          ∷ claim 2 1 16 0 3 2 0
-          ∷ claim 2 2 1 0 4 3 0
-          ∷ claim 2 2 4 0 4 3 0
-          ∷ claim 2 2 7 0 4 3 0
-          ∷ claim 2 2 10 0 4 3 0
-          ∷ claim 2 2 13 0 4 3 0
-          ∷ claim 2 2 16 0 4 2 0
-          ∷ claim 2 3 1 2 0 3 2
-          ∷ claim 2 3 4 2 0 3 2
-          ∷ claim 2 3 7 2 0 3 2
-          ∷ claim 2 3 10 2 0 3 2
-          ∷ claim 2 3 13 2 0 3 2
-          ∷ claim 2 3 16 2 0 2 2
-          ∷ claim 3 1 1 1 1 3 1
-          ∷ claim 3 1 4 1 1 3 1
-          ∷ claim 3 1 7 1 1 3 1
-          ∷ claim 3 1 10 1 1 3 1
-          ∷ claim 3 1 13 1 1 3 1
-          ∷ claim 3 1 16 1 1 2 1
-          ∷ claim 3 2 1 1 2 3 1
-          ∷ claim 3 2 4 1 2 3 1
-          ∷ claim 3 2 7 1 2 3 1
-          ∷ claim 3 2 10 1 2 3 1
-          ∷ claim 3 2 13 1 2 3 1
-          ∷ claim 3 2 16 1 2 2 1
-          ∷ claim 3 3 1 0 4 3 0
-          ∷ claim 3 3 4 0 4 3 0
-          ∷ claim 3 3 7 0 4 3 0
-          ∷ claim 3 3 10 0 4 3 0
-          ∷ claim 3 3 13 0 4 3 0
-          ∷ claim 3 3 16 0 4 2 0
-          ∷ [];
-    }
-
-pub agrees-54 : first-wrong list-54 ≡ 0
-unfolding first-wrong entries apply Direct.start Direct.tick Pipelined.start Pipelined.tick book-words rate-words release-words arrive-words into-frame row-sum column-sum sum least some-of word
-agrees-54 = refl
-
-abbrev list-55 : Case
-list-55 =
-    record {
-      switch =
-          record {
-            clock = clock-of 0 1 5;
-            bookings = 3 ∷ 3 ∷ 1 ∷ 104 ∷ 1 ∷ 2 ∷ 2 ∷ 2 ∷ 7 ∷ [];
-            credits = 1 ∷ 103 ∷ 2 ∷ 7 ∷ 4 ∷ 2 ∷ 101 ∷ 104 ∷ 2 ∷ [];
-            queues = 1 ∷ 1 ∷ 4 ∷ 2 ∷ 7 ∷ 7 ∷ 102 ∷ 1 ∷ 7 ∷ [];
-            copy = 102 ∷ 102 ∷ 1 ∷ 2 ∷ 3 ∷ 7 ∷ 4 ∷ 3 ∷ 4 ∷ [];
-            flight = 7 ∷ 1 ∷ 102 ∷ 1 ∷ 101 ∷ 103 ∷ 7 ∷ 103 ∷ 1 ∷ 103 ∷ 1 ∷ 2 ∷ 101 ∷ 1 ∷ 7 ∷ 7 ∷ 7 ∷ 1 ∷ [];
-          };
-      calls =
-          start pipelined 2 5
-          ∷ book-rate 1 1 1 1
-          ∷ book 1 1 1
-          ∷ arrive 1 2 1
-          ∷ arrive 1 1 2
-          ∷ tick pipelined
-          ∷ tick pipelined
-          ∷ release 3 2 1
-          ∷ tick pipelined
-          ∷ arrive 1 1 2
-          ∷ arrive 1 2 2
-          ∷ arrive 1 2 2
-          ∷ arrive 1 2 2
-          ∷ book-rate 1 1 100000000 20000001
-          ∷ tick pipelined
-          ∷ arrive 2 2 2
-          ∷ tick pipelined
-          ∷ tick pipelined
-          ∷ arrive 2 1 1
-          ∷ tick pipelined
-          ∷ release 2 1 6
-          ∷ tick pipelined
-          ∷ tick pipelined
-          ∷ tick pipelined
-          ∷ tick pipelined
-          ∷ release 1 1 1
-          ∷ tick pipelined
-          ∷ tick pipelined
-          ∷ tick pipelined
-          ∷ tick pipelined
-          ∷ [];
-      expected =
-          claim 1 1 1 0 0 1 0
-          ∷ claim 1 1 6 1 0 4 1
-          ∷ claim 1 1 11 3 0 0 0
-          ∷ claim 1 1 16 2 0 0 0
-          ∷ claim 1 2 1 0 0 1 0
-          ∷ claim 1 2 6 0 1 4 0
-          ∷ claim 1 2 11 0 3 5 0
-          ∷ claim 1 2 16 0 2 1 0
-          ∷ claim 2 1 1 0 0 0 0
-          ∷ claim 2 1 6 0 1 1 0
-          ∷ claim 2 1 11 0 3 1 0
-          ∷ claim 2 1 16 0 2 0 0
-          ∷ claim 2 2 1 0 0 0 0
-          ∷ claim 2 2 6 0 0 2 0
-          ∷ claim 2 2 11 0 0 0 0
-          ∷ claim 2 2 16 0 0 0 0
-          ∷ [];
-    }
-
-pub agrees-55 : first-wrong list-55 ≡ 0
-unfolding first-wrong entries apply Direct.start Direct.tick Pipelined.start Pipelined.tick book-words rate-words release-words arrive-words into-frame row-sum column-sum sum least some-of word
-agrees-55 = refl
-
-abbrev list-56 : Case
-list-56 =
-    record {
-      switch =
-          record {
-            clock = clock-of 33 2 0;
-            bookings = 104 ∷ 1 ∷ 7 ∷ 1 ∷ 3 ∷ 2 ∷ 1 ∷ 104 ∷ 4 ∷ [];
-            credits = 2 ∷ 1 ∷ 1 ∷ 2 ∷ 1 ∷ 103 ∷ 4 ∷ 103 ∷ 103 ∷ [];
-            queues = 7 ∷ 103 ∷ 102 ∷ 7 ∷ 2 ∷ 2 ∷ 1 ∷ 102 ∷ 1 ∷ [];
-            copy = 1 ∷ 2 ∷ 4 ∷ 104 ∷ 101 ∷ 2 ∷ 1 ∷ 4 ∷ 4 ∷ [];
-            flight = 7 ∷ 1 ∷ 102 ∷ 4 ∷ 2 ∷ 2 ∷ 1 ∷ 1 ∷ 4 ∷ 2 ∷ 2 ∷ 2 ∷ 3 ∷ 2 ∷ 4 ∷ 2 ∷ 103 ∷ 104 ∷ [];
-          };
-      calls =
-          start direct 3 4
-          ∷ book-rate 3 3 100000000 25000000
-          ∷ book-rate 3 1 1 1
-          ∷ book-rate 1 2 100000000 25000001
-          ∷ arrive 2 3 1
-          ∷ arrive 1 3 2
-          ∷ arrive 2 2 2
-          ∷ arrive 2 3 1
-          ∷ arrive 2 3 2
-          ∷ arrive 2 1 1
-          ∷ arrive 3 3 2
-          ∷ book-rate 3 3 0 1
-          ∷ tick direct
-          ∷ tick direct
-          ∷ start direct 1 3
-          ∷ book 1 1 1
-          ∷ arrive 1 1 1
-          ∷ tick direct
-          ∷ release 1 1 4
-          ∷ book-rate 1 1 7 3
-          ∷ arrive 1 1 1
-          ∷ tick direct
-          ∷ arrive 1 1 1
-          ∷ release 1 1 1
-          ∷ tick direct
-          ∷ arrive 1 1 1
-          ∷ tick direct
-          ∷ tick direct
-          ∷ tick direct
-          ∷ arrive 1 1 2
-          ∷ tick direct
-          ∷ book-rate 1 1 7 3
-          ∷ arrive 1 1 2
-          ∷ tick direct
-          ∷ arrive 1 1 2
-          ∷ book 1 1 1
-          ∷ tick direct
-          ∷ tick direct
-          ∷ tick direct
-          ∷ arrive 1 1 1
-          ∷ book-rate 1 1 100000000 33333333
-          ∷ tick direct
-          ∷ arrive 1 1 2
-          ∷ tick direct
-          ∷ tick direct
-          ∷ [];
-      expected =
-          claim 1 1 1 1 0 3 1
-          ∷ claim 1 1 4 0 0 1 0
-          ∷ claim 1 1 7 0 0 3 0
-          ∷ claim 1 1 10 2 0 3 2
-          ∷ claim 1 1 13 2 0 2 2
-          ∷ [];
-    }
-
-pub agrees-56 : first-wrong list-56 ≡ 0
-unfolding first-wrong entries apply Direct.start Direct.tick Pipelined.start Pipelined.tick book-words rate-words release-words arrive-words into-frame row-sum column-sum sum least some-of word
-agrees-56 = refl
-
-abbrev list-57 : Case
-list-57 =
-    record {
-      switch =
-          record {
-            clock = clock-of 1 10001 4000000000;
-            bookings = 101 ∷ 101 ∷ 102 ∷ 3 ∷ 2 ∷ 1 ∷ 101 ∷ 3 ∷ 104 ∷ [];
-            credits = 104 ∷ 102 ∷ 7 ∷ 1 ∷ 2 ∷ 4 ∷ 101 ∷ 101 ∷ 1 ∷ [];
-            queues = 7 ∷ 2 ∷ 7 ∷ 3 ∷ 7 ∷ 1 ∷ 1 ∷ 4 ∷ 4 ∷ [];
-            copy = 102 ∷ 3 ∷ 2 ∷ 101 ∷ 104 ∷ 7 ∷ 4 ∷ 102 ∷ 7 ∷ [];
-            flight = 7 ∷ 102 ∷ 2 ∷ 1 ∷ 2 ∷ 104 ∷ 104 ∷ 7 ∷ 2 ∷ 3 ∷ 2 ∷ 2 ∷ 4 ∷ 2 ∷ 7 ∷ 103 ∷ 1 ∷ 4 ∷ [];
-          };
-      calls =
-          start pipelined 3 5
-          ∷ book-rate 3 2 100000000 20000000
-          ∷ book 1 2 2
-          ∷ book 2 2 1
-          ∷ book-rate 2 3 1000 200
-          ∷ book-rate 1 2 1 1
-          ∷ book-rate 2 1 1000 201
-          ∷ book 2 2 1
-          ∷ book 1 3 1
-          ∷ book 1 2 1
-          ∷ arrive 3 3 6
-          ∷ arrive 1 1 11
-          ∷ arrive 1 3 6
-          ∷ arrive 1 3 9
-          ∷ arrive 2 3 6
-          ∷ arrive 2 1 12
-          ∷ arrive 2 1 8
-          ∷ arrive 1 1 7
-          ∷ arrive 1 1 8
-          ∷ arrive 1 2 10
-          ∷ arrive 3 1 12
-          ∷ book 3 3 1
-          ∷ tick pipelined
-          ∷ tick pipelined
-          ∷ start pipelined 3 5
-          ∷ book-rate 3 3 1000 600
-          ∷ book-rate 3 1 1000 200
-          ∷ book 2 3 1
-          ∷ arrive 2 2 67
-          ∷ arrive 2 3 72
-          ∷ arrive 3 3 87
-          ∷ arrive 1 3 79
-          ∷ arrive 1 3 81
-          ∷ arrive 1 3 62
-          ∷ arrive 2 3 68
-          ∷ arrive 2 2 57
-          ∷ arrive 3 1 85
-          ∷ arrive 1 2 61
-          ∷ arrive 3 3 64
-          ∷ arrive 1 3 49
-          ∷ arrive 2 2 57
-          ∷ arrive 2 3 84
-          ∷ arrive 1 1 62
-          ∷ arrive 2 2 87
-          ∷ arrive 3 1 51
-          ∷ arrive 3 3 83
-          ∷ tick pipelined
-          ∷ tick pipelined
-          ∷ book 2 1 1
-          ∷ tick pipelined
-          ∷ tick pipelined
-          ∷ tick pipelined
-          ∷ book-rate 3 2 99999999 19999999
-          ∷ tick pipelined
-          ∷ book 2 3 1
-          ∷ tick pipelined
-          ∷ book 2 4 1
-          ∷ tick pipelined
-          ∷ arrive 1 3 55
-          ∷ tick pipelined
-          ∷ tick pipelined
-          ∷ tick pipelined
-          ∷ tick pipelined
-          ∷ tick pipelined
-          ∷ arrive 2 2 61
-          ∷ tick pipelined
-          ∷ arrive 3 1 77
-          ∷ arrive 3 2 83
-          ∷ tick pipelined
-          ∷ tick pipelined
-          ∷ book-rate 2 3 0 1
-          ∷ tick pipelined
-          ∷ tick pipelined
-          ∷ arrive 3 1 71
-          ∷ tick pipelined
-          ∷ [];
-      expected =
-          claim 1 1 1 0 0 0 0
-          ∷ claim 1 1 6 0 0 4 0
-          ∷ claim 1 1 11 0 1 5 0
-          ∷ claim 1 1 16 0 1 5 0
-          ∷ claim 1 2 1 0 0 0 0
-          ∷ claim 1 2 6 0 0 4 0
-          ∷ claim 1 2 11 0 0 5 0
-          ∷ claim 1 2 16 0 0 5 0
-          ∷ claim 1 3 1 0 0 0 0
-          ∷ claim 1 3 6 0 0 4 0
-          ∷ claim 1 3 11 0 3 5 0
-          ∷ claim 1 3 16 0 3 5 0
-          ∷ claim 2 1 1 0 0 0 0
-          ∷ claim 2 1 6 0 0 0 0
-          ∷ claim 2 1 11 1 0 0 0
-          ∷ claim 2 1 16 1 0 0 0
-          ∷ claim 2 2 1 0 0 0 0
-          ∷ claim 2 2 6 0 0 4 0
-          ∷ claim 2 2 11 0 1 5 0
-          ∷ claim 2 2 16 0 1 5 0
-          ∷ claim 2 3 1 0 0 0 0
-          ∷ claim 2 3 6 0 0 4 0
-          ∷ claim 2 3 11 0 4 5 0
-          ∷ claim 2 3 16 0 4 5 0
-          ∷ claim 3 1 1 0 0 0 0
-          ∷ claim 3 1 6 0 0 4 0
-          ∷ claim 3 1 11 0 4 5 0
-          ∷ claim 3 1 16 0 4 5 0
-          ∷ claim 3 2 1 0 0 0 0
-          ∷ claim 3 2 6 0 0 0 0
-          ∷ claim 3 2 11 0 3 0 0
-          ∷ claim 3 2 16 0 3 2 0
-          ∷ claim 3 3 1 0 0 0 0
-          ∷ claim 3 3 6 0 0 4 0
-          ∷ claim 3 3 11 3 0 5 3
-          ∷ claim 3 3 16 3 0 5 3
-          ∷ [];
-    }
-
-pub agrees-57 : first-wrong list-57 ≡ 0
-unfolding first-wrong entries apply Direct.start Direct.tick Pipelined.start Pipelined.tick book-words rate-words release-words arrive-words into-frame row-sum column-sum sum least some-of word
-agrees-57 = refl
-
-abbrev list-58 : Case
-list-58 =
-    record {
-      switch =
-          record {
-            clock = clock-of 2 0 5;
-            bookings = 1 ∷ 3 ∷ 7 ∷ 102 ∷ 2 ∷ 1 ∷ 1 ∷ 1 ∷ 101 ∷ [];
-            credits = 7 ∷ 3 ∷ 103 ∷ 101 ∷ 1 ∷ 3 ∷ 102 ∷ 7 ∷ 104 ∷ [];
-            queues = 102 ∷ 2 ∷ 7 ∷ 102 ∷ 104 ∷ 102 ∷ 4 ∷ 2 ∷ 1 ∷ [];
-            copy = 4 ∷ 104 ∷ 2 ∷ 2 ∷ 1 ∷ 4 ∷ 101 ∷ 3 ∷ 102 ∷ [];
-            flight = 103 ∷ 2 ∷ 2 ∷ 1 ∷ 101 ∷ 104 ∷ 1 ∷ 103 ∷ 3 ∷ 2 ∷ 1 ∷ 4 ∷ 4 ∷ 2 ∷ 101 ∷ 101 ∷ 2 ∷ 1 ∷ [];
-          };
-      calls =
-          start direct 1 2
-          ∷ book-rate 1 1 1000 500
-          ∷ arrive 1 1 64
-          ∷ arrive 1 1 48
-          ∷ tick direct
-          ∷ tick direct
-          ∷ tick direct
-          ∷ tick direct
-          ∷ tick direct
-          ∷ tick direct
-          ∷ tick direct
-          ∷ arrive 1 1 64
-          ∷ book-rate 1 1 99999999 50000000
-          ∷ tick direct
-          ∷ tick direct
-          ∷ arrive 1 1 66
-          ∷ tick direct
-          ∷ tick direct
-          ∷ tick direct
-          ∷ tick direct
-          ∷ tick direct
-          ∷ arrive 1 1 83
-          ∷ arrive 1 1 68
-          ∷ arrive 1 1 79
-          ∷ arrive 1 1 68
-          ∷ release 1 1 3
-          ∷ arrive 1 1 65536
-          ∷ tick direct
-          ∷ arrive 1 1 66
-          ∷ tick direct
-          ∷ tick direct
-          ∷ tick direct
-          ∷ tick direct
           ∷ tick direct
           ∷ [];
       expected =
@@ -5810,8 +2820,3311 @@ list-58 =
           ∷ [];
     }
 
+pub agrees-26 : first-wrong list-26 ≡ 0
+unfolding first-wrong entries apply Direct.start Direct.tick Pipelined.start Pipelined.tick book-words rate-words release-words release-rate-words arrive-words into-frame booking bookings row-sum column-sum sum least some-of word
+agrees-26 = refl
+
+abbrev list-27 : Case
+list-27 =
+    record {
+      switch =
+          record {
+            clock = clock-of 9 10001 77 1000;
+            book = book-of (101 ∷ 104 ∷ 1 ∷ 3 ∷ 104 ∷ 101 ∷ 3 ∷ 102 ∷ 101 ∷ []) (2 ∷ 1 ∷ 3 ∷ 102 ∷ 7 ∷ 2 ∷ 3 ∷ 102 ∷ 2 ∷ []);
+            credits = 104 ∷ 103 ∷ 4 ∷ 102 ∷ 101 ∷ 3 ∷ 4 ∷ 7 ∷ 1 ∷ [];
+            queues = 2 ∷ 3 ∷ 1 ∷ 104 ∷ 4 ∷ 104 ∷ 4 ∷ 2 ∷ 1 ∷ [];
+            copy = 4 ∷ 102 ∷ 2 ∷ 2 ∷ 101 ∷ 101 ∷ 1 ∷ 101 ∷ 2 ∷ [];
+            flight = 7 ∷ 3 ∷ 103 ∷ 4 ∷ 1 ∷ 104 ∷ 1 ∷ 4 ∷ 2 ∷ 7 ∷ 101 ∷ 1 ∷ 7 ∷ 104 ∷ 2 ∷ 4 ∷ 3 ∷ 102 ∷ [];
+          };
+      calls =
+          start pipelined 2 7 1000
+          ∷ book 1 1 1
+          ∷ book-rate 2 2 47
+          ∷ book-rate 2 2 47
+          ∷ book 1 1 1
+          ∷ book-rate 1 1 48
+          ∷ book-rate 1 1 47
+          ∷ book-rate 1 1 143
+          ∷ book-rate 1 1 48
+          ∷ arrive 2 1 71
+          ∷ arrive 2 1 53
+          ∷ arrive 2 2 73
+          ∷ arrive 1 2 53
+          ∷ arrive 2 2 74
+          ∷ release 1 1 1
+          ∷ tick pipelined
+          ∷ tick pipelined
+          ∷ tick pipelined
+          ∷ tick pipelined
+          ∷ book-rate 1 2 47
+          ∷ book 2 3 1
+          ∷ tick pipelined
+          ∷ book 2 1 2
+          ∷ tick pipelined
+          ∷ book-rate 2 2 95
+          ∷ tick pipelined
+          ∷ tick pipelined
+          ∷ tick pipelined
+          ∷ tick pipelined
+          ∷ arrive 2 2 75
+          ∷ release 1 1 1
+          ∷ tick pipelined
+          ∷ release-rate 1 2 47
+          ∷ arrive 2 1 45
+          ∷ release 2 1 2
+          ∷ release-rate 1 1 239
+          ∷ arrive 1 1 46
+          ∷ arrive 2 1 71
+          ∷ tick pipelined
+          ∷ tick pipelined
+          ∷ tick pipelined
+          ∷ tick pipelined
+          ∷ tick pipelined
+          ∷ tick pipelined
+          ∷ tick pipelined
+          ∷ release-rate 2 2 1001
+          ∷ arrive 1 2 69
+          ∷ tick pipelined
+          ∷ release 2 1 1
+          ∷ tick pipelined
+          ∷ tick pipelined
+          ∷ [];
+      expected =
+          claim 1 1 1 0 0 0 0
+          ∷ claim 1 1 8 3 0 0 0
+          ∷ claim 1 1 15 2 1 6 2
+          ∷ claim 1 1 22 2 0 1 1
+          ∷ claim 1 2 1 0 0 3 0
+          ∷ claim 1 2 8 0 4 7 0
+          ∷ claim 1 2 15 1 4 7 1
+          ∷ claim 1 2 22 0 4 1 0
+          ∷ claim 2 1 1 0 0 3 0
+          ∷ claim 2 1 8 0 4 7 0
+          ∷ claim 2 1 15 0 4 7 0
+          ∷ claim 2 1 22 0 4 1 0
+          ∷ claim 2 2 1 0 0 3 0
+          ∷ claim 2 2 8 1 0 7 1
+          ∷ claim 2 2 15 2 1 7 2
+          ∷ claim 2 2 22 2 0 1 1
+          ∷ [];
+    }
+
+pub agrees-27 : first-wrong list-27 ≡ 0
+unfolding first-wrong entries apply Direct.start Direct.tick Pipelined.start Pipelined.tick book-words rate-words release-words release-rate-words arrive-words into-frame booking bookings row-sum column-sum sum least some-of word
+agrees-27 = refl
+
+abbrev list-28 : Case
+list-28 =
+    record {
+      switch =
+          record {
+            clock = clock-of 9 1 5 1;
+            book = book-of (1 ∷ 1 ∷ 101 ∷ 4 ∷ 2 ∷ 2 ∷ 3 ∷ 104 ∷ 102 ∷ []) (4 ∷ 2 ∷ 1 ∷ 1 ∷ 7 ∷ 2 ∷ 2 ∷ 102 ∷ 103 ∷ []);
+            credits = 102 ∷ 2 ∷ 1 ∷ 7 ∷ 2 ∷ 7 ∷ 2 ∷ 2 ∷ 102 ∷ [];
+            queues = 4 ∷ 2 ∷ 2 ∷ 7 ∷ 2 ∷ 103 ∷ 101 ∷ 101 ∷ 2 ∷ [];
+            copy = 2 ∷ 2 ∷ 101 ∷ 103 ∷ 1 ∷ 7 ∷ 1 ∷ 1 ∷ 2 ∷ [];
+            flight = 102 ∷ 2 ∷ 1 ∷ 2 ∷ 3 ∷ 103 ∷ 1 ∷ 1 ∷ 103 ∷ 103 ∷ 104 ∷ 101 ∷ 104 ∷ 104 ∷ 4 ∷ 102 ∷ 2 ∷ 7 ∷ [];
+          };
+      calls =
+          start direct 1 5 99999999
+          ∷ book-rate 1 1 6666666
+          ∷ book-rate 1 1 13333333
+          ∷ arrive 1 1 1
+          ∷ arrive 1 1 1
+          ∷ release-rate 1 1 6666667
+          ∷ tick direct
+          ∷ tick direct
+          ∷ tick direct
+          ∷ release 1 1 1
+          ∷ book-rate 1 1 13333333
+          ∷ arrive 1 1 2
+          ∷ tick direct
+          ∷ tick direct
+          ∷ tick direct
+          ∷ tick direct
+          ∷ arrive 1 1 1
+          ∷ tick direct
+          ∷ arrive 1 0 1
+          ∷ tick direct
+          ∷ release-rate 1 1 13333333
+          ∷ tick direct
+          ∷ tick direct
+          ∷ book 1 1 1
+          ∷ tick direct
+          ∷ release 1 1 1
+          ∷ start direct 1 0 99999999
+          ∷ tick direct
+          ∷ book 1 1 1
+          ∷ arrive 1 1 2
+          ∷ tick direct
+          ∷ tick direct
+          ∷ tick direct
+          ∷ book 1 1 1
+          ∷ arrive 1 1 1
+          ∷ tick direct
+          ∷ tick direct
+          ∷ [];
+      expected =
+          claim 1 1 1 1 0 4 1
+          ∷ claim 1 1 6 2 0 1 1
+          ∷ claim 1 1 11 1 0 2 1
+          ∷ claim 1 1 16 2 0 1 1
+          ∷ [];
+    }
+
+pub agrees-28 : first-wrong list-28 ≡ 0
+unfolding first-wrong entries apply Direct.start Direct.tick Pipelined.start Pipelined.tick book-words rate-words release-words release-rate-words arrive-words into-frame booking bookings row-sum column-sum sum least some-of word
+agrees-28 = refl
+
+abbrev list-29 : Case
+list-29 =
+    record {
+      switch =
+          record {
+            clock = clock-of 2 1 0 0;
+            book = book-of (2 ∷ 2 ∷ 103 ∷ 7 ∷ 2 ∷ 1 ∷ 101 ∷ 3 ∷ 103 ∷ []) (2 ∷ 3 ∷ 2 ∷ 102 ∷ 1 ∷ 102 ∷ 7 ∷ 2 ∷ 104 ∷ []);
+            credits = 1 ∷ 103 ∷ 101 ∷ 1 ∷ 7 ∷ 3 ∷ 7 ∷ 2 ∷ 7 ∷ [];
+            queues = 1 ∷ 3 ∷ 4 ∷ 2 ∷ 3 ∷ 103 ∷ 2 ∷ 1 ∷ 2 ∷ [];
+            copy = 3 ∷ 2 ∷ 2 ∷ 104 ∷ 4 ∷ 2 ∷ 1 ∷ 7 ∷ 1 ∷ [];
+            flight = 4 ∷ 102 ∷ 104 ∷ 1 ∷ 1 ∷ 101 ∷ 1 ∷ 101 ∷ 103 ∷ 102 ∷ 104 ∷ 2 ∷ 4 ∷ 103 ∷ 2 ∷ 1 ∷ 4 ∷ 1 ∷ [];
+          };
+      calls =
+          start pipelined 1 7 7
+          ∷ book-rate 1 1 1
+          ∷ arrive 1 1 6
+          ∷ tick pipelined
+          ∷ tick pipelined
+          ∷ tick pipelined
+          ∷ tick pipelined
+          ∷ start pipelined 3 7 1000
+          ∷ book-rate 2 3 142
+          ∷ book-rate 2 3 48
+          ∷ book-rate 1 2 95
+          ∷ book-rate 1 2 142
+          ∷ book-rate 1 2 143
+          ∷ book-rate 1 2 47
+          ∷ book-rate 1 2 47
+          ∷ book-rate 1 2 96
+          ∷ book-rate 1 2 47
+          ∷ book-rate 2 1 95
+          ∷ book-rate 2 1 95
+          ∷ book-rate 2 1 95
+          ∷ book-rate 2 1 95
+          ∷ book-rate 2 1 142
+          ∷ book-rate 2 1 48
+          ∷ book-rate 2 1 95
+          ∷ book 1 2 1
+          ∷ book-rate 1 3 47
+          ∷ arrive 3 2 2
+          ∷ arrive 3 2 2
+          ∷ arrive 2 2 2
+          ∷ arrive 1 2 4
+          ∷ arrive 3 1 2
+          ∷ arrive 3 1 2
+          ∷ arrive 1 2 5
+          ∷ arrive 3 3 3
+          ∷ arrive 3 2 2
+          ∷ arrive 1 2 3
+          ∷ arrive 1 1 3
+          ∷ arrive 1 3 2
+          ∷ arrive 2 2 2
+          ∷ arrive 1 1 2
+          ∷ arrive 3 3 4
+          ∷ arrive 3 2 4
+          ∷ arrive 2 2 2
+          ∷ arrive 1 2 3
+          ∷ tick pipelined
+          ∷ arrive 2 3 4
+          ∷ tick pipelined
+          ∷ book 3 2 1
+          ∷ arrive 2 2 2
+          ∷ tick pipelined
+          ∷ tick pipelined
+          ∷ tick pipelined
+          ∷ tick pipelined
+          ∷ release-rate 2 3 143
+          ∷ tick pipelined
+          ∷ tick pipelined
+          ∷ arrive 3 1 5
+          ∷ tick pipelined
+          ∷ tick pipelined
+          ∷ tick pipelined
+          ∷ release-rate 1 2 570
+          ∷ tick pipelined
+          ∷ book-rate 1 2 47
+          ∷ start pipelined 3 7 100000001
+          ∷ arrive 1 3 3
+          ∷ start pipelined 3 7 100000001
+          ∷ tick pipelined
+          ∷ tick pipelined
+          ∷ release-rate 2 3 48
+          ∷ start pipelined 11 32 1000
+          ∷ tick pipelined
+          ∷ tick pipelined
+          ∷ tick pipelined
+          ∷ tick pipelined
+          ∷ arrive 1 3 5
+          ∷ start pipelined 3 10001 1000
+          ∷ release-rate 1 2 48
+          ∷ tick pipelined
+          ∷ arrive 3 2 3
+          ∷ tick pipelined
+          ∷ tick pipelined
+          ∷ tick pipelined
+          ∷ tick pipelined
+          ∷ arrive 3 3 2
+          ∷ arrive 4294967297 2 1
+          ∷ tick pipelined
+          ∷ [];
+      expected =
+          claim 1 1 1 0 0 1 0
+          ∷ claim 1 1 8 0 6 7 0
+          ∷ claim 1 1 15 0 6 1 0
+          ∷ claim 1 1 22 0 3 0 0
+          ∷ claim 1 2 1 0 0 1 0
+          ∷ claim 1 2 8 4 0 7 4
+          ∷ claim 1 2 15 4 0 7 4
+          ∷ claim 1 2 22 1 0 4 1
+          ∷ claim 1 3 1 0 0 1 0
+          ∷ claim 1 3 8 0 6 7 0
+          ∷ claim 1 3 15 0 5 7 0
+          ∷ claim 1 3 22 0 2 4 0
+          ∷ claim 2 1 1 0 0 0 0
+          ∷ claim 2 1 8 2 2 0 0
+          ∷ claim 2 1 15 2 1 0 0
+          ∷ claim 2 1 22 2 1 0 0
+          ∷ claim 2 2 1 0 0 1 0
+          ∷ claim 2 2 8 0 8 7 0
+          ∷ claim 2 2 15 0 7 7 0
+          ∷ claim 2 2 22 0 4 4 0
+          ∷ claim 2 3 1 0 0 1 0
+          ∷ claim 2 3 8 2 2 7 2
+          ∷ claim 2 3 15 1 2 0 0
+          ∷ claim 2 3 22 1 2 0 0
+          ∷ claim 3 1 1 0 0 1 0
+          ∷ claim 3 1 8 0 2 7 0
+          ∷ claim 3 1 15 0 2 6 0
+          ∷ claim 3 1 22 0 2 0 0
+          ∷ claim 3 2 1 0 0 1 0
+          ∷ claim 3 2 8 0 4 7 0
+          ∷ claim 3 2 15 0 4 7 0
+          ∷ claim 3 2 22 0 1 4 0
+          ∷ claim 3 3 1 0 0 1 0
+          ∷ claim 3 3 8 0 2 7 0
+          ∷ claim 3 3 15 0 1 7 0
+          ∷ claim 3 3 22 0 1 1 0
+          ∷ [];
+    }
+
+pub agrees-29 : first-wrong list-29 ≡ 0
+unfolding first-wrong entries apply Direct.start Direct.tick Pipelined.start Pipelined.tick book-words rate-words release-words release-rate-words arrive-words into-frame booking bookings row-sum column-sum sum least some-of word
+agrees-29 = refl
+
+abbrev list-30 : Case
+list-30 =
+    record {
+      switch =
+          record {
+            clock = clock-of 2 5 1 100000001;
+            book = book-of (2 ∷ 7 ∷ 101 ∷ 2 ∷ 4 ∷ 1 ∷ 7 ∷ 103 ∷ 7 ∷ []) (3 ∷ 102 ∷ 101 ∷ 102 ∷ 103 ∷ 1 ∷ 104 ∷ 1 ∷ 2 ∷ []);
+            credits = 103 ∷ 3 ∷ 103 ∷ 102 ∷ 2 ∷ 1 ∷ 103 ∷ 3 ∷ 4 ∷ [];
+            queues = 101 ∷ 104 ∷ 2 ∷ 2 ∷ 2 ∷ 103 ∷ 103 ∷ 103 ∷ 102 ∷ [];
+            copy = 103 ∷ 104 ∷ 3 ∷ 1 ∷ 7 ∷ 102 ∷ 101 ∷ 4 ∷ 7 ∷ [];
+            flight = 4 ∷ 2 ∷ 4 ∷ 103 ∷ 7 ∷ 103 ∷ 4 ∷ 7 ∷ 3 ∷ 1 ∷ 3 ∷ 102 ∷ 103 ∷ 103 ∷ 1 ∷ 4 ∷ 104 ∷ 103 ∷ [];
+          };
+      calls =
+          start direct 2 1 100000000
+          ∷ book-rate 1 1 33333334
+          ∷ book-rate 2 1 100000000
+          ∷ book-rate 2 1 66666667
+          ∷ book-rate 2 1 33333333
+          ∷ book-rate 2 1 33333333
+          ∷ book-rate 2 1 33333333
+          ∷ book-rate 2 1 33333334
+          ∷ book-rate 2 1 33333334
+          ∷ book-rate 2 1 33333333
+          ∷ book-rate 1 2 33333333
+          ∷ book-rate 1 2 33333333
+          ∷ book-rate 1 2 33333333
+          ∷ book-rate 1 2 33333333
+          ∷ arrive 2 1 87
+          ∷ arrive 2 2 72
+          ∷ arrive 2 2 68
+          ∷ arrive 1 2 81
+          ∷ arrive 1 2 76
+          ∷ arrive 1 2 46
+          ∷ arrive 1 1 56
+          ∷ tick direct
+          ∷ tick direct
+          ∷ tick direct
+          ∷ book 1 1 1
+          ∷ arrive 2 2 55
+          ∷ tick direct
+          ∷ release-rate 1 1 33333334
+          ∷ arrive 2 2 71
+          ∷ tick direct
+          ∷ tick direct
+          ∷ arrive 1 2 89
+          ∷ arrive 2 2 90
+          ∷ tick direct
+          ∷ release 2 2 1
+          ∷ tick direct
+          ∷ tick direct
+          ∷ book 2 1 0
+          ∷ tick direct
+          ∷ arrive 2 2 81
+          ∷ tick direct
+          ∷ tick direct
+          ∷ tick direct
+          ∷ arrive 2 2 90
+          ∷ tick direct
+          ∷ arrive 2 1 62
+          ∷ release 1 2 1
+          ∷ book-rate 1 1 100000001
+          ∷ book 1 2 1
+          ∷ release-rate 2 1 1
+          ∷ tick direct
+          ∷ release-rate 2 1 1
+          ∷ arrive 2 2 62
+          ∷ tick direct
+          ∷ release-rate 2 2 1
+          ∷ release 1 2 1
+          ∷ arrive 1 1 62
+          ∷ release 1 2 0
+          ∷ arrive 2 1 88
+          ∷ release-rate 2 2 1
+          ∷ tick direct
+          ∷ release-rate 2 1 1
+          ∷ tick direct
+          ∷ tick direct
+          ∷ arrive 1 1 58
+          ∷ tick direct
+          ∷ tick direct
+          ∷ [];
+      expected =
+          claim 1 1 1 1 0 1 1
+          ∷ claim 1 1 2 1 0 1 1
+          ∷ claim 1 1 3 1 0 1 1
+          ∷ claim 1 1 4 1 0 1 1
+          ∷ claim 1 1 5 0 0 1 0
+          ∷ claim 1 1 6 0 0 1 0
+          ∷ claim 1 1 7 0 0 1 0
+          ∷ claim 1 1 8 0 0 1 0
+          ∷ claim 1 1 9 0 0 1 0
+          ∷ claim 1 1 10 0 0 1 0
+          ∷ claim 1 1 11 0 0 1 0
+          ∷ claim 1 1 12 0 0 1 0
+          ∷ claim 1 1 13 0 0 1 0
+          ∷ claim 1 1 14 0 0 1 0
+          ∷ claim 1 1 15 0 1 1 0
+          ∷ claim 1 1 16 0 1 1 0
+          ∷ claim 1 1 17 0 0 1 0
+          ∷ claim 1 1 18 0 0 1 0
+          ∷ claim 1 1 19 0 0 1 0
+          ∷ claim 1 1 20 0 0 1 0
+          ∷ claim 1 1 21 0 0 1 0
+          ∷ claim 1 2 1 0 1 1 0
+          ∷ claim 1 2 2 0 1 1 0
+          ∷ claim 1 2 3 0 1 1 0
+          ∷ claim 1 2 4 0 1 1 0
+          ∷ claim 1 2 5 0 0 1 0
+          ∷ claim 1 2 6 0 0 1 0
+          ∷ claim 1 2 7 0 0 1 0
+          ∷ claim 1 2 8 0 0 1 0
+          ∷ claim 1 2 9 0 0 1 0
+          ∷ claim 1 2 10 0 0 1 0
+          ∷ claim 1 2 11 0 0 1 0
+          ∷ claim 1 2 12 0 0 1 0
+          ∷ claim 1 2 13 0 0 1 0
+          ∷ claim 1 2 14 0 0 1 0
+          ∷ claim 1 2 15 1 0 1 1
+          ∷ claim 1 2 16 1 0 1 1
+          ∷ claim 1 2 17 0 0 1 0
+          ∷ claim 1 2 18 0 0 1 0
+          ∷ claim 1 2 19 0 0 1 0
+          ∷ claim 1 2 20 0 0 1 0
+          ∷ claim 1 2 21 0 0 1 0
+          ∷ claim 2 1 1 0 1 1 0
+          ∷ claim 2 1 2 0 1 1 0
+          ∷ claim 2 1 3 0 1 1 0
+          ∷ claim 2 1 4 0 1 1 0
+          ∷ claim 2 1 5 0 0 1 0
+          ∷ claim 2 1 6 0 0 1 0
+          ∷ claim 2 1 7 0 0 1 0
+          ∷ claim 2 1 8 0 0 1 0
+          ∷ claim 2 1 9 0 0 1 0
+          ∷ claim 2 1 10 0 0 1 0
+          ∷ claim 2 1 11 0 0 1 0
+          ∷ claim 2 1 12 0 0 1 0
+          ∷ claim 2 1 13 0 0 1 0
+          ∷ claim 2 1 14 0 0 1 0
+          ∷ claim 2 1 15 0 0 1 0
+          ∷ claim 2 1 16 0 0 1 0
+          ∷ claim 2 1 17 0 0 1 0
+          ∷ claim 2 1 18 0 0 1 0
+          ∷ claim 2 1 19 0 0 1 0
+          ∷ claim 2 1 20 0 0 1 0
+          ∷ claim 2 1 21 0 0 1 0
+          ∷ claim 2 2 1 0 0 1 0
+          ∷ claim 2 2 2 0 0 1 0
+          ∷ claim 2 2 3 0 0 1 0
+          ∷ claim 2 2 4 0 0 1 0
+          ∷ claim 2 2 5 0 0 1 0
+          ∷ claim 2 2 6 0 0 1 0
+          ∷ claim 2 2 7 0 0 1 0
+          ∷ claim 2 2 8 0 0 1 0
+          ∷ claim 2 2 9 0 0 1 0
+          ∷ claim 2 2 10 0 0 1 0
+          ∷ claim 2 2 11 0 0 1 0
+          ∷ claim 2 2 12 0 0 1 0
+          ∷ claim 2 2 13 0 0 1 0
+          ∷ claim 2 2 14 0 0 1 0
+          ∷ claim 2 2 15 0 1 1 0
+          ∷ claim 2 2 16 0 1 1 0
+          ∷ claim 2 2 17 0 0 1 0
+          ∷ claim 2 2 18 0 0 1 0
+          ∷ claim 2 2 19 0 0 1 0
+          ∷ claim 2 2 20 0 0 1 0
+          ∷ claim 2 2 21 0 0 1 0
+          ∷ [];
+    }
+
+pub agrees-30 : first-wrong list-30 ≡ 0
+unfolding first-wrong entries apply Direct.start Direct.tick Pipelined.start Pipelined.tick book-words rate-words release-words release-rate-words arrive-words into-frame booking bookings row-sum column-sum sum least some-of word
+agrees-30 = refl
+
+abbrev list-31 : Case
+list-31 =
+    record {
+      switch =
+          record {
+            clock = clock-of 0 0 77 1;
+            book = book-of (2 ∷ 3 ∷ 7 ∷ 1 ∷ 102 ∷ 4 ∷ 2 ∷ 1 ∷ 3 ∷ []) (103 ∷ 104 ∷ 1 ∷ 1 ∷ 7 ∷ 1 ∷ 101 ∷ 103 ∷ 4 ∷ []);
+            credits = 3 ∷ 2 ∷ 2 ∷ 101 ∷ 101 ∷ 2 ∷ 1 ∷ 103 ∷ 3 ∷ [];
+            queues = 102 ∷ 101 ∷ 3 ∷ 1 ∷ 102 ∷ 3 ∷ 3 ∷ 3 ∷ 4 ∷ [];
+            copy = 102 ∷ 1 ∷ 104 ∷ 101 ∷ 3 ∷ 2 ∷ 1 ∷ 1 ∷ 1 ∷ [];
+            flight = 7 ∷ 3 ∷ 7 ∷ 7 ∷ 1 ∷ 101 ∷ 101 ∷ 3 ∷ 103 ∷ 2 ∷ 104 ∷ 102 ∷ 7 ∷ 103 ∷ 102 ∷ 4 ∷ 102 ∷ 1 ∷ [];
+          };
+      calls =
+          start pipelined 3 6 1000
+          ∷ book 1 2 3
+          ∷ book-rate 1 3 112
+          ∷ book-rate 1 3 111
+          ∷ book 3 1 1
+          ∷ book-rate 1 1 55
+          ∷ book-rate 1 1 111
+          ∷ arrive 1 2 84
+          ∷ arrive 2 3 62
+          ∷ arrive 2 2 57
+          ∷ arrive 3 3 90
+          ∷ arrive 1 3 47
+          ∷ book 1 2 1
+          ∷ release 3 1 1
+          ∷ tick pipelined
+          ∷ release 1 2 1
+          ∷ arrive 2 1 79
+          ∷ tick pipelined
+          ∷ tick pipelined
+          ∷ tick pipelined
+          ∷ tick pipelined
+          ∷ tick pipelined
+          ∷ tick pipelined
+          ∷ tick pipelined
+          ∷ tick pipelined
+          ∷ book-rate 3 1 55
+          ∷ tick pipelined
+          ∷ tick pipelined
+          ∷ arrive 4 1 1
+          ∷ tick pipelined
+          ∷ book 3 2 1
+          ∷ tick pipelined
+          ∷ arrive 1 3 86
+          ∷ arrive 2 2 85
+          ∷ arrive 2 3 77
+          ∷ release-rate 3 1 55
+          ∷ tick pipelined
+          ∷ tick pipelined
+          ∷ release-rate 1 2 1
+          ∷ release 3 3 0
+          ∷ release-rate 0 3 1
+          ∷ tick pipelined
+          ∷ arrive 1 2 75
+          ∷ tick pipelined
+          ∷ tick pipelined
+          ∷ tick pipelined
+          ∷ tick pipelined
+          ∷ tick pipelined
+          ∷ start pipelined 24 32 1000
+          ∷ arrive 3 1 85
+          ∷ tick pipelined
+          ∷ tick pipelined
+          ∷ [];
+      expected =
+          claim 1 1 1 0 0 0 0
+          ∷ claim 1 1 7 0 3 0 0
+          ∷ claim 1 1 13 0 2 0 0
+          ∷ claim 1 1 19 0 3 0 0
+          ∷ claim 1 2 1 0 0 0 0
+          ∷ claim 1 2 7 3 0 6 3
+          ∷ claim 1 2 13 2 0 6 2
+          ∷ claim 1 2 19 2 1 6 2
+          ∷ claim 1 3 1 0 0 0 0
+          ∷ claim 1 3 7 0 3 6 0
+          ∷ claim 1 3 13 0 2 6 0
+          ∷ claim 1 3 19 0 2 6 0
+          ∷ claim 2 1 1 0 0 0 0
+          ∷ claim 2 1 7 0 0 6 0
+          ∷ claim 2 1 13 0 0 6 0
+          ∷ claim 2 1 19 0 1 6 0
+          ∷ claim 2 2 1 0 0 0 0
+          ∷ claim 2 2 7 0 3 6 0
+          ∷ claim 2 2 13 0 2 6 0
+          ∷ claim 2 2 19 0 3 6 0
+          ∷ claim 2 3 1 0 0 0 0
+          ∷ claim 2 3 7 0 0 6 0
+          ∷ claim 2 3 13 0 0 6 0
+          ∷ claim 2 3 19 0 0 6 0
+          ∷ claim 3 1 1 0 0 0 0
+          ∷ claim 3 1 7 0 0 0 0
+          ∷ claim 3 1 13 0 0 0 0
+          ∷ claim 3 1 19 1 1 0 0
+          ∷ claim 3 2 1 0 0 0 0
+          ∷ claim 3 2 7 0 3 0 0
+          ∷ claim 3 2 13 0 2 0 0
+          ∷ claim 3 2 19 1 3 0 0
+          ∷ claim 3 3 1 0 0 0 0
+          ∷ claim 3 3 7 0 0 6 0
+          ∷ claim 3 3 13 0 0 6 0
+          ∷ claim 3 3 19 0 2 6 0
+          ∷ [];
+    }
+
+pub agrees-31 : first-wrong list-31 ≡ 0
+unfolding first-wrong entries apply Direct.start Direct.tick Pipelined.start Pipelined.tick book-words rate-words release-words release-rate-words arrive-words into-frame booking bookings row-sum column-sum sum least some-of word
+agrees-31 = refl
+
+abbrev list-32 : Case
+list-32 =
+    record {
+      switch =
+          record {
+            clock = clock-of 1 2 4000000000 100000001;
+            book = book-of (101 ∷ 103 ∷ 4 ∷ 4 ∷ 3 ∷ 2 ∷ 1 ∷ 2 ∷ 2 ∷ []) (103 ∷ 102 ∷ 3 ∷ 2 ∷ 1 ∷ 4 ∷ 102 ∷ 2 ∷ 3 ∷ []);
+            credits = 7 ∷ 2 ∷ 103 ∷ 2 ∷ 2 ∷ 2 ∷ 104 ∷ 2 ∷ 101 ∷ [];
+            queues = 101 ∷ 101 ∷ 4 ∷ 102 ∷ 103 ∷ 4 ∷ 101 ∷ 3 ∷ 101 ∷ [];
+            copy = 101 ∷ 3 ∷ 101 ∷ 2 ∷ 2 ∷ 102 ∷ 1 ∷ 2 ∷ 4 ∷ [];
+            flight = 7 ∷ 2 ∷ 1 ∷ 101 ∷ 2 ∷ 104 ∷ 4 ∷ 3 ∷ 4 ∷ 102 ∷ 2 ∷ 103 ∷ 102 ∷ 7 ∷ 7 ∷ 102 ∷ 102 ∷ 1 ∷ [];
+          };
+      calls =
+          start direct 1 4 100000000
+          ∷ book-rate 1 1 25000000
+          ∷ book-rate 1 1 25000000
+          ∷ arrive 1 1 11
+          ∷ tick direct
+          ∷ tick direct
+          ∷ release 1 1 1
+          ∷ release-rate 1 1 8333334
+          ∷ tick direct
+          ∷ start direct 1 10001 100000000
+          ∷ tick direct
+          ∷ tick direct
+          ∷ arrive 1 1 12
+          ∷ release 1 1 1
+          ∷ tick direct
+          ∷ tick direct
+          ∷ tick direct
+          ∷ release-rate 1 1 8333334
+          ∷ tick direct
+          ∷ tick direct
+          ∷ tick direct
+          ∷ release-rate 1 1 8333333
+          ∷ release-rate 1 1 8333334
+          ∷ tick direct
+          ∷ [];
+      expected =
+          claim 1 1 1 2 0 4 2
+          ∷ claim 1 1 5 2 0 4 2
+          ∷ claim 1 1 9 2 0 4 2
+          ∷ [];
+    }
+
+pub agrees-32 : first-wrong list-32 ≡ 0
+unfolding first-wrong entries apply Direct.start Direct.tick Pipelined.start Pipelined.tick book-words rate-words release-words release-rate-words arrive-words into-frame booking bookings row-sum column-sum sum least some-of word
+agrees-32 = refl
+
+abbrev list-33 : Case
+list-33 =
+    record {
+      switch =
+          record {
+            clock = clock-of 0 5 77 100000001;
+            book = book-of (102 ∷ 1 ∷ 7 ∷ 104 ∷ 1 ∷ 2 ∷ 103 ∷ 102 ∷ 2 ∷ []) (1 ∷ 101 ∷ 3 ∷ 4 ∷ 102 ∷ 102 ∷ 2 ∷ 1 ∷ 1 ∷ []);
+            credits = 4 ∷ 103 ∷ 1 ∷ 3 ∷ 1 ∷ 2 ∷ 7 ∷ 2 ∷ 1 ∷ [];
+            queues = 103 ∷ 7 ∷ 2 ∷ 103 ∷ 4 ∷ 104 ∷ 2 ∷ 103 ∷ 104 ∷ [];
+            copy = 102 ∷ 102 ∷ 2 ∷ 101 ∷ 2 ∷ 2 ∷ 102 ∷ 2 ∷ 3 ∷ [];
+            flight = 102 ∷ 7 ∷ 103 ∷ 103 ∷ 104 ∷ 102 ∷ 3 ∷ 3 ∷ 1 ∷ 2 ∷ 1 ∷ 101 ∷ 2 ∷ 2 ∷ 3 ∷ 1 ∷ 103 ∷ 104 ∷ [];
+          };
+      calls =
+          start pipelined 2 5 1000
+          ∷ book-rate 2 2 66
+          ∷ book-rate 2 2 66
+          ∷ book 2 1 1
+          ∷ book-rate 1 1 134
+          ∷ book-rate 1 1 201
+          ∷ arrive 2 2 46
+          ∷ arrive 2 1 59
+          ∷ arrive 1 2 70
+          ∷ arrive 1 2 83
+          ∷ arrive 1 1 88
+          ∷ tick pipelined
+          ∷ tick pipelined
+          ∷ release-rate 2 2 67
+          ∷ tick pipelined
+          ∷ arrive 1 1 69
+          ∷ tick pipelined
+          ∷ tick pipelined
+          ∷ tick pipelined
+          ∷ tick pipelined
+          ∷ arrive 2 1 73
+          ∷ tick pipelined
+          ∷ tick pipelined
+          ∷ arrive 2 2 59
+          ∷ tick pipelined
+          ∷ arrive 2 2 82
+          ∷ release 2 3 1
+          ∷ tick pipelined
+          ∷ book-rate 1 1 66
+          ∷ release-rate 1 1 67
+          ∷ book 2 1 1
+          ∷ tick pipelined
+          ∷ arrive 2 2 53
+          ∷ tick pipelined
+          ∷ book 2 1 1
+          ∷ tick pipelined
+          ∷ [];
+      expected =
+          claim 1 1 1 0 0 1 0
+          ∷ claim 1 1 6 2 1 5 2
+          ∷ claim 1 1 11 2 1 5 2
+          ∷ claim 1 2 1 0 0 1 0
+          ∷ claim 1 2 6 0 3 5 0
+          ∷ claim 1 2 11 0 3 5 0
+          ∷ claim 2 1 1 0 0 1 0
+          ∷ claim 2 1 6 1 3 5 1
+          ∷ claim 2 1 11 1 3 5 1
+          ∷ claim 2 2 1 0 0 1 0
+          ∷ claim 2 2 6 1 1 5 1
+          ∷ claim 2 2 11 1 1 5 1
+          ∷ [];
+    }
+
+pub agrees-33 : first-wrong list-33 ≡ 0
+unfolding first-wrong entries apply Direct.start Direct.tick Pipelined.start Pipelined.tick book-words rate-words release-words release-rate-words arrive-words into-frame booking bookings row-sum column-sum sum least some-of word
+agrees-33 = refl
+
+abbrev list-34 : Case
+list-34 =
+    record {
+      switch =
+          record {
+            clock = clock-of 33 5 5 100000001;
+            book = book-of (1 ∷ 4 ∷ 1 ∷ 2 ∷ 2 ∷ 104 ∷ 102 ∷ 3 ∷ 2 ∷ []) (3 ∷ 101 ∷ 2 ∷ 101 ∷ 7 ∷ 102 ∷ 101 ∷ 3 ∷ 104 ∷ []);
+            credits = 103 ∷ 104 ∷ 2 ∷ 3 ∷ 3 ∷ 1 ∷ 4 ∷ 101 ∷ 2 ∷ [];
+            queues = 1 ∷ 101 ∷ 1 ∷ 2 ∷ 3 ∷ 101 ∷ 2 ∷ 1 ∷ 1 ∷ [];
+            copy = 7 ∷ 1 ∷ 1 ∷ 3 ∷ 7 ∷ 3 ∷ 2 ∷ 1 ∷ 4 ∷ [];
+            flight = 1 ∷ 103 ∷ 7 ∷ 4 ∷ 101 ∷ 2 ∷ 1 ∷ 2 ∷ 1 ∷ 102 ∷ 2 ∷ 104 ∷ 102 ∷ 2 ∷ 2 ∷ 102 ∷ 104 ∷ 1 ∷ [];
+          };
+      calls =
+          start direct 3 7 1000
+          ∷ book 3 3 1
+          ∷ book 3 2 1
+          ∷ book-rate 2 1 48
+          ∷ book-rate 2 1 48
+          ∷ book-rate 2 1 47
+          ∷ book-rate 2 1 95
+          ∷ book-rate 2 1 95
+          ∷ book-rate 2 1 47
+          ∷ book-rate 2 1 47
+          ∷ book-rate 2 1 96
+          ∷ book-rate 2 1 47
+          ∷ book-rate 2 1 47
+          ∷ book-rate 2 1 48
+          ∷ book-rate 3 1 47
+          ∷ book-rate 3 1 47
+          ∷ book-rate 3 1 96
+          ∷ book-rate 3 1 142
+          ∷ book 1 1 1
+          ∷ arrive 3 2 2
+          ∷ arrive 1 1 2
+          ∷ arrive 3 3 4
+          ∷ book 3 3 1
+          ∷ arrive 1 1 4
+          ∷ tick direct
+          ∷ tick direct
+          ∷ tick direct
+          ∷ release-rate 2 1 47
+          ∷ arrive 3 1 3
+          ∷ arrive 3 1 4
+          ∷ tick direct
+          ∷ arrive 3 1 2
+          ∷ arrive 3 1 4
+          ∷ tick direct
+          ∷ tick direct
+          ∷ tick direct
+          ∷ book 1 2 1
+          ∷ tick direct
+          ∷ arrive 3 3 3
+          ∷ arrive 2 2 3
+          ∷ tick direct
+          ∷ book-rate 1 3 47
+          ∷ release-rate 2 1 47
+          ∷ tick direct
+          ∷ [];
+      expected =
+          claim 1 1 1 0 4 6 0
+          ∷ claim 1 1 8 0 5 0 0
+          ∷ claim 1 2 1 0 1 0 0
+          ∷ claim 1 2 8 1 1 0 0
+          ∷ claim 1 3 1 0 2 0 0
+          ∷ claim 1 3 8 0 3 0 0
+          ∷ claim 2 1 1 4 0 0 0
+          ∷ claim 2 1 8 4 0 0 0
+          ∷ claim 2 2 1 0 5 0 0
+          ∷ claim 2 2 8 0 6 2 0
+          ∷ claim 2 3 1 0 6 0 0
+          ∷ claim 2 3 8 0 6 0 0
+          ∷ claim 3 1 1 0 7 4 0
+          ∷ claim 3 1 8 0 7 3 0
+          ∷ claim 3 2 1 1 2 4 1
+          ∷ claim 3 2 8 1 3 0 0
+          ∷ claim 3 3 1 2 1 6 2
+          ∷ claim 3 3 8 2 1 2 2
+          ∷ [];
+    }
+
+pub agrees-34 : first-wrong list-34 ≡ 0
+unfolding first-wrong entries apply Direct.start Direct.tick Pipelined.start Pipelined.tick book-words rate-words release-words release-rate-words arrive-words into-frame booking bookings row-sum column-sum sum least some-of word
+agrees-34 = refl
+
+abbrev list-35 : Case
+list-35 =
+    record {
+      switch =
+          record {
+            clock = clock-of 3 10001 5 1;
+            book = book-of (104 ∷ 1 ∷ 101 ∷ 1 ∷ 1 ∷ 7 ∷ 4 ∷ 102 ∷ 2 ∷ []) (2 ∷ 102 ∷ 7 ∷ 101 ∷ 104 ∷ 7 ∷ 1 ∷ 1 ∷ 102 ∷ []);
+            credits = 1 ∷ 2 ∷ 101 ∷ 102 ∷ 102 ∷ 2 ∷ 1 ∷ 3 ∷ 1 ∷ [];
+            queues = 104 ∷ 7 ∷ 1 ∷ 101 ∷ 103 ∷ 1 ∷ 101 ∷ 2 ∷ 1 ∷ [];
+            copy = 2 ∷ 1 ∷ 2 ∷ 3 ∷ 2 ∷ 1 ∷ 104 ∷ 1 ∷ 3 ∷ [];
+            flight = 2 ∷ 2 ∷ 4 ∷ 101 ∷ 2 ∷ 102 ∷ 3 ∷ 4 ∷ 4 ∷ 1 ∷ 103 ∷ 103 ∷ 101 ∷ 101 ∷ 2 ∷ 4 ∷ 2 ∷ 7 ∷ [];
+          };
+      calls =
+          start pipelined 3 3 100000000
+          ∷ book 1 2 1
+          ∷ book-rate 2 1 11111111
+          ∷ book-rate 2 1 33333334
+          ∷ book-rate 2 1 33333333
+          ∷ book-rate 2 1 22222223
+          ∷ book-rate 3 3 11111111
+          ∷ book-rate 3 3 33333334
+          ∷ book-rate 3 3 11111111
+          ∷ book-rate 3 3 11111112
+          ∷ book-rate 2 2 11111111
+          ∷ book-rate 2 2 11111111
+          ∷ book-rate 2 2 11111111
+          ∷ book-rate 2 2 22222222
+          ∷ arrive 1 1 80
+          ∷ arrive 3 1 88
+          ∷ arrive 3 2 76
+          ∷ arrive 3 1 66
+          ∷ arrive 3 2 70
+          ∷ arrive 3 3 59
+          ∷ arrive 2 3 61
+          ∷ arrive 3 3 80
+          ∷ arrive 3 1 69
+          ∷ arrive 3 1 57
+          ∷ arrive 1 3 78
+          ∷ arrive 2 3 48
+          ∷ arrive 1 1 83
+          ∷ tick pipelined
+          ∷ tick pipelined
+          ∷ tick pipelined
+          ∷ arrive 2 2 89
+          ∷ tick pipelined
+          ∷ tick pipelined
+          ∷ tick pipelined
+          ∷ book-rate 2 2 11111111
+          ∷ release-rate 3 2 0
+          ∷ tick pipelined
+          ∷ tick pipelined
+          ∷ release 1 2 0
+          ∷ book 2 2 1
+          ∷ tick pipelined
+          ∷ release-rate 3 3 11111111
+          ∷ arrive 3 3 71
+          ∷ release-rate 3 3 44444446
+          ∷ tick pipelined
+          ∷ arrive 2 2 85
+          ∷ tick pipelined
+          ∷ tick pipelined
+          ∷ arrive 2 3 46
+          ∷ book 2 3 1
+          ∷ book-rate 2 3 11111111
+          ∷ tick pipelined
+          ∷ start pipelined 21 32 100000000
+          ∷ tick pipelined
+          ∷ arrive 1 1 64
+          ∷ release-rate 3 3 44444446
+          ∷ arrive 3 2 87
+          ∷ tick pipelined
+          ∷ tick pipelined
+          ∷ tick pipelined
+          ∷ [];
+      expected =
+          claim 1 1 1 0 0 0 0
+          ∷ claim 1 1 4 0 0 0 0
+          ∷ claim 1 1 7 0 3 3 0
+          ∷ claim 1 1 10 0 3 3 0
+          ∷ claim 1 1 13 0 3 3 0
+          ∷ claim 1 1 16 0 3 3 0
+          ∷ claim 1 2 1 0 0 0 0
+          ∷ claim 1 2 4 0 0 0 0
+          ∷ claim 1 2 7 1 0 0 0
+          ∷ claim 1 2 10 1 0 0 0
+          ∷ claim 1 2 13 1 0 0 0
+          ∷ claim 1 2 16 1 0 0 0
+          ∷ claim 1 3 1 0 0 0 0
+          ∷ claim 1 3 4 0 0 0 0
+          ∷ claim 1 3 7 0 3 3 0
+          ∷ claim 1 3 10 0 3 3 0
+          ∷ claim 1 3 13 0 3 3 0
+          ∷ claim 1 3 16 0 3 3 0
+          ∷ claim 2 1 1 0 0 0 0
+          ∷ claim 2 1 4 0 0 0 0
+          ∷ claim 2 1 7 2 0 0 0
+          ∷ claim 2 1 10 2 0 0 0
+          ∷ claim 2 1 13 2 0 0 0
+          ∷ claim 2 1 16 2 0 0 0
+          ∷ claim 2 2 1 0 0 0 0
+          ∷ claim 2 2 4 0 0 0 0
+          ∷ claim 2 2 7 0 3 1 0
+          ∷ claim 2 2 10 0 3 3 0
+          ∷ claim 2 2 13 0 3 3 0
+          ∷ claim 2 2 16 0 3 3 0
+          ∷ claim 2 3 1 0 0 0 0
+          ∷ claim 2 3 4 0 0 0 0
+          ∷ claim 2 3 7 0 4 3 0
+          ∷ claim 2 3 10 0 4 3 0
+          ∷ claim 2 3 13 0 4 3 0
+          ∷ claim 2 3 16 0 4 3 0
+          ∷ claim 3 1 1 0 0 0 0
+          ∷ claim 3 1 4 0 0 0 0
+          ∷ claim 3 1 7 0 4 3 0
+          ∷ claim 3 1 10 0 4 3 0
+          ∷ claim 3 1 13 0 4 3 0
+          ∷ claim 3 1 16 0 4 3 0
+          ∷ claim 3 2 1 0 0 0 0
+          ∷ claim 3 2 4 0 0 0 0
+          ∷ claim 3 2 7 0 3 3 0
+          ∷ claim 3 2 10 0 3 3 0
+          ∷ claim 3 2 13 0 3 3 0
+          ∷ claim 3 2 16 0 3 3 0
+          ∷ claim 3 3 1 0 0 0 0
+          ∷ claim 3 3 4 0 0 0 0
+          ∷ claim 3 3 7 2 0 3 2
+          ∷ claim 3 3 10 2 0 3 2
+          ∷ claim 3 3 13 2 0 3 2
+          ∷ claim 3 3 16 2 0 3 2
+          ∷ [];
+    }
+
+pub agrees-35 : first-wrong list-35 ≡ 0
+unfolding first-wrong entries apply Direct.start Direct.tick Pipelined.start Pipelined.tick book-words rate-words release-words release-rate-words arrive-words into-frame booking bookings row-sum column-sum sum least some-of word
+agrees-35 = refl
+
+abbrev list-36 : Case
+list-36 =
+    record {
+      switch =
+          record {
+            clock = clock-of 33 5 1 0;
+            book = book-of (1 ∷ 3 ∷ 101 ∷ 2 ∷ 101 ∷ 7 ∷ 7 ∷ 104 ∷ 7 ∷ []) (103 ∷ 3 ∷ 104 ∷ 2 ∷ 7 ∷ 4 ∷ 2 ∷ 4 ∷ 7 ∷ []);
+            credits = 103 ∷ 1 ∷ 104 ∷ 102 ∷ 1 ∷ 104 ∷ 3 ∷ 2 ∷ 1 ∷ [];
+            queues = 101 ∷ 2 ∷ 103 ∷ 7 ∷ 102 ∷ 4 ∷ 3 ∷ 103 ∷ 104 ∷ [];
+            copy = 104 ∷ 101 ∷ 4 ∷ 101 ∷ 102 ∷ 2 ∷ 2 ∷ 103 ∷ 7 ∷ [];
+            flight = 104 ∷ 4 ∷ 4 ∷ 103 ∷ 7 ∷ 101 ∷ 3 ∷ 2 ∷ 103 ∷ 4 ∷ 3 ∷ 102 ∷ 1 ∷ 2 ∷ 2 ∷ 101 ∷ 3 ∷ 4 ∷ [];
+          };
+      calls =
+          start direct 3 3 100000000
+          ∷ book 2 2 1
+          ∷ book-rate 2 3 11111111
+          ∷ book 2 1 1
+          ∷ book-rate 2 2 11111111
+          ∷ book-rate 2 2 11111111
+          ∷ book-rate 1 3 22222223
+          ∷ arrive 2 2 6
+          ∷ arrive 1 2 12
+          ∷ arrive 3 3 11
+          ∷ arrive 2 3 9
+          ∷ arrive 2 2 6
+          ∷ arrive 3 2 9
+          ∷ arrive 3 3 11
+          ∷ arrive 3 1 12
+          ∷ arrive 2 3 9
+          ∷ arrive 3 1 12
+          ∷ arrive 2 1 8
+          ∷ tick direct
+          ∷ tick direct
+          ∷ book-rate 1 3 22222222
+          ∷ tick direct
+          ∷ start direct 3 7 100000000
+          ∷ book 2 2 1
+          ∷ book-rate 2 2 4761905
+          ∷ book-rate 2 2 14285714
+          ∷ book-rate 2 2 4761904
+          ∷ book-rate 2 2 14285714
+          ∷ book 1 2 4
+          ∷ book-rate 1 3 4761904
+          ∷ book-rate 3 1 14285714
+          ∷ book-rate 3 1 4761904
+          ∷ book-rate 3 1 14285714
+          ∷ book-rate 3 1 14285715
+          ∷ book-rate 2 3 14285715
+          ∷ book-rate 1 2 4761905
+          ∷ book-rate 1 2 4761905
+          ∷ arrive 2 3 1
+          ∷ arrive 2 1 2
+          ∷ arrive 3 1 1
+          ∷ arrive 1 2 1
+          ∷ arrive 1 2 2
+          ∷ arrive 2 2 2
+          ∷ arrive 1 3 1
+          ∷ arrive 2 2 2
+          ∷ arrive 1 1 2
+          ∷ release-rate 3 1 4761904
+          ∷ book 2 2 1
+          ∷ arrive 2 3 1
+          ∷ start direct 33 7 100000000
+          ∷ tick direct
+          ∷ arrive 3 2 2
+          ∷ arrive 3 3 1
+          ∷ book 3 3 4
+          ∷ tick direct
+          ∷ arrive 3 3 1
+          ∷ tick direct
+          ∷ tick direct
+          ∷ tick direct
+          ∷ tick direct
+          ∷ release-rate 3 1 42857143
+          ∷ tick direct
+          ∷ arrive 1 0 1
+          ∷ tick direct
+          ∷ tick direct
+          ∷ tick direct
+          ∷ release-rate 4294967297 2 1
+          ∷ start direct 3 10001 100000000
+          ∷ book 2 3 1
+          ∷ tick direct
+          ∷ book 3 3 1
+          ∷ release-rate 1 3 4761904
+          ∷ tick direct
+          ∷ tick direct
+          ∷ tick direct
+          ∷ [];
+      expected =
+          claim 1 1 1 0 5 3 0
+          ∷ claim 1 1 8 0 1 0 0
+          ∷ claim 1 2 1 0 5 7 0
+          ∷ claim 1 2 8 0 5 0 0
+          ∷ claim 1 3 1 1 0 1 1
+          ∷ claim 1 3 8 1 0 0 0
+          ∷ claim 2 1 1 0 8 6 0
+          ∷ claim 2 1 8 0 4 0 0
+          ∷ claim 2 2 1 4 0 4 4
+          ∷ claim 2 2 8 4 0 0 0
+          ∷ claim 2 3 1 0 5 7 0
+          ∷ claim 2 3 8 0 5 1 0
+          ∷ claim 3 1 1 4 0 1 1
+          ∷ claim 3 1 8 0 0 0 0
+          ∷ claim 3 2 1 0 8 6 0
+          ∷ claim 3 2 8 0 4 2 0
+          ∷ claim 3 3 1 0 5 2 0
+          ∷ claim 3 3 8 0 1 0 0
+          ∷ [];
+    }
+
+pub agrees-36 : first-wrong list-36 ≡ 0
+unfolding first-wrong entries apply Direct.start Direct.tick Pipelined.start Pipelined.tick book-words rate-words release-words release-rate-words arrive-words into-frame booking bookings row-sum column-sum sum least some-of word
+agrees-36 = refl
+
+abbrev list-37 : Case
+list-37 =
+    record {
+      switch =
+          record {
+            clock = clock-of 33 2 1 1;
+            book = book-of (2 ∷ 4 ∷ 3 ∷ 7 ∷ 103 ∷ 2 ∷ 2 ∷ 3 ∷ 102 ∷ []) (7 ∷ 1 ∷ 1 ∷ 1 ∷ 7 ∷ 1 ∷ 103 ∷ 2 ∷ 1 ∷ []);
+            credits = 103 ∷ 102 ∷ 104 ∷ 103 ∷ 4 ∷ 2 ∷ 3 ∷ 2 ∷ 1 ∷ [];
+            queues = 7 ∷ 4 ∷ 2 ∷ 7 ∷ 103 ∷ 104 ∷ 2 ∷ 2 ∷ 104 ∷ [];
+            copy = 3 ∷ 2 ∷ 4 ∷ 104 ∷ 2 ∷ 1 ∷ 104 ∷ 102 ∷ 102 ∷ [];
+            flight = 104 ∷ 4 ∷ 2 ∷ 104 ∷ 4 ∷ 2 ∷ 101 ∷ 4 ∷ 101 ∷ 101 ∷ 4 ∷ 4 ∷ 4 ∷ 2 ∷ 101 ∷ 102 ∷ 3 ∷ 101 ∷ [];
+          };
+      calls =
+          start pipelined 2 7 0
+          ∷ book-rate 2 2 1
+          ∷ book-rate 2 1 1
+          ∷ book-rate 2 1 1
+          ∷ book-rate 2 1 1
+          ∷ arrive 2 1 4
+          ∷ arrive 2 2 5
+          ∷ arrive 2 1 4
+          ∷ arrive 2 2 4
+          ∷ arrive 1 1 2
+          ∷ arrive 2 1 4
+          ∷ tick pipelined
+          ∷ arrive 2 2 2
+          ∷ release 1 1 1
+          ∷ release-rate 2 1 1
+          ∷ release 1 2 1
+          ∷ tick pipelined
+          ∷ tick pipelined
+          ∷ tick pipelined
+          ∷ start pipelined 3 7 7
+          ∷ book 3 1 1
+          ∷ book-rate 1 2 1
+          ∷ book 2 1 1
+          ∷ book-rate 1 2 1
+          ∷ book-rate 1 2 1
+          ∷ book-rate 1 2 1
+          ∷ book 3 2 1
+          ∷ book-rate 1 2 1
+          ∷ book-rate 1 2 1
+          ∷ arrive 2 1 3
+          ∷ arrive 1 1 3
+          ∷ arrive 2 2 3
+          ∷ tick pipelined
+          ∷ book-rate 2 1 1
+          ∷ release-rate 3 4294967297 1
+          ∷ tick pipelined
+          ∷ start pipelined 3 0 7
+          ∷ arrive 1 3 65536
+          ∷ tick pipelined
+          ∷ tick pipelined
+          ∷ tick pipelined
+          ∷ tick pipelined
+          ∷ release 2 1 1
+          ∷ tick pipelined
+          ∷ tick pipelined
+          ∷ tick pipelined
+          ∷ release 2 3 8
+          ∷ tick pipelined
+          ∷ release 3 1 3
+          ∷ tick pipelined
+          ∷ release 3 1 1
+          ∷ tick pipelined
+          ∷ book 4294967297 1 1
+          ∷ release-rate 1 3 1
+          ∷ tick pipelined
+          ∷ release 1 2 1
+          ∷ tick pipelined
+          ∷ tick pipelined
+          ∷ tick pipelined
+          ∷ book 1 0 1
+          ∷ tick pipelined
+          ∷ tick pipelined
+          ∷ book-rate 3 1 1
+          ∷ release-rate 3 1 1
+          ∷ tick pipelined
+          ∷ [];
+      expected =
+          claim 1 1 1 0 0 1 0
+          ∷ claim 1 1 8 0 7 2 0
+          ∷ claim 1 1 15 0 6 0 0
+          ∷ claim 1 2 1 0 0 0 0
+          ∷ claim 1 2 8 4 0 0 0
+          ∷ claim 1 2 15 4 0 0 0
+          ∷ claim 1 3 1 0 0 0 0
+          ∷ claim 1 3 8 0 4 0 0
+          ∷ claim 1 3 15 0 4 0 0
+          ∷ claim 2 1 1 0 0 1 0
+          ∷ claim 2 1 8 2 1 3 2
+          ∷ claim 2 1 15 1 1 0 0
+          ∷ claim 2 2 1 0 0 1 0
+          ∷ claim 2 2 8 0 6 2 0
+          ∷ claim 2 2 15 0 5 0 0
+          ∷ claim 2 3 1 0 0 0 0
+          ∷ claim 2 3 8 0 2 0 0
+          ∷ claim 2 3 15 0 1 0 0
+          ∷ claim 3 1 1 0 0 0 0
+          ∷ claim 3 1 8 1 2 0 0
+          ∷ claim 3 1 15 1 1 0 0
+          ∷ claim 3 2 1 0 0 0 0
+          ∷ claim 3 2 8 0 5 0 0
+          ∷ claim 3 2 15 0 5 0 0
+          ∷ claim 3 3 1 0 0 0 0
+          ∷ claim 3 3 8 0 1 0 0
+          ∷ claim 3 3 15 0 1 0 0
+          ∷ [];
+    }
+
+pub agrees-37 : first-wrong list-37 ≡ 0
+unfolding first-wrong entries apply Direct.start Direct.tick Pipelined.start Pipelined.tick book-words rate-words release-words release-rate-words arrive-words into-frame booking bookings row-sum column-sum sum least some-of word
+agrees-37 = refl
+
+abbrev list-38 : Case
+list-38 =
+    record {
+      switch =
+          record {
+            clock = clock-of 0 1 5 1;
+            book = book-of (2 ∷ 2 ∷ 103 ∷ 102 ∷ 2 ∷ 103 ∷ 101 ∷ 1 ∷ 2 ∷ []) (1 ∷ 2 ∷ 1 ∷ 1 ∷ 103 ∷ 102 ∷ 3 ∷ 102 ∷ 2 ∷ []);
+            credits = 4 ∷ 4 ∷ 1 ∷ 1 ∷ 104 ∷ 4 ∷ 2 ∷ 4 ∷ 102 ∷ [];
+            queues = 3 ∷ 4 ∷ 7 ∷ 4 ∷ 7 ∷ 103 ∷ 103 ∷ 2 ∷ 102 ∷ [];
+            copy = 104 ∷ 101 ∷ 7 ∷ 1 ∷ 7 ∷ 103 ∷ 101 ∷ 4 ∷ 4 ∷ [];
+            flight = 3 ∷ 4 ∷ 103 ∷ 102 ∷ 104 ∷ 2 ∷ 2 ∷ 1 ∷ 7 ∷ 3 ∷ 2 ∷ 104 ∷ 2 ∷ 1 ∷ 2 ∷ 2 ∷ 7 ∷ 3 ∷ [];
+          };
+      calls =
+          start direct 3 3 7
+          ∷ book 1 3 2
+          ∷ book-rate 2 2 2
+          ∷ book-rate 2 2 1
+          ∷ book-rate 2 2 1
+          ∷ book-rate 1 1 3
+          ∷ book-rate 1 1 1
+          ∷ book-rate 3 3 1
+          ∷ book-rate 3 3 1
+          ∷ book-rate 3 3 1
+          ∷ book-rate 3 3 2
+          ∷ book-rate 3 1 2
+          ∷ book 2 3 1
+          ∷ book-rate 3 3 1
+          ∷ book-rate 3 3 2
+          ∷ book-rate 3 3 1
+          ∷ book-rate 3 3 1
+          ∷ book-rate 3 3 1
+          ∷ book-rate 1 2 1
+          ∷ book-rate 1 2 1
+          ∷ book-rate 1 2 1
+          ∷ book-rate 1 2 1
+          ∷ arrive 2 1 6
+          ∷ arrive 2 2 12
+          ∷ arrive 2 2 10
+          ∷ arrive 3 3 11
+          ∷ tick direct
+          ∷ tick direct
+          ∷ tick direct
+          ∷ arrive 3 3 11
+          ∷ arrive 1 3 7
+          ∷ tick direct
+          ∷ tick direct
+          ∷ arrive 1 2 6
+          ∷ arrive 3 2 8
+          ∷ arrive 1 1 8
+          ∷ tick direct
+          ∷ release-rate 3 1 1
+          ∷ tick direct
+          ∷ arrive 1 3 8
+          ∷ arrive 2 1 12
+          ∷ release-rate 2 2 1
+          ∷ tick direct
+          ∷ tick direct
+          ∷ tick direct
+          ∷ release-rate 2 4 1
+          ∷ tick direct
+          ∷ tick direct
+          ∷ arrive 1 1 9
+          ∷ tick direct
+          ∷ tick direct
+          ∷ release-rate 3 1 1
+          ∷ tick direct
+          ∷ tick direct
+          ∷ tick direct
+          ∷ release-rate 2 2 3
+          ∷ release-rate 2 3 1
+          ∷ tick direct
+          ∷ book-rate 3 2 1
+          ∷ arrive 1 3 7
+          ∷ tick direct
+          ∷ tick direct
+          ∷ [];
+      expected =
+          claim 1 1 1 0 3 0 0
+          ∷ claim 1 1 4 0 3 1 0
+          ∷ claim 1 1 7 0 3 3 0
+          ∷ claim 1 1 10 0 3 3 0
+          ∷ claim 1 1 13 0 3 3 0
+          ∷ claim 1 1 16 0 2 3 0
+          ∷ claim 1 1 19 0 2 2 0
+          ∷ claim 1 2 1 0 4 0 0
+          ∷ claim 1 2 4 0 4 1 0
+          ∷ claim 1 2 7 0 4 3 0
+          ∷ claim 1 2 10 0 4 3 0
+          ∷ claim 1 2 13 0 4 3 0
+          ∷ claim 1 2 16 0 4 3 0
+          ∷ claim 1 2 19 0 3 2 0
+          ∷ claim 1 3 1 2 0 0 0
+          ∷ claim 1 3 4 2 0 3 2
+          ∷ claim 1 3 7 2 0 3 2
+          ∷ claim 1 3 10 2 0 3 2
+          ∷ claim 1 3 13 2 0 3 2
+          ∷ claim 1 3 16 2 0 3 2
+          ∷ claim 1 3 19 2 0 2 2
+          ∷ claim 2 1 1 0 3 3 0
+          ∷ claim 2 1 4 0 3 3 0
+          ∷ claim 2 1 7 0 3 3 0
+          ∷ claim 2 1 10 0 3 3 0
+          ∷ claim 2 1 13 0 3 3 0
+          ∷ claim 2 1 16 0 2 3 0
+          ∷ claim 2 1 19 0 0 2 0
+          ∷ claim 2 2 1 2 0 3 2
+          ∷ claim 2 2 4 2 0 3 2
+          ∷ claim 2 2 7 2 0 3 2
+          ∷ claim 2 2 10 2 0 3 2
+          ∷ claim 2 2 13 2 0 3 2
+          ∷ claim 2 2 16 2 0 3 2
+          ∷ claim 2 2 19 0 1 2 0
+          ∷ claim 2 3 1 0 4 0 0
+          ∷ claim 2 3 4 0 4 0 0
+          ∷ claim 2 3 7 0 4 0 0
+          ∷ claim 2 3 10 0 4 0 0
+          ∷ claim 2 3 13 0 4 0 0
+          ∷ claim 2 3 16 0 4 0 0
+          ∷ claim 2 3 19 0 2 0 0
+          ∷ claim 3 1 1 1 0 0 0
+          ∷ claim 3 1 4 1 0 0 0
+          ∷ claim 3 1 7 1 0 0 0
+          ∷ claim 3 1 10 1 0 0 0
+          ∷ claim 3 1 13 1 0 0 0
+          ∷ claim 3 1 16 0 0 0 0
+          ∷ claim 3 1 19 0 1 0 0
+          ∷ claim 3 2 1 0 3 0 0
+          ∷ claim 3 2 4 0 3 1 0
+          ∷ claim 3 2 7 0 3 3 0
+          ∷ claim 3 2 10 0 3 3 0
+          ∷ claim 3 2 13 0 3 3 0
+          ∷ claim 3 2 16 0 2 3 0
+          ∷ claim 3 2 19 1 0 2 1
+          ∷ claim 3 3 1 0 3 3 0
+          ∷ claim 3 3 4 0 3 3 0
+          ∷ claim 3 3 7 0 3 3 0
+          ∷ claim 3 3 10 0 3 3 0
+          ∷ claim 3 3 13 0 3 3 0
+          ∷ claim 3 3 16 0 2 3 0
+          ∷ claim 3 3 19 0 3 2 0
+          ∷ [];
+    }
+
+pub agrees-38 : first-wrong list-38 ≡ 0
+unfolding first-wrong entries apply Direct.start Direct.tick Pipelined.start Pipelined.tick book-words rate-words release-words release-rate-words arrive-words into-frame booking bookings row-sum column-sum sum least some-of word
+agrees-38 = refl
+
+abbrev list-39 : Case
+list-39 =
+    record {
+      switch =
+          record {
+            clock = clock-of 2 0 0 1;
+            book = book-of (2 ∷ 1 ∷ 2 ∷ 2 ∷ 103 ∷ 104 ∷ 1 ∷ 104 ∷ 7 ∷ []) (1 ∷ 2 ∷ 4 ∷ 102 ∷ 2 ∷ 102 ∷ 102 ∷ 2 ∷ 3 ∷ []);
+            credits = 4 ∷ 104 ∷ 2 ∷ 2 ∷ 1 ∷ 3 ∷ 104 ∷ 103 ∷ 2 ∷ [];
+            queues = 2 ∷ 3 ∷ 3 ∷ 1 ∷ 3 ∷ 102 ∷ 101 ∷ 101 ∷ 101 ∷ [];
+            copy = 1 ∷ 104 ∷ 1 ∷ 2 ∷ 1 ∷ 2 ∷ 102 ∷ 1 ∷ 102 ∷ [];
+            flight = 104 ∷ 4 ∷ 102 ∷ 1 ∷ 102 ∷ 103 ∷ 104 ∷ 102 ∷ 102 ∷ 104 ∷ 104 ∷ 3 ∷ 104 ∷ 104 ∷ 2 ∷ 1 ∷ 103 ∷ 4 ∷ [];
+          };
+      calls =
+          start pipelined 1 2 100000000
+          ∷ book-rate 1 1 16666666
+          ∷ book-rate 1 1 50000000
+          ∷ arrive 1 1 4
+          ∷ tick pipelined
+          ∷ tick pipelined
+          ∷ book-rate 1 1 16666666
+          ∷ release-rate 1 1 33333332
+          ∷ tick pipelined
+          ∷ arrive 1 1 5
+          ∷ tick pipelined
+          ∷ release-rate 1 1 1
+          ∷ tick pipelined
+          ∷ tick pipelined
+          ∷ tick pipelined
+          ∷ tick pipelined
+          ∷ start pipelined 0 2 100000000
+          ∷ tick pipelined
+          ∷ tick pipelined
+          ∷ release-rate 1 1 1
+          ∷ tick pipelined
+          ∷ tick pipelined
+          ∷ arrive 1 1 3
+          ∷ release 2 1 1
+          ∷ arrive 1 1 5
+          ∷ tick pipelined
+          ∷ book 1 1 1
+          ∷ release-rate 1 1 1
+          ∷ tick pipelined
+          ∷ tick pipelined
+          ∷ arrive 1 1 5
+          ∷ tick pipelined
+          ∷ book 1 1 1
+          ∷ tick pipelined
+          ∷ tick pipelined
+          ∷ [];
+      expected =
+          claim 1 1 1 0 0 0 0
+          ∷ claim 1 1 3 1 0 2 1
+          ∷ claim 1 1 5 0 0 2 0
+          ∷ claim 1 1 7 0 0 2 0
+          ∷ claim 1 1 9 0 0 2 0
+          ∷ claim 1 1 11 0 0 1 0
+          ∷ claim 1 1 13 0 0 0 0
+          ∷ claim 1 1 15 0 0 2 0
+          ∷ claim 1 1 17 1 0 2 1
+          ∷ claim 1 1 19 1 0 1 1
+          ∷ [];
+    }
+
+pub agrees-39 : first-wrong list-39 ≡ 0
+unfolding first-wrong entries apply Direct.start Direct.tick Pipelined.start Pipelined.tick book-words rate-words release-words release-rate-words arrive-words into-frame booking bookings row-sum column-sum sum least some-of word
+agrees-39 = refl
+
+abbrev list-40 : Case
+list-40 =
+    record {
+      switch =
+          record {
+            clock = clock-of 9 1 0 0;
+            book = book-of (1 ∷ 102 ∷ 2 ∷ 103 ∷ 7 ∷ 3 ∷ 4 ∷ 4 ∷ 2 ∷ []) (101 ∷ 103 ∷ 4 ∷ 101 ∷ 1 ∷ 102 ∷ 1 ∷ 4 ∷ 101 ∷ []);
+            credits = 102 ∷ 3 ∷ 104 ∷ 2 ∷ 102 ∷ 104 ∷ 104 ∷ 102 ∷ 2 ∷ [];
+            queues = 1 ∷ 3 ∷ 103 ∷ 1 ∷ 101 ∷ 1 ∷ 1 ∷ 1 ∷ 4 ∷ [];
+            copy = 4 ∷ 7 ∷ 2 ∷ 103 ∷ 102 ∷ 2 ∷ 4 ∷ 4 ∷ 103 ∷ [];
+            flight = 103 ∷ 1 ∷ 101 ∷ 104 ∷ 4 ∷ 1 ∷ 7 ∷ 103 ∷ 7 ∷ 3 ∷ 1 ∷ 2 ∷ 4 ∷ 2 ∷ 7 ∷ 103 ∷ 103 ∷ 104 ∷ [];
+          };
+      calls =
+          start direct 3 6 1000
+          ∷ book-rate 3 2 55
+          ∷ book-rate 3 2 55
+          ∷ book-rate 3 3 55
+          ∷ book-rate 2 1 55
+          ∷ book-rate 2 1 55
+          ∷ book-rate 2 1 55
+          ∷ book-rate 2 1 55
+          ∷ book-rate 3 2 55
+          ∷ book-rate 3 2 55
+          ∷ book-rate 2 2 167
+          ∷ book-rate 2 2 56
+          ∷ book-rate 2 2 55
+          ∷ book-rate 2 2 112
+          ∷ book-rate 2 3 111
+          ∷ arrive 1 1 4
+          ∷ arrive 1 1 3
+          ∷ arrive 2 3 2
+          ∷ arrive 3 3 3
+          ∷ arrive 3 2 4
+          ∷ arrive 2 2 3
+          ∷ release-rate 3 1 1
+          ∷ arrive 3 1 5
+          ∷ tick direct
+          ∷ release 3 2 1
+          ∷ book 2 2 1
+          ∷ release 3 1 1
+          ∷ arrive 1 1 5
+          ∷ tick direct
+          ∷ tick direct
+          ∷ tick direct
+          ∷ tick direct
+          ∷ tick direct
+          ∷ tick direct
+          ∷ tick direct
+          ∷ tick direct
+          ∷ tick direct
+          ∷ tick direct
+          ∷ arrive 3 1 2
+          ∷ arrive 1 2 2
+          ∷ arrive 2 3 3
+          ∷ tick direct
+          ∷ tick direct
+          ∷ [];
+      expected =
+          claim 1 1 1 0 2 6 0
+          ∷ claim 1 1 7 0 2 6 0
+          ∷ claim 1 1 13 0 2 0 0
+          ∷ claim 1 2 1 0 3 0 0
+          ∷ claim 1 2 7 0 3 1 0
+          ∷ claim 1 2 13 0 3 1 0
+          ∷ claim 1 3 1 0 1 0 0
+          ∷ claim 1 3 7 0 1 0 0
+          ∷ claim 1 3 13 0 1 0 0
+          ∷ claim 2 1 1 2 1 0 0
+          ∷ claim 2 1 7 2 1 0 0
+          ∷ claim 2 1 13 2 1 0 0
+          ∷ claim 2 2 1 1 4 5 1
+          ∷ claim 2 2 7 1 4 0 0
+          ∷ claim 2 2 13 1 4 0 0
+          ∷ claim 2 3 1 0 4 3 0
+          ∷ claim 2 3 7 0 4 1 0
+          ∷ claim 2 3 13 0 4 1 0
+          ∷ claim 3 1 1 0 5 6 0
+          ∷ claim 3 1 7 0 5 6 0
+          ∷ claim 3 1 13 0 5 1 0
+          ∷ claim 3 2 1 2 2 6 2
+          ∷ claim 3 2 7 2 2 1 1
+          ∷ claim 3 2 13 2 2 0 0
+          ∷ claim 3 3 1 1 2 5 1
+          ∷ claim 3 3 7 1 2 0 0
+          ∷ claim 3 3 13 1 2 0 0
+          ∷ [];
+    }
+
+pub agrees-40 : first-wrong list-40 ≡ 0
+unfolding first-wrong entries apply Direct.start Direct.tick Pipelined.start Pipelined.tick book-words rate-words release-words release-rate-words arrive-words into-frame booking bookings row-sum column-sum sum least some-of word
+agrees-40 = refl
+
+abbrev list-41 : Case
+list-41 =
+    record {
+      switch =
+          record {
+            clock = clock-of 3 0 4000000000 100000001;
+            book = book-of (2 ∷ 7 ∷ 3 ∷ 104 ∷ 1 ∷ 3 ∷ 104 ∷ 3 ∷ 4 ∷ []) (2 ∷ 103 ∷ 3 ∷ 1 ∷ 2 ∷ 103 ∷ 3 ∷ 101 ∷ 4 ∷ []);
+            credits = 1 ∷ 101 ∷ 102 ∷ 101 ∷ 4 ∷ 104 ∷ 1 ∷ 2 ∷ 1 ∷ [];
+            queues = 1 ∷ 102 ∷ 4 ∷ 2 ∷ 7 ∷ 3 ∷ 103 ∷ 102 ∷ 102 ∷ [];
+            copy = 102 ∷ 7 ∷ 3 ∷ 2 ∷ 1 ∷ 101 ∷ 1 ∷ 1 ∷ 4 ∷ [];
+            flight = 7 ∷ 2 ∷ 102 ∷ 104 ∷ 1 ∷ 7 ∷ 102 ∷ 1 ∷ 102 ∷ 102 ∷ 7 ∷ 1 ∷ 7 ∷ 2 ∷ 4 ∷ 102 ∷ 3 ∷ 101 ∷ [];
+          };
+      calls =
+          start pipelined 3 4 1000
+          ∷ book 3 3 1
+          ∷ book 2 2 1
+          ∷ book 3 2 1
+          ∷ book-rate 3 2 83
+          ∷ arrive 1 3 7
+          ∷ arrive 1 3 7
+          ∷ arrive 2 1 6
+          ∷ tick pipelined
+          ∷ release-rate 1 2 1
+          ∷ tick pipelined
+          ∷ release-rate 1 1 1
+          ∷ arrive 2 3 6
+          ∷ tick pipelined
+          ∷ tick pipelined
+          ∷ tick pipelined
+          ∷ arrive 3 2 11
+          ∷ release-rate 3 3 1
+          ∷ release-rate 1 2 1
+          ∷ tick pipelined
+          ∷ tick pipelined
+          ∷ tick pipelined
+          ∷ tick pipelined
+          ∷ tick pipelined
+          ∷ book 1 3 5
+          ∷ arrive 2 1 8
+          ∷ tick pipelined
+          ∷ tick pipelined
+          ∷ tick pipelined
+          ∷ tick pipelined
+          ∷ tick pipelined
+          ∷ arrive 2 1 11
+          ∷ tick pipelined
+          ∷ tick pipelined
+          ∷ [];
+      expected =
+          claim 1 1 1 0 0 0 0
+          ∷ claim 1 1 5 0 0 0 0
+          ∷ claim 1 1 9 0 0 0 0
+          ∷ claim 1 1 13 0 0 0 0
+          ∷ claim 1 1 17 0 0 0 0
+          ∷ claim 1 2 1 0 0 0 0
+          ∷ claim 1 2 5 0 0 0 0
+          ∷ claim 1 2 9 0 2 0 0
+          ∷ claim 1 2 13 0 2 0 0
+          ∷ claim 1 2 17 0 2 0 0
+          ∷ claim 1 3 1 0 0 0 0
+          ∷ claim 1 3 5 0 0 2 0
+          ∷ claim 1 3 9 0 1 4 0
+          ∷ claim 1 3 13 0 1 4 0
+          ∷ claim 1 3 17 0 1 2 0
+          ∷ claim 2 1 1 0 0 0 0
+          ∷ claim 2 1 5 0 0 2 0
+          ∷ claim 2 1 9 0 1 4 0
+          ∷ claim 2 1 13 0 1 1 0
+          ∷ claim 2 1 17 0 1 2 0
+          ∷ claim 2 2 1 0 0 0 0
+          ∷ claim 2 2 5 0 0 0 0
+          ∷ claim 2 2 9 1 1 0 0
+          ∷ claim 2 2 13 1 1 0 0
+          ∷ claim 2 2 17 1 1 0 0
+          ∷ claim 2 3 1 0 0 0 0
+          ∷ claim 2 3 5 0 0 1 0
+          ∷ claim 2 3 9 0 2 4 0
+          ∷ claim 2 3 13 0 2 4 0
+          ∷ claim 2 3 17 0 2 2 0
+          ∷ claim 3 1 1 0 0 0 0
+          ∷ claim 3 1 5 0 0 0 0
+          ∷ claim 3 1 9 0 2 0 0
+          ∷ claim 3 1 13 0 2 0 0
+          ∷ claim 3 1 17 0 2 0 0
+          ∷ claim 3 2 1 0 0 0 0
+          ∷ claim 3 2 5 0 0 0 0
+          ∷ claim 3 2 9 1 2 3 1
+          ∷ claim 3 2 13 1 2 4 1
+          ∷ claim 3 2 17 1 2 2 1
+          ∷ claim 3 3 1 0 0 0 0
+          ∷ claim 3 3 5 0 0 0 0
+          ∷ claim 3 3 9 1 1 0 0
+          ∷ claim 3 3 13 1 1 0 0
+          ∷ claim 3 3 17 1 1 0 0
+          ∷ [];
+    }
+
+pub agrees-41 : first-wrong list-41 ≡ 0
+unfolding first-wrong entries apply Direct.start Direct.tick Pipelined.start Pipelined.tick book-words rate-words release-words release-rate-words arrive-words into-frame booking bookings row-sum column-sum sum least some-of word
+agrees-41 = refl
+
+abbrev list-42 : Case
+list-42 =
+    record {
+      switch =
+          record {
+            clock = clock-of 1 1 77 0;
+            book = book-of (2 ∷ 103 ∷ 101 ∷ 2 ∷ 104 ∷ 104 ∷ 2 ∷ 3 ∷ 102 ∷ []) (3 ∷ 104 ∷ 4 ∷ 1 ∷ 103 ∷ 3 ∷ 2 ∷ 101 ∷ 7 ∷ []);
+            credits = 3 ∷ 102 ∷ 2 ∷ 4 ∷ 1 ∷ 104 ∷ 104 ∷ 104 ∷ 1 ∷ [];
+            queues = 3 ∷ 1 ∷ 3 ∷ 102 ∷ 2 ∷ 102 ∷ 104 ∷ 101 ∷ 102 ∷ [];
+            copy = 102 ∷ 2 ∷ 1 ∷ 2 ∷ 101 ∷ 101 ∷ 103 ∷ 7 ∷ 3 ∷ [];
+            flight = 7 ∷ 7 ∷ 7 ∷ 102 ∷ 102 ∷ 102 ∷ 7 ∷ 7 ∷ 103 ∷ 104 ∷ 101 ∷ 101 ∷ 1 ∷ 4 ∷ 3 ∷ 103 ∷ 2 ∷ 102 ∷ [];
+          };
+      calls =
+          start direct 2 3 100000000
+          ∷ book 1 1 1
+          ∷ book-rate 2 1 33333333
+          ∷ book-rate 2 1 11111112
+          ∷ arrive 2 2 9
+          ∷ arrive 1 1 8
+          ∷ tick direct
+          ∷ tick direct
+          ∷ tick direct
+          ∷ tick direct
+          ∷ book 2 1 1
+          ∷ tick direct
+          ∷ tick direct
+          ∷ tick direct
+          ∷ book 2 1 1
+          ∷ tick direct
+          ∷ release 1 1 1
+          ∷ tick direct
+          ∷ tick direct
+          ∷ arrive 2 1 8
+          ∷ book 1 2 1
+          ∷ book 2 2 1
+          ∷ tick direct
+          ∷ release 2 2 1
+          ∷ tick direct
+          ∷ [];
+      expected =
+          claim 1 1 1 1 1 3 1
+          ∷ claim 1 1 4 1 1 3 1
+          ∷ claim 1 1 7 1 1 2 1
+          ∷ claim 1 1 10 0 1 0 0
+          ∷ claim 1 2 1 0 1 0 0
+          ∷ claim 1 2 4 0 1 0 0
+          ∷ claim 1 2 7 0 1 0 0
+          ∷ claim 1 2 10 0 0 0 0
+          ∷ claim 2 1 1 1 1 0 0
+          ∷ claim 2 1 4 1 1 0 0
+          ∷ claim 2 1 7 1 1 0 0
+          ∷ claim 2 1 10 1 0 2 1
+          ∷ claim 2 2 1 0 1 3 0
+          ∷ claim 2 2 4 0 1 3 0
+          ∷ claim 2 2 7 0 1 3 0
+          ∷ claim 2 2 10 0 1 0 0
+          ∷ [];
+    }
+
+pub agrees-42 : first-wrong list-42 ≡ 0
+unfolding first-wrong entries apply Direct.start Direct.tick Pipelined.start Pipelined.tick book-words rate-words release-words release-rate-words arrive-words into-frame booking bookings row-sum column-sum sum least some-of word
+agrees-42 = refl
+
+abbrev list-43 : Case
+list-43 =
+    record {
+      switch =
+          record {
+            clock = clock-of 9 5 5 100000001;
+            book = book-of (4 ∷ 1 ∷ 2 ∷ 103 ∷ 1 ∷ 4 ∷ 1 ∷ 4 ∷ 103 ∷ []) (3 ∷ 3 ∷ 4 ∷ 2 ∷ 102 ∷ 1 ∷ 102 ∷ 101 ∷ 4 ∷ []);
+            credits = 1 ∷ 104 ∷ 104 ∷ 102 ∷ 7 ∷ 1 ∷ 101 ∷ 104 ∷ 3 ∷ [];
+            queues = 102 ∷ 102 ∷ 101 ∷ 1 ∷ 103 ∷ 1 ∷ 7 ∷ 103 ∷ 3 ∷ [];
+            copy = 1 ∷ 103 ∷ 4 ∷ 3 ∷ 3 ∷ 103 ∷ 101 ∷ 3 ∷ 4 ∷ [];
+            flight = 7 ∷ 102 ∷ 1 ∷ 7 ∷ 102 ∷ 103 ∷ 102 ∷ 103 ∷ 3 ∷ 102 ∷ 2 ∷ 2 ∷ 4 ∷ 2 ∷ 4 ∷ 2 ∷ 104 ∷ 4 ∷ [];
+          };
+      calls =
+          start pipelined 3 7 1000
+          ∷ book-rate 3 3 47
+          ∷ book-rate 3 3 47
+          ∷ book-rate 3 3 96
+          ∷ book 2 3 1
+          ∷ book-rate 1 2 96
+          ∷ book-rate 3 3 48
+          ∷ book 3 2 1
+          ∷ book-rate 3 2 142
+          ∷ book-rate 3 2 143
+          ∷ book-rate 1 3 47
+          ∷ book-rate 1 3 47
+          ∷ book-rate 1 3 142
+          ∷ arrive 2 1 3
+          ∷ arrive 2 3 3
+          ∷ arrive 1 2 3
+          ∷ arrive 3 1 4
+          ∷ arrive 3 2 3
+          ∷ arrive 2 3 4
+          ∷ arrive 1 1 3
+          ∷ arrive 2 1 5
+          ∷ arrive 3 3 5
+          ∷ arrive 2 3 4
+          ∷ arrive 3 2 2
+          ∷ arrive 1 3 5
+          ∷ arrive 1 3 2
+          ∷ arrive 2 2 4
+          ∷ arrive 3 3 5
+          ∷ tick pipelined
+          ∷ start pipelined 33 7 1000
+          ∷ tick pipelined
+          ∷ release 3 1 8
+          ∷ tick pipelined
+          ∷ tick pipelined
+          ∷ tick pipelined
+          ∷ tick pipelined
+          ∷ tick pipelined
+          ∷ tick pipelined
+          ∷ tick pipelined
+          ∷ tick pipelined
+          ∷ tick pipelined
+          ∷ tick pipelined
+          ∷ arrive 2 1 3
+          ∷ tick pipelined
+          ∷ tick pipelined
+          ∷ tick pipelined
+          ∷ release-rate 1 2 96
+          ∷ book-rate 3 1 95
+          ∷ arrive 2 2 5
+          ∷ release 2 3 1
+          ∷ tick pipelined
+          ∷ tick pipelined
+          ∷ arrive 3 1 4
+          ∷ arrive 1 2 5
+          ∷ tick pipelined
+          ∷ tick pipelined
+          ∷ release-rate 1 3 47
+          ∷ tick pipelined
+          ∷ tick pipelined
+          ∷ tick pipelined
+          ∷ arrive 2 3 5
+          ∷ tick pipelined
+          ∷ [];
+      expected =
+          claim 1 1 1 0 0 1 0
+          ∷ claim 1 1 8 0 2 2 0
+          ∷ claim 1 1 15 0 2 0 0
+          ∷ claim 1 1 22 0 1 0 0
+          ∷ claim 1 2 1 0 0 1 0
+          ∷ claim 1 2 8 1 3 7 1
+          ∷ claim 1 2 15 1 3 0 0
+          ∷ claim 1 2 22 0 3 1 0
+          ∷ claim 1 3 1 0 0 1 0
+          ∷ claim 1 3 8 1 4 7 1
+          ∷ claim 1 3 15 1 4 7 1
+          ∷ claim 1 3 22 1 2 1 1
+          ∷ claim 2 1 1 0 0 1 0
+          ∷ claim 2 1 8 0 1 7 0
+          ∷ claim 2 1 15 0 1 7 0
+          ∷ claim 2 1 22 0 0 1 0
+          ∷ claim 2 2 1 0 0 1 0
+          ∷ claim 2 2 8 0 4 7 0
+          ∷ claim 2 2 15 0 4 7 0
+          ∷ claim 2 2 22 0 2 3 0
+          ∷ claim 2 3 1 0 0 1 0
+          ∷ claim 2 3 8 1 3 7 1
+          ∷ claim 2 3 15 1 3 7 1
+          ∷ claim 2 3 22 0 3 3 0
+          ∷ claim 3 1 1 0 0 1 0
+          ∷ claim 3 1 8 0 4 7 0
+          ∷ claim 3 1 15 0 4 7 0
+          ∷ claim 3 1 22 0 4 3 0
+          ∷ claim 3 2 1 0 0 1 0
+          ∷ claim 3 2 8 2 3 7 2
+          ∷ claim 3 2 15 2 3 2 2
+          ∷ claim 3 2 22 2 2 0 0
+          ∷ claim 3 3 1 0 0 1 0
+          ∷ claim 3 3 8 2 4 7 2
+          ∷ claim 3 3 15 2 4 7 2
+          ∷ claim 3 3 22 2 3 3 2
+          ∷ [];
+    }
+
+pub agrees-43 : first-wrong list-43 ≡ 0
+unfolding first-wrong entries apply Direct.start Direct.tick Pipelined.start Pipelined.tick book-words rate-words release-words release-rate-words arrive-words into-frame booking bookings row-sum column-sum sum least some-of word
+agrees-43 = refl
+
+abbrev list-44 : Case
+list-44 =
+    record {
+      switch =
+          record {
+            clock = clock-of 3 0 5 1000;
+            book = book-of (2 ∷ 1 ∷ 3 ∷ 102 ∷ 4 ∷ 101 ∷ 1 ∷ 1 ∷ 2 ∷ []) (3 ∷ 1 ∷ 3 ∷ 2 ∷ 104 ∷ 102 ∷ 3 ∷ 4 ∷ 2 ∷ []);
+            credits = 103 ∷ 4 ∷ 102 ∷ 102 ∷ 4 ∷ 1 ∷ 7 ∷ 103 ∷ 2 ∷ [];
+            queues = 104 ∷ 101 ∷ 2 ∷ 101 ∷ 101 ∷ 103 ∷ 103 ∷ 2 ∷ 4 ∷ [];
+            copy = 1 ∷ 104 ∷ 1 ∷ 101 ∷ 2 ∷ 4 ∷ 7 ∷ 102 ∷ 104 ∷ [];
+            flight = 101 ∷ 1 ∷ 2 ∷ 101 ∷ 7 ∷ 104 ∷ 101 ∷ 2 ∷ 104 ∷ 4 ∷ 2 ∷ 102 ∷ 103 ∷ 104 ∷ 3 ∷ 7 ∷ 1 ∷ 2 ∷ [];
+          };
+      calls =
+          start direct 1 4 1000
+          ∷ book-rate 1 1 166
+          ∷ book-rate 1 1 83
+          ∷ book-rate 1 1 83
+          ∷ book-rate 1 1 250
+          ∷ arrive 1 1 8
+          ∷ arrive 1 1 7
+          ∷ release 1 1 1
+          ∷ tick direct
+          ∷ tick direct
+          ∷ release-rate 1 1 250
+          ∷ arrive 1 1 6
+          ∷ tick direct
+          ∷ release-rate 1 1 82
+          ∷ tick direct
+          ∷ tick direct
+          ∷ start direct 3 7 1000
+          ∷ book 2 1 1
+          ∷ book-rate 2 1 95
+          ∷ book-rate 2 1 47
+          ∷ book-rate 3 3 142
+          ∷ book-rate 3 3 142
+          ∷ book 2 3 1
+          ∷ book 3 2 1
+          ∷ book 1 2 1
+          ∷ book-rate 2 1 47
+          ∷ book-rate 2 3 142
+          ∷ book-rate 2 3 95
+          ∷ book-rate 2 3 48
+          ∷ book-rate 2 3 47
+          ∷ book-rate 1 3 48
+          ∷ book-rate 1 3 142
+          ∷ book-rate 1 3 142
+          ∷ arrive 1 3 65535
+          ∷ arrive 1 3 65535
+          ∷ arrive 1 3 65535
+          ∷ arrive 1 3 65535
+          ∷ arrive 1 3 65535
+          ∷ arrive 1 3 65535
+          ∷ arrive 1 3 65535
+          ∷ arrive 1 3 65535
+          ∷ arrive 1 3 65535
+          ∷ arrive 1 3 65535
+          ∷ arrive 1 3 65535
+          ∷ arrive 1 3 65535
+          ∷ arrive 1 3 65535
+          ∷ arrive 1 3 65535
+          ∷ arrive 1 3 65535
+          ∷ arrive 1 3 16976
+          ∷ arrive 1 3 16975
+          ∷ arrive 1 3 1
+          ∷ arrive 1 1 2
+          ∷ arrive 3 3 1
+          ∷ arrive 1 1 1
+          ∷ arrive 1 3 1
+          ∷ arrive 3 3 2
+          ∷ arrive 2 1 1
+          ∷ arrive 1 2 2
+          ∷ arrive 2 1 2
+          ∷ tick direct
+          ∷ release 2 1 1
+          ∷ tick direct
+          ∷ arrive 1 1 2
+          ∷ arrive 2 1 2
+          ∷ arrive 3 2 1
+          ∷ arrive 1 2 2
+          ∷ release-rate 2 2 1
+          ∷ release 1 2 1
+          ∷ tick direct
+          ∷ arrive 2 3 1
+          ∷ arrive 2 3 2
+          ∷ arrive 2 1 2
+          ∷ release-rate 1 3 47
+          ∷ arrive 2 1 1
+          ∷ tick direct
+          ∷ book-rate 2 2 96
+          ∷ arrive 2 1 1
+          ∷ arrive 3 3 2
+          ∷ release-rate 2 2 96
+          ∷ tick direct
+          ∷ release-rate 1 3 2
+          ∷ book-rate 3 1 95
+          ∷ tick direct
+          ∷ tick direct
+          ∷ arrive 1 2 2
+          ∷ tick direct
+          ∷ tick direct
+          ∷ tick direct
+          ∷ tick direct
+          ∷ tick direct
+          ∷ book-rate 2 3 48
+          ∷ arrive 2 1 65536
+          ∷ arrive 3 1 2
+          ∷ arrive 3 3 2
+          ∷ release-rate 2 3 1
+          ∷ tick direct
+          ∷ release 1 1 0
+          ∷ book 1 1 1
+          ∷ tick direct
+          ∷ tick direct
+          ∷ book 2 2 1
+          ∷ tick direct
+          ∷ book 2 1 1
+          ∷ tick direct
+          ∷ [];
+      expected =
+          claim 1 1 1 0 5 7 0
+          ∷ claim 1 1 8 0 4 3 0
+          ∷ claim 1 1 15 1 4 0 0
+          ∷ claim 1 2 1 1 2 7 1
+          ∷ claim 1 2 8 0 2 7 0
+          ∷ claim 1 2 15 0 3 0 0
+          ∷ claim 1 3 1 1 4 7 1
+          ∷ claim 1 3 8 1 3 7 1
+          ∷ claim 1 3 15 1 4 3 1
+          ∷ claim 2 1 1 3 1 7 3
+          ∷ claim 2 1 8 2 2 7 2
+          ∷ claim 2 1 15 2 3 1 1
+          ∷ claim 2 2 1 0 6 0 0
+          ∷ claim 2 2 8 0 4 0 0
+          ∷ claim 2 2 15 0 4 0 0
+          ∷ claim 2 3 1 1 6 4 1
+          ∷ claim 2 3 8 1 5 0 0
+          ∷ claim 2 3 15 1 5 0 0
+          ∷ claim 3 1 1 0 6 0 0
+          ∷ claim 3 1 8 1 5 2 1
+          ∷ claim 3 1 15 1 6 2 1
+          ∷ claim 3 2 1 1 3 1 1
+          ∷ claim 3 2 8 1 3 0 0
+          ∷ claim 3 2 15 1 3 0 0
+          ∷ claim 3 3 1 2 3 7 2
+          ∷ claim 3 3 8 2 4 6 2
+          ∷ claim 3 3 15 2 4 3 1
+          ∷ [];
+    }
+
+pub agrees-44 : first-wrong list-44 ≡ 0
+unfolding first-wrong entries apply Direct.start Direct.tick Pipelined.start Pipelined.tick book-words rate-words release-words release-rate-words arrive-words into-frame booking bookings row-sum column-sum sum least some-of word
+agrees-44 = refl
+
+abbrev list-45 : Case
+list-45 =
+    record {
+      switch =
+          record {
+            clock = clock-of 9 5 1 0;
+            book = book-of (1 ∷ 4 ∷ 102 ∷ 104 ∷ 104 ∷ 101 ∷ 103 ∷ 3 ∷ 2 ∷ []) (103 ∷ 7 ∷ 2 ∷ 3 ∷ 101 ∷ 2 ∷ 102 ∷ 1 ∷ 7 ∷ []);
+            credits = 3 ∷ 1 ∷ 7 ∷ 104 ∷ 103 ∷ 7 ∷ 2 ∷ 101 ∷ 2 ∷ [];
+            queues = 102 ∷ 104 ∷ 2 ∷ 1 ∷ 2 ∷ 7 ∷ 7 ∷ 3 ∷ 7 ∷ [];
+            copy = 103 ∷ 1 ∷ 1 ∷ 102 ∷ 101 ∷ 3 ∷ 2 ∷ 7 ∷ 101 ∷ [];
+            flight = 1 ∷ 104 ∷ 104 ∷ 102 ∷ 7 ∷ 103 ∷ 7 ∷ 2 ∷ 1 ∷ 7 ∷ 102 ∷ 103 ∷ 104 ∷ 101 ∷ 1 ∷ 104 ∷ 104 ∷ 1 ∷ [];
+          };
+      calls =
+          start pipelined 3 3 99999999
+          ∷ book-rate 2 3 22222222
+          ∷ book-rate 2 3 11111111
+          ∷ book-rate 2 3 11111111
+          ∷ book-rate 2 2 11111111
+          ∷ book-rate 2 2 22222223
+          ∷ book 1 2 1
+          ∷ book-rate 1 2 11111111
+          ∷ book-rate 1 2 11111112
+          ∷ book-rate 1 2 11111112
+          ∷ book-rate 1 2 33333334
+          ∷ book 2 2 1
+          ∷ book-rate 1 1 11111112
+          ∷ book-rate 1 1 11111111
+          ∷ book-rate 1 1 11111112
+          ∷ book 2 3 1
+          ∷ book-rate 3 2 11111111
+          ∷ book-rate 3 2 11111112
+          ∷ arrive 2 2 60
+          ∷ arrive 2 3 82
+          ∷ arrive 1 2 68
+          ∷ arrive 1 1 68
+          ∷ arrive 3 2 83
+          ∷ arrive 3 2 47
+          ∷ arrive 1 1 80
+          ∷ arrive 3 3 55
+          ∷ arrive 1 1 62
+          ∷ arrive 1 1 82
+          ∷ arrive 3 3 45
+          ∷ arrive 1 3 82
+          ∷ arrive 2 1 64
+          ∷ tick pipelined
+          ∷ tick pipelined
+          ∷ book-rate 3 1 11111111
+          ∷ release-rate 2 3 11111112
+          ∷ tick pipelined
+          ∷ tick pipelined
+          ∷ tick pipelined
+          ∷ release-rate 2 3 11111111
+          ∷ tick pipelined
+          ∷ tick pipelined
+          ∷ tick pipelined
+          ∷ arrive 3 3 53
+          ∷ tick pipelined
+          ∷ release 1 1 0
+          ∷ start pipelined 3 2 99999999
+          ∷ release-rate 2 3 22222221
+          ∷ tick pipelined
+          ∷ tick pipelined
+          ∷ tick pipelined
+          ∷ arrive 2 3 50
+          ∷ release-rate 3 1 11111111
+          ∷ tick pipelined
+          ∷ tick pipelined
+          ∷ release-rate 3 3 1
+          ∷ tick pipelined
+          ∷ [];
+      expected =
+          claim 1 1 1 0 0 0 0
+          ∷ claim 1 1 4 0 0 0 0
+          ∷ claim 1 1 7 0 2 3 0
+          ∷ claim 1 1 10 0 3 3 0
+          ∷ claim 1 1 13 0 3 3 0
+          ∷ claim 1 1 16 0 3 1 0
+          ∷ claim 1 2 1 0 0 0 0
+          ∷ claim 1 2 4 0 0 0 0
+          ∷ claim 1 2 7 2 0 3 2
+          ∷ claim 1 2 10 2 0 3 2
+          ∷ claim 1 2 13 2 0 3 2
+          ∷ claim 1 2 16 2 0 1 1
+          ∷ claim 1 3 1 0 0 0 0
+          ∷ claim 1 3 4 0 0 0 0
+          ∷ claim 1 3 7 0 4 3 0
+          ∷ claim 1 3 10 0 3 3 0
+          ∷ claim 1 3 13 0 3 3 0
+          ∷ claim 1 3 16 0 2 1 0
+          ∷ claim 2 1 1 0 0 0 0
+          ∷ claim 2 1 4 0 0 0 0
+          ∷ claim 2 1 7 0 2 3 0
+          ∷ claim 2 1 10 0 2 3 0
+          ∷ claim 2 1 13 0 2 3 0
+          ∷ claim 2 1 16 0 1 1 0
+          ∷ claim 2 2 1 0 0 0 0
+          ∷ claim 2 2 4 0 0 0 0
+          ∷ claim 2 2 7 0 4 3 0
+          ∷ claim 2 2 10 0 3 3 0
+          ∷ claim 2 2 13 0 3 3 0
+          ∷ claim 2 2 16 0 2 1 0
+          ∷ claim 2 3 1 0 0 0 0
+          ∷ claim 2 3 4 0 0 0 0
+          ∷ claim 2 3 7 2 0 3 2
+          ∷ claim 2 3 10 1 0 3 1
+          ∷ claim 2 3 13 1 0 3 1
+          ∷ claim 2 3 16 0 0 1 0
+          ∷ claim 3 1 1 0 0 0 0
+          ∷ claim 3 1 4 0 0 0 0
+          ∷ claim 3 1 7 0 0 0 0
+          ∷ claim 3 1 10 1 0 0 0
+          ∷ claim 3 1 13 1 0 0 0
+          ∷ claim 3 1 16 1 0 0 0
+          ∷ claim 3 2 1 0 0 0 0
+          ∷ claim 3 2 4 0 0 0 0
+          ∷ claim 3 2 7 0 2 3 0
+          ∷ claim 3 2 10 0 3 3 0
+          ∷ claim 3 2 13 0 3 3 0
+          ∷ claim 3 2 16 0 3 1 0
+          ∷ claim 3 3 1 0 0 0 0
+          ∷ claim 3 3 4 0 0 0 0
+          ∷ claim 3 3 7 0 2 3 0
+          ∷ claim 3 3 10 0 2 3 0
+          ∷ claim 3 3 13 0 2 3 0
+          ∷ claim 3 3 16 0 1 1 0
+          ∷ [];
+    }
+
+pub agrees-45 : first-wrong list-45 ≡ 0
+unfolding first-wrong entries apply Direct.start Direct.tick Pipelined.start Pipelined.tick book-words rate-words release-words release-rate-words arrive-words into-frame booking bookings row-sum column-sum sum least some-of word
+agrees-45 = refl
+
+abbrev list-46 : Case
+list-46 =
+    record {
+      switch =
+          record {
+            clock = clock-of 3 5 0 1;
+            book = book-of (104 ∷ 103 ∷ 3 ∷ 102 ∷ 1 ∷ 1 ∷ 2 ∷ 104 ∷ 104 ∷ []) (3 ∷ 102 ∷ 101 ∷ 4 ∷ 2 ∷ 4 ∷ 102 ∷ 7 ∷ 103 ∷ []);
+            credits = 2 ∷ 1 ∷ 102 ∷ 103 ∷ 7 ∷ 1 ∷ 3 ∷ 4 ∷ 1 ∷ [];
+            queues = 1 ∷ 102 ∷ 4 ∷ 103 ∷ 104 ∷ 3 ∷ 2 ∷ 2 ∷ 2 ∷ [];
+            copy = 7 ∷ 1 ∷ 104 ∷ 2 ∷ 101 ∷ 103 ∷ 1 ∷ 2 ∷ 102 ∷ [];
+            flight = 104 ∷ 1 ∷ 102 ∷ 2 ∷ 101 ∷ 103 ∷ 2 ∷ 3 ∷ 102 ∷ 102 ∷ 2 ∷ 2 ∷ 4 ∷ 7 ∷ 1 ∷ 101 ∷ 101 ∷ 3 ∷ [];
+          };
+      calls =
+          start direct 2 3 99999999
+          ∷ book-rate 2 1 11111111
+          ∷ book-rate 2 1 11111112
+          ∷ book-rate 2 1 22222222
+          ∷ book-rate 1 1 22222223
+          ∷ book-rate 1 1 22222223
+          ∷ arrive 2 2 6
+          ∷ arrive 1 1 12
+          ∷ arrive 1 1 10
+          ∷ arrive 1 2 7
+          ∷ arrive 2 1 10
+          ∷ arrive 2 2 8
+          ∷ arrive 2 1 8
+          ∷ release-rate 2 1 44444445
+          ∷ tick direct
+          ∷ release 2 2 2
+          ∷ arrive 1 2 8
+          ∷ tick direct
+          ∷ tick direct
+          ∷ tick direct
+          ∷ tick direct
+          ∷ release-rate 1 1 1
+          ∷ arrive 2 1 8
+          ∷ release 1 1 1
+          ∷ tick direct
+          ∷ arrive 1 1 8
+          ∷ release-rate 2 1 1
+          ∷ start direct 23 32 99999999
+          ∷ tick direct
+          ∷ tick direct
+          ∷ tick direct
+          ∷ release-rate 2 1 1
+          ∷ tick direct
+          ∷ tick direct
+          ∷ tick direct
+          ∷ arrive 1 1 7
+          ∷ tick direct
+          ∷ tick direct
+          ∷ [];
+      expected =
+          claim 1 1 1 0 0 3 0
+          ∷ claim 1 1 4 0 0 3 0
+          ∷ claim 1 1 7 0 0 3 0
+          ∷ claim 1 1 10 0 0 3 0
+          ∷ claim 1 1 13 0 0 2 0
+          ∷ claim 1 2 1 0 0 3 0
+          ∷ claim 1 2 4 0 0 3 0
+          ∷ claim 1 2 7 0 0 3 0
+          ∷ claim 1 2 10 0 0 3 0
+          ∷ claim 1 2 13 0 0 2 0
+          ∷ claim 2 1 1 0 0 3 0
+          ∷ claim 2 1 4 0 0 3 0
+          ∷ claim 2 1 7 0 0 3 0
+          ∷ claim 2 1 10 0 0 3 0
+          ∷ claim 2 1 13 0 0 2 0
+          ∷ claim 2 2 1 0 0 3 0
+          ∷ claim 2 2 4 0 0 3 0
+          ∷ claim 2 2 7 0 0 3 0
+          ∷ claim 2 2 10 0 0 3 0
+          ∷ claim 2 2 13 0 0 2 0
+          ∷ [];
+    }
+
+pub agrees-46 : first-wrong list-46 ≡ 0
+unfolding first-wrong entries apply Direct.start Direct.tick Pipelined.start Pipelined.tick book-words rate-words release-words release-rate-words arrive-words into-frame booking bookings row-sum column-sum sum least some-of word
+agrees-46 = refl
+
+abbrev list-47 : Case
+list-47 =
+    record {
+      switch =
+          record {
+            clock = clock-of 3 1 4000000000 1000;
+            book = book-of (102 ∷ 7 ∷ 1 ∷ 104 ∷ 7 ∷ 103 ∷ 2 ∷ 7 ∷ 102 ∷ []) (2 ∷ 3 ∷ 103 ∷ 104 ∷ 3 ∷ 2 ∷ 101 ∷ 3 ∷ 104 ∷ []);
+            credits = 2 ∷ 103 ∷ 104 ∷ 4 ∷ 101 ∷ 104 ∷ 101 ∷ 1 ∷ 104 ∷ [];
+            queues = 7 ∷ 103 ∷ 2 ∷ 3 ∷ 2 ∷ 104 ∷ 103 ∷ 102 ∷ 104 ∷ [];
+            copy = 1 ∷ 3 ∷ 1 ∷ 7 ∷ 104 ∷ 1 ∷ 101 ∷ 7 ∷ 102 ∷ [];
+            flight = 2 ∷ 102 ∷ 102 ∷ 104 ∷ 4 ∷ 2 ∷ 104 ∷ 1 ∷ 102 ∷ 1 ∷ 103 ∷ 102 ∷ 2 ∷ 102 ∷ 1 ∷ 104 ∷ 2 ∷ 1 ∷ [];
+          };
+      calls =
+          start pipelined 3 4 1000
+          ∷ book-rate 2 1 251
+          ∷ book-rate 2 1 84
+          ∷ book-rate 1 2 83
+          ∷ book-rate 1 2 84
+          ∷ book-rate 1 2 83
+          ∷ book-rate 1 2 166
+          ∷ book 2 1 1
+          ∷ book 3 2 1
+          ∷ book 1 2 1
+          ∷ book-rate 2 2 83
+          ∷ book-rate 1 1 83
+          ∷ book-rate 1 1 83
+          ∷ book-rate 1 1 84
+          ∷ book-rate 1 1 83
+          ∷ book-rate 3 3 83
+          ∷ arrive 2 3 80
+          ∷ arrive 2 1 61
+          ∷ arrive 3 2 45
+          ∷ arrive 2 1 51
+          ∷ arrive 2 3 85
+          ∷ arrive 3 2 57
+          ∷ arrive 3 2 76
+          ∷ arrive 2 2 82
+          ∷ arrive 1 2 85
+          ∷ arrive 3 2 87
+          ∷ release-rate 1 2 251
+          ∷ book-rate 2 1 84
+          ∷ tick pipelined
+          ∷ tick pipelined
+          ∷ release 2 2 2
+          ∷ tick pipelined
+          ∷ arrive 2 2 66
+          ∷ tick pipelined
+          ∷ book-rate 4 1 1
+          ∷ tick pipelined
+          ∷ release-rate 3 3 84
+          ∷ arrive 2 1 71
+          ∷ release-rate 2 1 166
+          ∷ tick pipelined
+          ∷ tick pipelined
+          ∷ tick pipelined
+          ∷ arrive 2 1 83
+          ∷ tick pipelined
+          ∷ release 1 2 1
+          ∷ tick pipelined
+          ∷ tick pipelined
+          ∷ tick pipelined
+          ∷ arrive 3 1 68
+          ∷ arrive 4 2 1
+          ∷ tick pipelined
+          ∷ tick pipelined
+          ∷ book 4 2 1
+          ∷ tick pipelined
+          ∷ book 3 3 1
+          ∷ release-rate 0 1 1
+          ∷ tick pipelined
+          ∷ release-rate 1 2 83
+          ∷ tick pipelined
+          ∷ release 3 3 1
+          ∷ book-rate 2 2 251
+          ∷ arrive 1 2 73
+          ∷ tick pipelined
+          ∷ tick pipelined
+          ∷ tick pipelined
+          ∷ release 1 3 1
+          ∷ book 1 3 1
+          ∷ arrive 2 2 61
+          ∷ book-rate 1 1 166
+          ∷ tick pipelined
+          ∷ tick pipelined
+          ∷ tick pipelined
+          ∷ [];
+      expected =
+          claim 1 1 1 0 0 0 0
+          ∷ claim 1 1 5 0 0 0 0
+          ∷ claim 1 1 9 0 3 0 0
+          ∷ claim 1 1 13 0 3 0 0
+          ∷ claim 1 1 17 0 3 0 0
+          ∷ claim 1 1 21 0 3 0 0
+          ∷ claim 1 2 1 0 0 0 0
+          ∷ claim 1 2 5 0 0 2 0
+          ∷ claim 1 2 9 1 0 4 1
+          ∷ claim 1 2 13 1 0 4 1
+          ∷ claim 1 2 17 1 0 4 1
+          ∷ claim 1 2 21 1 0 4 1
+          ∷ claim 1 3 1 0 0 0 0
+          ∷ claim 1 3 5 0 0 0 0
+          ∷ claim 1 3 9 0 2 0 0
+          ∷ claim 1 3 13 0 2 0 0
+          ∷ claim 1 3 17 0 2 0 0
+          ∷ claim 1 3 21 0 2 0 0
+          ∷ claim 2 1 1 0 0 0 0
+          ∷ claim 2 1 5 0 0 2 0
+          ∷ claim 2 1 9 2 0 4 2
+          ∷ claim 2 1 13 2 0 4 2
+          ∷ claim 2 1 17 2 0 4 2
+          ∷ claim 2 1 21 2 0 4 2
+          ∷ claim 2 2 1 0 0 0 0
+          ∷ claim 2 2 5 0 0 2 0
+          ∷ claim 2 2 9 0 3 4 0
+          ∷ claim 2 2 13 0 3 4 0
+          ∷ claim 2 2 17 0 3 4 0
+          ∷ claim 2 2 21 0 3 4 0
+          ∷ claim 2 3 1 0 0 0 0
+          ∷ claim 2 3 5 0 0 2 0
+          ∷ claim 2 3 9 0 3 4 0
+          ∷ claim 2 3 13 0 3 4 0
+          ∷ claim 2 3 17 0 3 4 0
+          ∷ claim 2 3 21 0 3 4 0
+          ∷ claim 3 1 1 0 0 0 0
+          ∷ claim 3 1 5 0 0 0 0
+          ∷ claim 3 1 9 0 3 0 0
+          ∷ claim 3 1 13 0 3 0 0
+          ∷ claim 3 1 17 0 3 4 0
+          ∷ claim 3 1 21 0 3 4 0
+          ∷ claim 3 2 1 0 0 0 0
+          ∷ claim 3 2 5 0 0 2 0
+          ∷ claim 3 2 9 0 2 4 0
+          ∷ claim 3 2 13 0 2 4 0
+          ∷ claim 3 2 17 0 2 4 0
+          ∷ claim 3 2 21 0 2 4 0
+          ∷ claim 3 3 1 0 0 0 0
+          ∷ claim 3 3 5 0 0 0 0
+          ∷ claim 3 3 9 1 0 0 0
+          ∷ claim 3 3 13 1 0 0 0
+          ∷ claim 3 3 17 1 0 0 0
+          ∷ claim 3 3 21 1 0 0 0
+          ∷ [];
+    }
+
+pub agrees-47 : first-wrong list-47 ≡ 0
+unfolding first-wrong entries apply Direct.start Direct.tick Pipelined.start Pipelined.tick book-words rate-words release-words release-rate-words arrive-words into-frame booking bookings row-sum column-sum sum least some-of word
+agrees-47 = refl
+
+abbrev list-48 : Case
+list-48 =
+    record {
+      switch =
+          record {
+            clock = clock-of 33 10001 4000000000 100000001;
+            book = book-of (7 ∷ 2 ∷ 102 ∷ 1 ∷ 3 ∷ 101 ∷ 101 ∷ 1 ∷ 101 ∷ []) (2 ∷ 102 ∷ 1 ∷ 1 ∷ 1 ∷ 1 ∷ 104 ∷ 2 ∷ 2 ∷ []);
+            credits = 4 ∷ 4 ∷ 101 ∷ 4 ∷ 7 ∷ 1 ∷ 103 ∷ 1 ∷ 4 ∷ [];
+            queues = 4 ∷ 1 ∷ 102 ∷ 1 ∷ 103 ∷ 2 ∷ 103 ∷ 1 ∷ 3 ∷ [];
+            copy = 7 ∷ 104 ∷ 102 ∷ 4 ∷ 104 ∷ 2 ∷ 1 ∷ 3 ∷ 104 ∷ [];
+            flight = 101 ∷ 1 ∷ 1 ∷ 4 ∷ 1 ∷ 3 ∷ 1 ∷ 101 ∷ 4 ∷ 104 ∷ 7 ∷ 4 ∷ 3 ∷ 102 ∷ 101 ∷ 1 ∷ 4 ∷ 103 ∷ [];
+          };
+      calls =
+          start direct 1 7 100000000
+          ∷ book 1 1 1
+          ∷ arrive 1 1 1
+          ∷ arrive 1 1 2
+          ∷ tick direct
+          ∷ tick direct
+          ∷ arrive 1 1 2
+          ∷ tick direct
+          ∷ release-rate 1 1 1
+          ∷ tick direct
+          ∷ start direct 3 3 99999999
+          ∷ book 2 3 1
+          ∷ book-rate 3 2 11111111
+          ∷ book-rate 3 2 11111111
+          ∷ book 3 2 2
+          ∷ book-rate 1 2 11111111
+          ∷ book-rate 1 2 11111111
+          ∷ arrive 1 1 4
+          ∷ arrive 3 2 3
+          ∷ arrive 2 3 2
+          ∷ arrive 2 1 3
+          ∷ arrive 3 2 5
+          ∷ arrive 2 1 5
+          ∷ arrive 3 3 3
+          ∷ arrive 2 2 4
+          ∷ arrive 3 3 2
+          ∷ arrive 2 2 4
+          ∷ arrive 1 2 3
+          ∷ arrive 3 2 2
+          ∷ arrive 2 1 4
+          ∷ arrive 2 2 4
+          ∷ tick direct
+          ∷ book-rate 4294967297 1 1
+          ∷ tick direct
+          ∷ arrive 1 1 4
+          ∷ tick direct
+          ∷ tick direct
+          ∷ tick direct
+          ∷ tick direct
+          ∷ tick direct
+          ∷ arrive 2 3 2
+          ∷ tick direct
+          ∷ tick direct
+          ∷ book-rate 2 3 100000000
+          ∷ tick direct
+          ∷ book-rate 1 1 11111111
+          ∷ book 3 3 1
+          ∷ tick direct
+          ∷ book-rate 0 2 1
+          ∷ arrive 1 2 5
+          ∷ tick direct
+          ∷ arrive 1 2 2
+          ∷ tick direct
+          ∷ tick direct
+          ∷ tick direct
+          ∷ tick direct
+          ∷ tick direct
+          ∷ tick direct
+          ∷ [];
+      expected =
+          claim 1 1 1 0 1 3 0
+          ∷ claim 1 1 4 0 1 3 0
+          ∷ claim 1 1 7 0 1 3 0
+          ∷ claim 1 1 10 0 1 2 0
+          ∷ claim 1 1 13 1 1 0 0
+          ∷ claim 1 1 16 1 1 0 0
+          ∷ claim 1 2 1 1 1 3 1
+          ∷ claim 1 2 4 1 1 3 1
+          ∷ claim 1 2 7 1 1 1 1
+          ∷ claim 1 2 10 1 1 1 1
+          ∷ claim 1 2 13 1 2 3 1
+          ∷ claim 1 2 16 1 2 3 1
+          ∷ claim 1 3 1 0 2 0 0
+          ∷ claim 1 3 4 0 2 0 0
+          ∷ claim 1 3 7 0 2 0 0
+          ∷ claim 1 3 10 0 2 0 0
+          ∷ claim 1 3 13 0 4 0 0
+          ∷ claim 1 3 16 0 4 0 0
+          ∷ claim 2 1 1 0 1 3 0
+          ∷ claim 2 1 4 0 1 3 0
+          ∷ claim 2 1 7 0 1 3 0
+          ∷ claim 2 1 10 0 1 3 0
+          ∷ claim 2 1 13 0 2 3 0
+          ∷ claim 2 1 16 0 2 3 0
+          ∷ claim 2 2 1 0 3 3 0
+          ∷ claim 2 2 4 0 3 3 0
+          ∷ claim 2 2 7 0 3 3 0
+          ∷ claim 2 2 10 0 3 3 0
+          ∷ claim 2 2 13 0 3 3 0
+          ∷ claim 2 2 16 0 3 3 0
+          ∷ claim 2 3 1 1 0 2 1
+          ∷ claim 2 3 4 1 0 0 0
+          ∷ claim 2 3 7 1 0 2 1
+          ∷ claim 2 3 10 1 0 1 1
+          ∷ claim 2 3 13 1 1 0 0
+          ∷ claim 2 3 16 1 1 0 0
+          ∷ claim 3 1 1 0 1 0 0
+          ∷ claim 3 1 4 0 1 0 0
+          ∷ claim 3 1 7 0 1 0 0
+          ∷ claim 3 1 10 0 1 0 0
+          ∷ claim 3 1 13 0 3 0 0
+          ∷ claim 3 1 16 0 3 0 0
+          ∷ claim 3 2 1 1 1 3 1
+          ∷ claim 3 2 4 1 1 3 1
+          ∷ claim 3 2 7 1 1 3 1
+          ∷ claim 3 2 10 1 1 3 1
+          ∷ claim 3 2 13 1 2 3 1
+          ∷ claim 3 2 16 1 2 3 1
+          ∷ claim 3 3 1 0 2 3 0
+          ∷ claim 3 3 4 0 2 3 0
+          ∷ claim 3 3 7 0 2 3 0
+          ∷ claim 3 3 10 0 2 0 0
+          ∷ claim 3 3 13 1 2 0 0
+          ∷ claim 3 3 16 1 2 0 0
+          ∷ [];
+    }
+
+pub agrees-48 : first-wrong list-48 ≡ 0
+unfolding first-wrong entries apply Direct.start Direct.tick Pipelined.start Pipelined.tick book-words rate-words release-words release-rate-words arrive-words into-frame booking bookings row-sum column-sum sum least some-of word
+agrees-48 = refl
+
+abbrev list-49 : Case
+list-49 =
+    record {
+      switch =
+          record {
+            clock = clock-of 0 1 77 1000;
+            book = book-of (101 ∷ 102 ∷ 102 ∷ 101 ∷ 103 ∷ 103 ∷ 103 ∷ 102 ∷ 3 ∷ []) (101 ∷ 1 ∷ 1 ∷ 2 ∷ 103 ∷ 104 ∷ 2 ∷ 2 ∷ 104 ∷ []);
+            credits = 102 ∷ 101 ∷ 1 ∷ 2 ∷ 103 ∷ 1 ∷ 103 ∷ 101 ∷ 2 ∷ [];
+            queues = 1 ∷ 1 ∷ 1 ∷ 1 ∷ 2 ∷ 3 ∷ 2 ∷ 101 ∷ 1 ∷ [];
+            copy = 104 ∷ 7 ∷ 2 ∷ 1 ∷ 101 ∷ 2 ∷ 104 ∷ 1 ∷ 4 ∷ [];
+            flight = 4 ∷ 101 ∷ 101 ∷ 1 ∷ 4 ∷ 101 ∷ 1 ∷ 1 ∷ 4 ∷ 104 ∷ 1 ∷ 102 ∷ 104 ∷ 101 ∷ 2 ∷ 1 ∷ 2 ∷ 1 ∷ [];
+          };
+      calls =
+          start pipelined 2 4 100000000
+          ∷ book-rate 1 1 16666666
+          ∷ book-rate 1 1 8333333
+          ∷ book-rate 1 1 16666666
+          ∷ book-rate 1 1 25000001
+          ∷ book-rate 1 1 8333334
+          ∷ book-rate 1 2 8333333
+          ∷ book-rate 1 2 16666666
+          ∷ book-rate 1 2 8333333
+          ∷ arrive 2 1 4
+          ∷ arrive 1 1 5
+          ∷ arrive 2 2 3
+          ∷ arrive 2 2 5
+          ∷ arrive 1 1 4
+          ∷ tick pipelined
+          ∷ arrive 1 2 2
+          ∷ tick pipelined
+          ∷ tick pipelined
+          ∷ arrive 2 2 4
+          ∷ arrive 1 3 1
+          ∷ tick pipelined
+          ∷ arrive 2 1 3
+          ∷ arrive 1 1 5
+          ∷ arrive 2 1 3
+          ∷ tick pipelined
+          ∷ tick pipelined
+          ∷ tick pipelined
+          ∷ release-rate 1 1 50000000
+          ∷ tick pipelined
+          ∷ tick pipelined
+          ∷ tick pipelined
+          ∷ [];
+      expected =
+          claim 1 1 1 0 0 0 0
+          ∷ claim 1 1 5 2 0 4 2
+          ∷ claim 1 1 9 2 0 3 2
+          ∷ claim 1 2 1 0 0 0 0
+          ∷ claim 1 2 5 0 2 3 0
+          ∷ claim 1 2 9 0 2 3 0
+          ∷ claim 2 1 1 0 0 0 0
+          ∷ claim 2 1 5 0 2 4 0
+          ∷ claim 2 1 9 0 2 3 0
+          ∷ claim 2 2 1 0 0 0 0
+          ∷ claim 2 2 5 0 0 4 0
+          ∷ claim 2 2 9 0 0 3 0
+          ∷ [];
+    }
+
+pub agrees-49 : first-wrong list-49 ≡ 0
+unfolding first-wrong entries apply Direct.start Direct.tick Pipelined.start Pipelined.tick book-words rate-words release-words release-rate-words arrive-words into-frame booking bookings row-sum column-sum sum least some-of word
+agrees-49 = refl
+
+abbrev list-50 : Case
+list-50 =
+    record {
+      switch =
+          record {
+            clock = clock-of 3 2 77 0;
+            book = book-of (1 ∷ 1 ∷ 4 ∷ 1 ∷ 2 ∷ 3 ∷ 4 ∷ 103 ∷ 103 ∷ []) (101 ∷ 2 ∷ 3 ∷ 2 ∷ 2 ∷ 2 ∷ 102 ∷ 1 ∷ 1 ∷ []);
+            credits = 1 ∷ 3 ∷ 3 ∷ 2 ∷ 104 ∷ 2 ∷ 1 ∷ 2 ∷ 7 ∷ [];
+            queues = 2 ∷ 1 ∷ 4 ∷ 102 ∷ 1 ∷ 2 ∷ 2 ∷ 7 ∷ 102 ∷ [];
+            copy = 104 ∷ 4 ∷ 1 ∷ 1 ∷ 103 ∷ 2 ∷ 4 ∷ 7 ∷ 2 ∷ [];
+            flight = 1 ∷ 101 ∷ 103 ∷ 4 ∷ 4 ∷ 103 ∷ 101 ∷ 7 ∷ 7 ∷ 3 ∷ 1 ∷ 4 ∷ 1 ∷ 101 ∷ 2 ∷ 103 ∷ 7 ∷ 2 ∷ [];
+          };
+      calls =
+          start direct 3 2 1000
+          ∷ book-rate 1 3 500
+          ∷ book-rate 1 3 501
+          ∷ book 2 3 1
+          ∷ book-rate 1 2 166
+          ∷ book-rate 3 1 500
+          ∷ arrive 3 2 5
+          ∷ arrive 3 2 4
+          ∷ arrive 1 3 3
+          ∷ arrive 1 1 4
+          ∷ arrive 1 3 2
+          ∷ arrive 1 3 3
+          ∷ arrive 3 2 2
+          ∷ arrive 1 1 5
+          ∷ arrive 1 1 3
+          ∷ arrive 3 3 4
+          ∷ arrive 1 2 2
+          ∷ tick direct
+          ∷ tick direct
+          ∷ arrive 2 1 5
+          ∷ tick direct
+          ∷ start direct 3 5 1000
+          ∷ book-rate 3 3 67
+          ∷ book-rate 3 3 67
+          ∷ book-rate 2 2 66
+          ∷ book-rate 2 2 66
+          ∷ book-rate 2 2 67
+          ∷ book 3 2 1
+          ∷ book-rate 3 3 200
+          ∷ book 1 3 1
+          ∷ book-rate 1 3 67
+          ∷ book-rate 1 3 134
+          ∷ book-rate 1 3 66
+          ∷ book-rate 1 3 134
+          ∷ book-rate 1 3 200
+          ∷ book-rate 2 3 66
+          ∷ arrive 1 3 2
+          ∷ arrive 2 2 5
+          ∷ arrive 3 2 3
+          ∷ arrive 1 1 5
+          ∷ arrive 1 2 2
+          ∷ arrive 3 1 4
+          ∷ arrive 1 3 3
+          ∷ arrive 2 1 3
+          ∷ arrive 3 2 3
+          ∷ arrive 1 2 3
+          ∷ arrive 1 2 3
+          ∷ arrive 1 1 3
+          ∷ arrive 2 3 3
+          ∷ arrive 3 3 3
+          ∷ arrive 2 1 2
+          ∷ arrive 1 3 2
+          ∷ arrive 1 3 3
+          ∷ release-rate 2 2 66
+          ∷ tick direct
+          ∷ tick direct
+          ∷ arrive 1 2 3
+          ∷ arrive 3 3 2
+          ∷ book-rate 4 3 1
+          ∷ tick direct
+          ∷ tick direct
+          ∷ tick direct
+          ∷ tick direct
+          ∷ book-rate 4 2 1
+          ∷ tick direct
+          ∷ tick direct
+          ∷ tick direct
+          ∷ tick direct
+          ∷ tick direct
+          ∷ tick direct
+          ∷ arrive 2 1 4
+          ∷ tick direct
+          ∷ tick direct
+          ∷ release-rate 1 1 1
+          ∷ tick direct
+          ∷ tick direct
+          ∷ tick direct
+          ∷ tick direct
+          ∷ release 3 2 3
+          ∷ tick direct
+          ∷ book-rate 1 2 133
+          ∷ book 1 3 1
+          ∷ tick direct
+          ∷ [];
+      expected =
+          claim 1 1 1 0 1 5 0
+          ∷ claim 1 1 6 0 1 5 0
+          ∷ claim 1 1 11 0 1 0 0
+          ∷ claim 1 1 16 0 1 0 0
+          ∷ claim 1 2 1 0 3 5 0
+          ∷ claim 1 2 6 0 3 5 0
+          ∷ claim 1 2 11 0 3 5 0
+          ∷ claim 1 2 16 0 3 5 0
+          ∷ claim 1 3 1 1 2 5 1
+          ∷ claim 1 3 6 1 2 5 1
+          ∷ claim 1 3 11 1 2 5 1
+          ∷ claim 1 3 16 1 2 5 1
+          ∷ claim 2 1 1 0 1 5 0
+          ∷ claim 2 1 6 0 1 5 0
+          ∷ claim 2 1 11 0 1 5 0
+          ∷ claim 2 1 16 0 1 4 0
+          ∷ claim 2 2 1 1 1 5 1
+          ∷ claim 2 2 6 1 1 1 1
+          ∷ claim 2 2 11 1 1 0 0
+          ∷ claim 2 2 16 1 1 0 0
+          ∷ claim 2 3 1 0 4 5 0
+          ∷ claim 2 3 6 0 4 5 0
+          ∷ claim 2 3 11 0 4 0 0
+          ∷ claim 2 3 16 0 4 0 0
+          ∷ claim 3 1 1 0 3 5 0
+          ∷ claim 3 1 6 0 3 5 0
+          ∷ claim 3 1 11 0 3 5 0
+          ∷ claim 3 1 16 0 3 5 0
+          ∷ claim 3 2 1 1 3 5 1
+          ∷ claim 3 2 6 1 3 5 1
+          ∷ claim 3 2 11 1 3 5 1
+          ∷ claim 3 2 16 1 3 5 1
+          ∷ claim 3 3 1 2 2 5 2
+          ∷ claim 3 3 6 2 2 4 2
+          ∷ claim 3 3 11 2 2 0 0
+          ∷ claim 3 3 16 2 2 0 0
+          ∷ [];
+    }
+
+pub agrees-50 : first-wrong list-50 ≡ 0
+unfolding first-wrong entries apply Direct.start Direct.tick Pipelined.start Pipelined.tick book-words rate-words release-words release-rate-words arrive-words into-frame booking bookings row-sum column-sum sum least some-of word
+agrees-50 = refl
+
+abbrev list-51 : Case
+list-51 =
+    record {
+      switch =
+          record {
+            clock = clock-of 9 1 4000000000 0;
+            book = book-of (2 ∷ 2 ∷ 4 ∷ 2 ∷ 1 ∷ 3 ∷ 2 ∷ 2 ∷ 2 ∷ []) (103 ∷ 1 ∷ 104 ∷ 102 ∷ 1 ∷ 1 ∷ 1 ∷ 1 ∷ 101 ∷ []);
+            credits = 7 ∷ 102 ∷ 4 ∷ 2 ∷ 4 ∷ 7 ∷ 1 ∷ 2 ∷ 7 ∷ [];
+            queues = 2 ∷ 4 ∷ 103 ∷ 2 ∷ 1 ∷ 102 ∷ 102 ∷ 1 ∷ 101 ∷ [];
+            copy = 7 ∷ 102 ∷ 101 ∷ 2 ∷ 4 ∷ 103 ∷ 3 ∷ 3 ∷ 102 ∷ [];
+            flight = 3 ∷ 7 ∷ 103 ∷ 1 ∷ 4 ∷ 101 ∷ 4 ∷ 2 ∷ 2 ∷ 7 ∷ 1 ∷ 2 ∷ 2 ∷ 2 ∷ 3 ∷ 2 ∷ 102 ∷ 7 ∷ [];
+          };
+      calls =
+          start pipelined 2 7 100000000
+          ∷ book-rate 2 2 4761904
+          ∷ book-rate 2 2 4761904
+          ∷ book-rate 2 1 9523809
+          ∷ arrive 1 1 2
+          ∷ arrive 1 2 5
+          ∷ tick pipelined
+          ∷ arrive 2 2 65536
+          ∷ tick pipelined
+          ∷ tick pipelined
+          ∷ arrive 2 2 5
+          ∷ tick pipelined
+          ∷ start pipelined 2 1 100000000
+          ∷ book-rate 1 2 9523809
+          ∷ release 2 2 1
+          ∷ tick pipelined
+          ∷ tick pipelined
+          ∷ arrive 2 1 2
+          ∷ tick pipelined
+          ∷ start pipelined 2 7 100000001
+          ∷ tick pipelined
+          ∷ tick pipelined
+          ∷ tick pipelined
+          ∷ release 1 1 1
+          ∷ tick pipelined
+          ∷ tick pipelined
+          ∷ [];
+      expected =
+          claim 1 1 1 0 0 2 0
+          ∷ claim 1 1 8 0 1 0 0
+          ∷ claim 1 2 1 0 0 3 0
+          ∷ claim 1 2 8 0 1 5 0
+          ∷ claim 2 1 1 0 0 0 0
+          ∷ claim 2 1 8 1 1 2 1
+          ∷ claim 2 2 1 0 0 1 0
+          ∷ claim 2 2 8 1 1 6 1
+          ∷ [];
+    }
+
+pub agrees-51 : first-wrong list-51 ≡ 0
+unfolding first-wrong entries apply Direct.start Direct.tick Pipelined.start Pipelined.tick book-words rate-words release-words release-rate-words arrive-words into-frame booking bookings row-sum column-sum sum least some-of word
+agrees-51 = refl
+
+abbrev list-52 : Case
+list-52 =
+    record {
+      switch =
+          record {
+            clock = clock-of 2 5 4000000000 100000001;
+            book = book-of (2 ∷ 104 ∷ 102 ∷ 1 ∷ 2 ∷ 2 ∷ 1 ∷ 102 ∷ 101 ∷ []) (2 ∷ 1 ∷ 3 ∷ 104 ∷ 104 ∷ 101 ∷ 1 ∷ 103 ∷ 3 ∷ []);
+            credits = 4 ∷ 104 ∷ 4 ∷ 1 ∷ 2 ∷ 104 ∷ 2 ∷ 103 ∷ 1 ∷ [];
+            queues = 101 ∷ 4 ∷ 4 ∷ 1 ∷ 2 ∷ 4 ∷ 2 ∷ 7 ∷ 2 ∷ [];
+            copy = 101 ∷ 104 ∷ 102 ∷ 2 ∷ 2 ∷ 101 ∷ 104 ∷ 1 ∷ 104 ∷ [];
+            flight = 7 ∷ 102 ∷ 2 ∷ 3 ∷ 1 ∷ 102 ∷ 1 ∷ 4 ∷ 3 ∷ 2 ∷ 104 ∷ 104 ∷ 4 ∷ 7 ∷ 2 ∷ 2 ∷ 7 ∷ 104 ∷ [];
+          };
+      calls =
+          start direct 1 3 1000
+          ∷ book 1 1 1
+          ∷ arrive 1 1 1
+          ∷ arrive 1 1 2
+          ∷ tick direct
+          ∷ arrive 1 1 2
+          ∷ tick direct
+          ∷ arrive 1 1 1
+          ∷ arrive 1 1 2
+          ∷ tick direct
+          ∷ tick direct
+          ∷ tick direct
+          ∷ tick direct
+          ∷ arrive 4294967297 1 1
+          ∷ tick direct
+          ∷ tick direct
+          ∷ book 1 1 1
+          ∷ tick direct
+          ∷ tick direct
+          ∷ tick direct
+          ∷ arrive 1 1 1
+          ∷ tick direct
+          ∷ release-rate 1 1 1
+          ∷ tick direct
+          ∷ book 1 1 2
+          ∷ arrive 1 1 1
+          ∷ tick direct
+          ∷ release-rate 1 1 1
+          ∷ arrive 1 1 1
+          ∷ book-rate 1 1 1001
+          ∷ tick direct
+          ∷ arrive 1 1 2
+          ∷ release-rate 0 1 1
+          ∷ tick direct
+          ∷ arrive 1 1 1
+          ∷ tick direct
+          ∷ tick direct
+          ∷ [];
+      expected =
+          claim 1 1 1 1 0 3 1
+          ∷ claim 1 1 4 1 0 3 1
+          ∷ claim 1 1 7 1 0 2 1
+          ∷ claim 1 1 10 2 0 1 1
+          ∷ claim 1 1 13 2 0 2 2
+          ∷ claim 1 1 16 2 0 3 2
+          ∷ [];
+    }
+
+pub agrees-52 : first-wrong list-52 ≡ 0
+unfolding first-wrong entries apply Direct.start Direct.tick Pipelined.start Pipelined.tick book-words rate-words release-words release-rate-words arrive-words into-frame booking bookings row-sum column-sum sum least some-of word
+agrees-52 = refl
+
+abbrev list-53 : Case
+list-53 =
+    record {
+      switch =
+          record {
+            clock = clock-of 9 2 0 1000;
+            book = book-of (3 ∷ 102 ∷ 2 ∷ 1 ∷ 2 ∷ 1 ∷ 7 ∷ 7 ∷ 101 ∷ []) (2 ∷ 7 ∷ 3 ∷ 2 ∷ 2 ∷ 101 ∷ 101 ∷ 2 ∷ 4 ∷ []);
+            credits = 1 ∷ 104 ∷ 4 ∷ 7 ∷ 103 ∷ 1 ∷ 101 ∷ 2 ∷ 2 ∷ [];
+            queues = 104 ∷ 1 ∷ 1 ∷ 102 ∷ 102 ∷ 101 ∷ 1 ∷ 4 ∷ 1 ∷ [];
+            copy = 101 ∷ 104 ∷ 102 ∷ 1 ∷ 3 ∷ 3 ∷ 2 ∷ 102 ∷ 102 ∷ [];
+            flight = 103 ∷ 4 ∷ 102 ∷ 2 ∷ 7 ∷ 1 ∷ 1 ∷ 7 ∷ 3 ∷ 3 ∷ 1 ∷ 7 ∷ 102 ∷ 104 ∷ 2 ∷ 7 ∷ 7 ∷ 2 ∷ [];
+          };
+      calls =
+          start pipelined 2 3 99999999
+          ∷ book 2 2 1
+          ∷ book 2 2 1
+          ∷ book-rate 2 2 22222222
+          ∷ book-rate 2 2 11111111
+          ∷ book-rate 1 1 11111112
+          ∷ book-rate 1 1 11111112
+          ∷ book-rate 1 1 11111111
+          ∷ arrive 1 1 2
+          ∷ arrive 1 2 2
+          ∷ arrive 1 1 1
+          ∷ arrive 2 1 1
+          ∷ arrive 2 2 1
+          ∷ release-rate 1 1 33333335
+          ∷ arrive 1 1 2
+          ∷ tick pipelined
+          ∷ tick pipelined
+          ∷ tick pipelined
+          ∷ tick pipelined
+          ∷ release-rate 2 2 1
+          ∷ start pipelined 0 3 99999999
+          ∷ release-rate 1 1 1
+          ∷ book 1 4294967297 1
+          ∷ tick pipelined
+          ∷ tick pipelined
+          ∷ arrive 1 2 1
+          ∷ tick pipelined
+          ∷ tick pipelined
+          ∷ tick pipelined
+          ∷ tick pipelined
+          ∷ release-rate 2 2 1
+          ∷ book-rate 1 1 22222223
+          ∷ start pipelined 9 32 99999999
+          ∷ tick pipelined
+          ∷ [];
+      expected =
+          claim 1 1 1 0 0 0 0
+          ∷ claim 1 1 4 0 0 2 0
+          ∷ claim 1 1 7 0 0 3 0
+          ∷ claim 1 1 10 0 0 0 0
+          ∷ claim 1 2 1 0 0 0 0
+          ∷ claim 1 2 4 0 0 2 0
+          ∷ claim 1 2 7 0 2 3 0
+          ∷ claim 1 2 10 0 2 3 0
+          ∷ claim 2 1 1 0 0 0 0
+          ∷ claim 2 1 4 0 0 2 0
+          ∷ claim 2 1 7 0 2 3 0
+          ∷ claim 2 1 10 0 2 1 0
+          ∷ claim 2 2 1 0 0 0 0
+          ∷ claim 2 2 4 0 0 1 0
+          ∷ claim 2 2 7 2 0 0 0
+          ∷ claim 2 2 10 2 0 0 0
+          ∷ [];
+    }
+
+pub agrees-53 : first-wrong list-53 ≡ 0
+unfolding first-wrong entries apply Direct.start Direct.tick Pipelined.start Pipelined.tick book-words rate-words release-words release-rate-words arrive-words into-frame booking bookings row-sum column-sum sum least some-of word
+agrees-53 = refl
+
+abbrev list-54 : Case
+list-54 =
+    record {
+      switch =
+          record {
+            clock = clock-of 3 1 4000000000 1000;
+            book = book-of (104 ∷ 1 ∷ 104 ∷ 104 ∷ 102 ∷ 7 ∷ 4 ∷ 102 ∷ 7 ∷ []) (1 ∷ 2 ∷ 4 ∷ 1 ∷ 1 ∷ 7 ∷ 103 ∷ 2 ∷ 2 ∷ []);
+            credits = 104 ∷ 1 ∷ 2 ∷ 102 ∷ 1 ∷ 2 ∷ 7 ∷ 1 ∷ 7 ∷ [];
+            queues = 103 ∷ 104 ∷ 102 ∷ 2 ∷ 102 ∷ 2 ∷ 104 ∷ 103 ∷ 3 ∷ [];
+            copy = 102 ∷ 1 ∷ 104 ∷ 1 ∷ 1 ∷ 3 ∷ 101 ∷ 7 ∷ 2 ∷ [];
+            flight = 101 ∷ 1 ∷ 1 ∷ 3 ∷ 4 ∷ 104 ∷ 1 ∷ 3 ∷ 4 ∷ 101 ∷ 1 ∷ 7 ∷ 2 ∷ 1 ∷ 2 ∷ 2 ∷ 101 ∷ 2 ∷ [];
+          };
+      calls =
+          start direct 3 4 99999999
+          ∷ book 1 1 1
+          ∷ book-rate 3 1 24999999
+          ∷ book-rate 3 1 16666667
+          ∷ book-rate 2 3 8333333
+          ∷ book-rate 1 1 24999999
+          ∷ book-rate 1 1 8333334
+          ∷ book-rate 1 1 8333333
+          ∷ arrive 1 2 4
+          ∷ arrive 2 3 3
+          ∷ arrive 2 3 4
+          ∷ tick direct
+          ∷ tick direct
+          ∷ tick direct
+          ∷ release-rate 2 3 8333333
+          ∷ release-rate 3 1 8333334
+          ∷ tick direct
+          ∷ tick direct
+          ∷ tick direct
+          ∷ release 1 1 1
+          ∷ tick direct
+          ∷ tick direct
+          ∷ start direct 3 4 100000001
+          ∷ arrive 3 1 2
+          ∷ book 2 4 1
+          ∷ tick direct
+          ∷ tick direct
+          ∷ tick direct
+          ∷ tick direct
+          ∷ tick direct
+          ∷ tick direct
+          ∷ tick direct
+          ∷ release 1 1 5
+          ∷ release-rate 3 1 16666665
+          ∷ arrive 2 3 0
+          ∷ tick direct
+          ∷ release-rate 1 3 1
+          ∷ release 1 1 1
+          ∷ start direct 0 4 99999999
+          ∷ tick direct
+          ∷ tick direct
+          ∷ arrive 1 2 4
+          ∷ tick direct
+          ∷ release-rate 3 2 1
+          ∷ arrive 1 1 2
+          ∷ tick direct
+          ∷ arrive 1 2 4
+          ∷ tick direct
+          ∷ tick direct
+          ∷ tick direct
+          ∷ arrive 1 1 65536
+          ∷ release-rate 3 2 1
+          ∷ release 2 2 1
+          ∷ release-rate 3 1 1
+          ∷ release 2 1 1
+          ∷ tick direct
+          ∷ [];
+      expected =
+          claim 1 1 1 1 1 0 0
+          ∷ claim 1 1 5 1 1 0 0
+          ∷ claim 1 1 9 0 1 0 0
+          ∷ claim 1 1 13 0 1 0 0
+          ∷ claim 1 1 17 0 0 1 0
+          ∷ claim 1 1 21 0 0 1 0
+          ∷ claim 1 2 1 0 1 4 0
+          ∷ claim 1 2 5 0 1 0 0
+          ∷ claim 1 2 9 0 0 0 0
+          ∷ claim 1 2 13 0 0 0 0
+          ∷ claim 1 2 17 0 0 2 0
+          ∷ claim 1 2 21 0 0 4 0
+          ∷ claim 1 3 1 0 2 0 0
+          ∷ claim 1 3 5 0 1 0 0
+          ∷ claim 1 3 9 0 0 0 0
+          ∷ claim 1 3 13 0 0 0 0
+          ∷ claim 1 3 17 0 0 0 0
+          ∷ claim 1 3 21 0 0 0 0
+          ∷ claim 2 1 1 0 3 0 0
+          ∷ claim 2 1 5 0 2 0 0
+          ∷ claim 2 1 9 0 1 0 0
+          ∷ claim 2 1 13 0 1 0 0
+          ∷ claim 2 1 17 0 0 0 0
+          ∷ claim 2 1 21 0 0 0 0
+          ∷ claim 2 2 1 0 1 0 0
+          ∷ claim 2 2 5 0 0 0 0
+          ∷ claim 2 2 9 0 0 0 0
+          ∷ claim 2 2 13 0 0 0 0
+          ∷ claim 2 2 17 0 0 0 0
+          ∷ claim 2 2 21 0 0 0 0
+          ∷ claim 2 3 1 1 0 4 1
+          ∷ claim 2 3 5 0 0 3 0
+          ∷ claim 2 3 9 0 0 0 0
+          ∷ claim 2 3 13 0 0 0 0
+          ∷ claim 2 3 17 0 0 0 0
+          ∷ claim 2 3 21 0 0 0 0
+          ∷ claim 3 1 1 1 1 0 0
+          ∷ claim 3 1 5 1 1 0 0
+          ∷ claim 3 1 9 1 0 2 1
+          ∷ claim 3 1 13 1 0 0 0
+          ∷ claim 3 1 17 0 0 0 0
+          ∷ claim 3 1 21 0 0 0 0
+          ∷ claim 3 2 1 0 1 0 0
+          ∷ claim 3 2 5 0 1 0 0
+          ∷ claim 3 2 9 0 1 0 0
+          ∷ claim 3 2 13 0 1 0 0
+          ∷ claim 3 2 17 0 0 0 0
+          ∷ claim 3 2 21 0 0 0 0
+          ∷ claim 3 3 1 0 2 0 0
+          ∷ claim 3 3 5 0 1 0 0
+          ∷ claim 3 3 9 0 1 0 0
+          ∷ claim 3 3 13 0 1 0 0
+          ∷ claim 3 3 17 0 0 0 0
+          ∷ claim 3 3 21 0 0 0 0
+          ∷ [];
+    }
+
+pub agrees-54 : first-wrong list-54 ≡ 0
+unfolding first-wrong entries apply Direct.start Direct.tick Pipelined.start Pipelined.tick book-words rate-words release-words release-rate-words arrive-words into-frame booking bookings row-sum column-sum sum least some-of word
+agrees-54 = refl
+
+abbrev list-55 : Case
+list-55 =
+    record {
+      switch =
+          record {
+            clock = clock-of 0 1 5 0;
+            book = book-of (3 ∷ 1 ∷ 104 ∷ 1 ∷ 2 ∷ 2 ∷ 2 ∷ 7 ∷ 1 ∷ []) (103 ∷ 2 ∷ 7 ∷ 4 ∷ 2 ∷ 101 ∷ 104 ∷ 2 ∷ 1 ∷ []);
+            credits = 1 ∷ 4 ∷ 2 ∷ 7 ∷ 7 ∷ 102 ∷ 1 ∷ 7 ∷ 102 ∷ [];
+            queues = 102 ∷ 1 ∷ 2 ∷ 3 ∷ 7 ∷ 4 ∷ 3 ∷ 4 ∷ 7 ∷ [];
+            copy = 1 ∷ 102 ∷ 1 ∷ 101 ∷ 103 ∷ 7 ∷ 103 ∷ 1 ∷ 103 ∷ [];
+            flight = 1 ∷ 2 ∷ 101 ∷ 1 ∷ 7 ∷ 7 ∷ 7 ∷ 1 ∷ 7 ∷ 2 ∷ 104 ∷ 1 ∷ 4 ∷ 102 ∷ 101 ∷ 101 ∷ 102 ∷ 103 ∷ [];
+          };
+      calls =
+          start pipelined 3 7 100000000
+          ∷ book-rate 1 1 4761905
+          ∷ book-rate 1 1 4761904
+          ∷ book-rate 1 1 9523809
+          ∷ book-rate 2 2 4761905
+          ∷ book-rate 1 3 4761904
+          ∷ book-rate 1 3 4761904
+          ∷ book-rate 1 3 14285714
+          ∷ arrive 1 1 11
+          ∷ arrive 3 1 11
+          ∷ arrive 1 1 12
+          ∷ arrive 3 3 12
+          ∷ arrive 1 2 9
+          ∷ arrive 3 2 12
+          ∷ arrive 1 3 12
+          ∷ arrive 1 1 7
+          ∷ arrive 1 3 6
+          ∷ arrive 2 3 7
+          ∷ arrive 3 2 6
+          ∷ arrive 3 3 9
+          ∷ arrive 2 3 6
+          ∷ arrive 3 1 11
+          ∷ arrive 2 2 7
+          ∷ arrive 3 2 8
+          ∷ arrive 2 2 12
+          ∷ arrive 2 2 11
+          ∷ tick pipelined
+          ∷ release 2 3 1
+          ∷ tick pipelined
+          ∷ book 0 3 1
+          ∷ tick pipelined
+          ∷ tick pipelined
+          ∷ book-rate 2 1 9523809
+          ∷ tick pipelined
+          ∷ arrive 3 3 11
+          ∷ tick pipelined
+          ∷ tick pipelined
+          ∷ release-rate 1 3 23809523
+          ∷ release-rate 3 2 1
+          ∷ tick pipelined
+          ∷ release-rate 1 1 19047619
+          ∷ tick pipelined
+          ∷ tick pipelined
+          ∷ tick pipelined
+          ∷ tick pipelined
+          ∷ tick pipelined
+          ∷ tick pipelined
+          ∷ tick pipelined
+          ∷ tick pipelined
+          ∷ tick pipelined
+          ∷ tick pipelined
+          ∷ arrive 2 2 8
+          ∷ release-rate 1 2 1
+          ∷ arrive 2 3 11
+          ∷ tick pipelined
+          ∷ release 3 3 1
+          ∷ arrive 2 2 10
+          ∷ tick pipelined
+          ∷ [];
+      expected =
+          claim 1 1 1 0 0 1 0
+          ∷ claim 1 1 8 2 2 7 2
+          ∷ claim 1 1 15 2 3 7 2
+          ∷ claim 1 2 1 0 0 1 0
+          ∷ claim 1 2 8 0 5 7 0
+          ∷ claim 1 2 15 0 5 7 0
+          ∷ claim 1 3 1 0 0 1 0
+          ∷ claim 1 3 8 2 2 7 2
+          ∷ claim 1 3 15 2 2 7 2
+          ∷ claim 2 1 1 0 0 0 0
+          ∷ claim 2 1 8 0 3 0 0
+          ∷ claim 2 1 15 1 3 0 0
+          ∷ claim 2 2 1 0 0 1 0
+          ∷ claim 2 2 8 1 0 7 1
+          ∷ claim 2 2 15 1 1 7 1
+          ∷ claim 2 3 1 0 0 1 0
+          ∷ claim 2 3 8 0 3 7 0
+          ∷ claim 2 3 15 0 4 7 0
+          ∷ claim 3 1 1 0 0 1 0
+          ∷ claim 3 1 8 0 2 7 0
+          ∷ claim 3 1 15 0 3 7 0
+          ∷ claim 3 2 1 0 0 1 0
+          ∷ claim 3 2 8 0 1 7 0
+          ∷ claim 3 2 15 0 1 7 0
+          ∷ claim 3 3 1 0 0 1 0
+          ∷ claim 3 3 8 0 2 7 0
+          ∷ claim 3 3 15 0 2 7 0
+          ∷ [];
+    }
+
+pub agrees-55 : first-wrong list-55 ≡ 0
+unfolding first-wrong entries apply Direct.start Direct.tick Pipelined.start Pipelined.tick book-words rate-words release-words release-rate-words arrive-words into-frame booking bookings row-sum column-sum sum least some-of word
+agrees-55 = refl
+
+abbrev list-56 : Case
+list-56 =
+    record {
+      switch =
+          record {
+            clock = clock-of 33 2 0 1000;
+            book = book-of (1 ∷ 7 ∷ 1 ∷ 3 ∷ 2 ∷ 1 ∷ 104 ∷ 4 ∷ 2 ∷ []) (1 ∷ 1 ∷ 2 ∷ 1 ∷ 103 ∷ 4 ∷ 103 ∷ 103 ∷ 7 ∷ []);
+            credits = 103 ∷ 102 ∷ 7 ∷ 2 ∷ 2 ∷ 1 ∷ 102 ∷ 1 ∷ 1 ∷ [];
+            queues = 2 ∷ 4 ∷ 104 ∷ 101 ∷ 2 ∷ 1 ∷ 4 ∷ 4 ∷ 7 ∷ [];
+            copy = 1 ∷ 102 ∷ 4 ∷ 2 ∷ 2 ∷ 1 ∷ 1 ∷ 4 ∷ 2 ∷ [];
+            flight = 2 ∷ 2 ∷ 3 ∷ 2 ∷ 4 ∷ 2 ∷ 103 ∷ 104 ∷ 2 ∷ 7 ∷ 7 ∷ 4 ∷ 3 ∷ 2 ∷ 103 ∷ 3 ∷ 2 ∷ 1 ∷ [];
+          };
+      calls =
+          start direct 2 4 7
+          ∷ book-rate 2 1 1
+          ∷ book-rate 2 1 1
+          ∷ book-rate 2 1 2
+          ∷ book-rate 2 1 1
+          ∷ book-rate 2 2 1
+          ∷ book-rate 2 2 1
+          ∷ book-rate 2 2 2
+          ∷ arrive 1 1 80
+          ∷ arrive 2 2 45
+          ∷ arrive 1 2 57
+          ∷ arrive 2 1 63
+          ∷ tick direct
+          ∷ book-rate 1 1 1
+          ∷ tick direct
+          ∷ release-rate 2 1 4
+          ∷ tick direct
+          ∷ tick direct
+          ∷ arrive 1 1 77
+          ∷ arrive 2 1 58
+          ∷ tick direct
+          ∷ tick direct
+          ∷ book-rate 2 1 1
+          ∷ tick direct
+          ∷ tick direct
+          ∷ tick direct
+          ∷ tick direct
+          ∷ tick direct
+          ∷ release 1 1 1
+          ∷ start direct 2 4 100000001
+          ∷ tick direct
+          ∷ tick direct
+          ∷ release 1 2 1
+          ∷ tick direct
+          ∷ [];
+      expected =
+          claim 1 1 1 0 2 4 0
+          ∷ claim 1 1 5 0 2 4 0
+          ∷ claim 1 1 9 0 2 4 0
+          ∷ claim 1 1 13 0 2 2 0
+          ∷ claim 1 2 1 0 0 4 0
+          ∷ claim 1 2 5 0 0 4 0
+          ∷ claim 1 2 9 0 0 4 0
+          ∷ claim 1 2 13 0 0 2 0
+          ∷ claim 2 1 1 2 0 4 2
+          ∷ claim 2 1 5 2 0 4 2
+          ∷ claim 2 1 9 2 0 4 2
+          ∷ claim 2 1 13 2 0 2 2
+          ∷ claim 2 2 1 0 2 4 0
+          ∷ claim 2 2 5 0 2 4 0
+          ∷ claim 2 2 9 0 2 4 0
+          ∷ claim 2 2 13 0 2 2 0
+          ∷ [];
+    }
+
+pub agrees-56 : first-wrong list-56 ≡ 0
+unfolding first-wrong entries apply Direct.start Direct.tick Pipelined.start Pipelined.tick book-words rate-words release-words release-rate-words arrive-words into-frame booking bookings row-sum column-sum sum least some-of word
+agrees-56 = refl
+
+abbrev list-57 : Case
+list-57 =
+    record {
+      switch =
+          record {
+            clock = clock-of 1 10001 4000000000 0;
+            book = book-of (101 ∷ 102 ∷ 3 ∷ 2 ∷ 1 ∷ 101 ∷ 3 ∷ 104 ∷ 104 ∷ []) (102 ∷ 7 ∷ 1 ∷ 2 ∷ 4 ∷ 101 ∷ 101 ∷ 1 ∷ 7 ∷ []);
+            credits = 2 ∷ 7 ∷ 3 ∷ 7 ∷ 1 ∷ 1 ∷ 4 ∷ 4 ∷ 102 ∷ [];
+            queues = 3 ∷ 2 ∷ 101 ∷ 104 ∷ 7 ∷ 4 ∷ 102 ∷ 7 ∷ 7 ∷ [];
+            copy = 102 ∷ 2 ∷ 1 ∷ 2 ∷ 104 ∷ 104 ∷ 7 ∷ 2 ∷ 3 ∷ [];
+            flight = 2 ∷ 2 ∷ 4 ∷ 2 ∷ 7 ∷ 103 ∷ 1 ∷ 4 ∷ 7 ∷ 1 ∷ 4 ∷ 3 ∷ 1 ∷ 102 ∷ 4 ∷ 2 ∷ 2 ∷ 1 ∷ [];
+          };
+      calls =
+          start pipelined 3 3 100000000
+          ∷ book 2 2 1
+          ∷ book-rate 3 3 22222222
+          ∷ book-rate 1 2 11111111
+          ∷ book-rate 1 2 11111111
+          ∷ book-rate 1 2 22222222
+          ∷ book-rate 1 2 11111111
+          ∷ book-rate 1 2 11111111
+          ∷ book 1 3 1
+          ∷ arrive 2 3 3
+          ∷ arrive 2 3 4
+          ∷ arrive 3 1 5
+          ∷ arrive 1 1 2
+          ∷ arrive 1 1 4
+          ∷ arrive 1 2 4
+          ∷ tick pipelined
+          ∷ tick pipelined
+          ∷ tick pipelined
+          ∷ tick pipelined
+          ∷ tick pipelined
+          ∷ release-rate 3 3 11111111
+          ∷ tick pipelined
+          ∷ tick pipelined
+          ∷ arrive 2 1 0
+          ∷ book-rate 3 3 33333333
+          ∷ arrive 3 3 5
+          ∷ tick pipelined
+          ∷ tick pipelined
+          ∷ tick pipelined
+          ∷ release 3 3 1
+          ∷ tick pipelined
+          ∷ tick pipelined
+          ∷ tick pipelined
+          ∷ tick pipelined
+          ∷ tick pipelined
+          ∷ arrive 2 3 0
+          ∷ tick pipelined
+          ∷ [];
+      expected =
+          claim 1 1 1 0 0 0 0
+          ∷ claim 1 1 4 0 0 0 0
+          ∷ claim 1 1 7 0 2 3 0
+          ∷ claim 1 1 10 0 2 3 0
+          ∷ claim 1 1 13 0 2 2 0
+          ∷ claim 1 1 16 0 2 0 0
+          ∷ claim 1 2 1 0 0 0 0
+          ∷ claim 1 2 4 0 0 0 0
+          ∷ claim 1 2 7 1 2 3 1
+          ∷ claim 1 2 10 1 2 3 1
+          ∷ claim 1 2 13 1 2 3 1
+          ∷ claim 1 2 16 1 2 0 0
+          ∷ claim 1 3 1 0 0 0 0
+          ∷ claim 1 3 4 0 0 0 0
+          ∷ claim 1 3 7 1 2 0 0
+          ∷ claim 1 3 10 1 2 0 0
+          ∷ claim 1 3 13 1 2 0 0
+          ∷ claim 1 3 16 1 2 0 0
+          ∷ claim 2 1 1 0 0 0 0
+          ∷ claim 2 1 4 0 0 0 0
+          ∷ claim 2 1 7 0 1 0 0
+          ∷ claim 2 1 10 0 1 0 0
+          ∷ claim 2 1 13 0 1 0 0
+          ∷ claim 2 1 16 0 1 0 0
+          ∷ claim 2 2 1 0 0 0 0
+          ∷ claim 2 2 4 0 0 0 0
+          ∷ claim 2 2 7 1 1 0 0
+          ∷ claim 2 2 10 1 1 0 0
+          ∷ claim 2 2 13 1 1 0 0
+          ∷ claim 2 2 16 1 1 0 0
+          ∷ claim 2 3 1 0 0 0 0
+          ∷ claim 2 3 4 0 0 0 0
+          ∷ claim 2 3 7 0 3 3 0
+          ∷ claim 2 3 10 0 3 3 0
+          ∷ claim 2 3 13 0 3 1 0
+          ∷ claim 2 3 16 0 3 0 0
+          ∷ claim 3 1 1 0 0 0 0
+          ∷ claim 3 1 4 0 0 0 0
+          ∷ claim 3 1 7 0 1 3 0
+          ∷ claim 3 1 10 0 1 3 0
+          ∷ claim 3 1 13 0 1 3 0
+          ∷ claim 3 1 16 0 1 2 0
+          ∷ claim 3 2 1 0 0 0 0
+          ∷ claim 3 2 4 0 0 0 0
+          ∷ claim 3 2 7 0 3 0 0
+          ∷ claim 3 2 10 0 3 0 0
+          ∷ claim 3 2 13 0 3 0 0
+          ∷ claim 3 2 16 0 3 0 0
+          ∷ claim 3 3 1 0 0 0 0
+          ∷ claim 3 3 4 0 0 0 0
+          ∷ claim 3 3 7 1 1 0 0
+          ∷ claim 3 3 10 1 1 1 1
+          ∷ claim 3 3 13 1 1 3 1
+          ∷ claim 3 3 16 1 1 2 1
+          ∷ [];
+    }
+
+pub agrees-57 : first-wrong list-57 ≡ 0
+unfolding first-wrong entries apply Direct.start Direct.tick Pipelined.start Pipelined.tick book-words rate-words release-words release-rate-words arrive-words into-frame booking bookings row-sum column-sum sum least some-of word
+agrees-57 = refl
+
+abbrev list-58 : Case
+list-58 =
+    record {
+      switch =
+          record {
+            clock = clock-of 2 0 5 1000;
+            book = book-of (3 ∷ 7 ∷ 102 ∷ 2 ∷ 1 ∷ 1 ∷ 1 ∷ 101 ∷ 7 ∷ []) (3 ∷ 103 ∷ 101 ∷ 1 ∷ 3 ∷ 102 ∷ 7 ∷ 104 ∷ 102 ∷ []);
+            credits = 2 ∷ 7 ∷ 102 ∷ 104 ∷ 102 ∷ 4 ∷ 2 ∷ 1 ∷ 4 ∷ [];
+            queues = 104 ∷ 2 ∷ 2 ∷ 1 ∷ 4 ∷ 101 ∷ 3 ∷ 102 ∷ 103 ∷ [];
+            copy = 2 ∷ 2 ∷ 1 ∷ 101 ∷ 104 ∷ 1 ∷ 103 ∷ 3 ∷ 2 ∷ [];
+            flight = 1 ∷ 4 ∷ 4 ∷ 2 ∷ 101 ∷ 101 ∷ 2 ∷ 1 ∷ 4 ∷ 4 ∷ 2 ∷ 2 ∷ 1 ∷ 2 ∷ 104 ∷ 2 ∷ 101 ∷ 102 ∷ [];
+          };
+      calls =
+          start direct 2 3 1000
+          ∷ book-rate 2 2 222
+          ∷ book-rate 2 2 111
+          ∷ book-rate 2 1 333
+          ∷ book-rate 2 1 111
+          ∷ book-rate 2 2 334
+          ∷ arrive 2 1 5
+          ∷ arrive 1 2 4
+          ∷ arrive 1 2 3
+          ∷ arrive 1 2 4
+          ∷ tick direct
+          ∷ tick direct
+          ∷ tick direct
+          ∷ tick direct
+          ∷ release-rate 2 1 111
+          ∷ tick direct
+          ∷ tick direct
+          ∷ tick direct
+          ∷ tick direct
+          ∷ book-rate 1 2 222
+          ∷ release-rate 2 2 112
+          ∷ arrive 1 1 4
+          ∷ tick direct
+          ∷ tick direct
+          ∷ tick direct
+          ∷ release 3 2 1
+          ∷ book 2 2 2
+          ∷ tick direct
+          ∷ release-rate 1 1 1
+          ∷ tick direct
+          ∷ tick direct
+          ∷ tick direct
+          ∷ arrive 2 2 4
+          ∷ tick direct
+          ∷ tick direct
+          ∷ tick direct
+          ∷ tick direct
+          ∷ arrive 2 2 2
+          ∷ book 1 1 1
+          ∷ tick direct
+          ∷ tick direct
+          ∷ tick direct
+          ∷ [];
+      expected =
+          claim 1 1 1 0 1 0 0
+          ∷ claim 1 1 4 0 1 0 0
+          ∷ claim 1 1 7 0 1 1 0
+          ∷ claim 1 1 10 0 2 3 0
+          ∷ claim 1 1 13 0 2 2 0
+          ∷ claim 1 1 16 0 2 0 0
+          ∷ claim 1 1 19 0 2 0 0
+          ∷ claim 1 1 22 1 2 0 0
+          ∷ claim 1 2 1 0 1 3 0
+          ∷ claim 1 2 4 0 1 3 0
+          ∷ claim 1 2 7 0 1 3 0
+          ∷ claim 1 2 10 1 1 3 1
+          ∷ claim 1 2 13 1 1 3 1
+          ∷ claim 1 2 16 1 1 0 0
+          ∷ claim 1 2 19 1 1 0 0
+          ∷ claim 1 2 22 1 2 0 0
+          ∷ claim 2 1 1 1 1 3 1
+          ∷ claim 2 1 4 1 1 2 1
+          ∷ claim 2 1 7 1 1 0 0
+          ∷ claim 2 1 10 1 1 0 0
+          ∷ claim 2 1 13 1 1 0 0
+          ∷ claim 2 1 16 1 1 0 0
+          ∷ claim 2 1 19 1 1 0 0
+          ∷ claim 2 1 22 1 2 0 0
+          ∷ claim 2 2 1 1 1 0 0
+          ∷ claim 2 2 4 1 1 0 0
+          ∷ claim 2 2 7 1 1 0 0
+          ∷ claim 2 2 10 1 2 0 0
+          ∷ claim 2 2 13 1 2 0 0
+          ∷ claim 2 2 16 1 2 3 1
+          ∷ claim 2 2 19 1 2 3 1
+          ∷ claim 2 2 22 1 2 0 0
+          ∷ [];
+    }
+
 pub agrees-58 : first-wrong list-58 ≡ 0
-unfolding first-wrong entries apply Direct.start Direct.tick Pipelined.start Pipelined.tick book-words rate-words release-words arrive-words into-frame row-sum column-sum sum least some-of word
+unfolding first-wrong entries apply Direct.start Direct.tick Pipelined.start Pipelined.tick book-words rate-words release-words release-rate-words arrive-words into-frame booking bookings row-sum column-sum sum least some-of word
 agrees-58 = refl
 
 abbrev list-59 : Case
@@ -5819,131 +6132,114 @@ list-59 =
     record {
       switch =
           record {
-            clock = clock-of 0 5 4000000000;
-            bookings = 103 ∷ 101 ∷ 104 ∷ 3 ∷ 1 ∷ 7 ∷ 1 ∷ 102 ∷ 2 ∷ [];
-            credits = 4 ∷ 103 ∷ 102 ∷ 4 ∷ 2 ∷ 104 ∷ 3 ∷ 4 ∷ 104 ∷ [];
-            queues = 103 ∷ 2 ∷ 1 ∷ 2 ∷ 1 ∷ 2 ∷ 102 ∷ 2 ∷ 102 ∷ [];
-            copy = 2 ∷ 3 ∷ 104 ∷ 104 ∷ 102 ∷ 1 ∷ 7 ∷ 4 ∷ 103 ∷ [];
-            flight = 104 ∷ 7 ∷ 1 ∷ 2 ∷ 4 ∷ 102 ∷ 7 ∷ 1 ∷ 1 ∷ 1 ∷ 1 ∷ 1 ∷ 2 ∷ 3 ∷ 103 ∷ 4 ∷ 7 ∷ 102 ∷ [];
+            clock = clock-of 0 5 4000000000 1;
+            book = book-of (101 ∷ 104 ∷ 3 ∷ 1 ∷ 7 ∷ 1 ∷ 102 ∷ 2 ∷ 4 ∷ []) (103 ∷ 102 ∷ 4 ∷ 2 ∷ 104 ∷ 3 ∷ 4 ∷ 104 ∷ 103 ∷ []);
+            credits = 2 ∷ 1 ∷ 2 ∷ 1 ∷ 2 ∷ 102 ∷ 2 ∷ 102 ∷ 2 ∷ [];
+            queues = 3 ∷ 104 ∷ 104 ∷ 102 ∷ 1 ∷ 7 ∷ 4 ∷ 103 ∷ 104 ∷ [];
+            copy = 7 ∷ 1 ∷ 2 ∷ 4 ∷ 102 ∷ 7 ∷ 1 ∷ 1 ∷ 1 ∷ [];
+            flight = 1 ∷ 1 ∷ 2 ∷ 3 ∷ 103 ∷ 4 ∷ 7 ∷ 102 ∷ 2 ∷ 4 ∷ 1 ∷ 2 ∷ 4 ∷ 4 ∷ 4 ∷ 4 ∷ 4 ∷ 2 ∷ [];
           };
       calls =
-          start pipelined 3 3
-          ∷ book-rate 1 3 99999999 33333334
-          ∷ book 1 3 1
-          ∷ book 3 1 1
-          ∷ book-rate 1 2 7 2
-          ∷ book 3 1 1
-          ∷ book-rate 2 3 99999999 33333334
-          ∷ book 1 3 1
-          ∷ book-rate 2 2 1000 333
-          ∷ arrive 2 1 2
-          ∷ arrive 3 3 2
-          ∷ arrive 1 2 3
-          ∷ arrive 1 3 2
-          ∷ arrive 2 1 4
-          ∷ arrive 2 3 5
-          ∷ tick pipelined
-          ∷ tick pipelined
-          ∷ arrive 1 2 2
-          ∷ tick pipelined
-          ∷ arrive 1 3 3
-          ∷ tick pipelined
-          ∷ start pipelined 3 4
-          ∷ book-rate 2 3 1000 250
-          ∷ book 3 1 1
-          ∷ book-rate 3 1 7 4
+          start pipelined 3 6 100000000
           ∷ book 2 2 1
-          ∷ book-rate 3 3 99999999 25000000
-          ∷ book 1 3 1
-          ∷ book 2 3 2
-          ∷ book 2 3 1
-          ∷ book-rate 1 2 1 1
-          ∷ arrive 1 2 12
-          ∷ arrive 3 3 9
-          ∷ arrive 1 1 6
-          ∷ arrive 3 3 7
-          ∷ arrive 1 3 10
-          ∷ tick pipelined
-          ∷ arrive 0 3 1
-          ∷ tick pipelined
-          ∷ arrive 2 2 8
-          ∷ book 3 3 1
-          ∷ tick pipelined
-          ∷ book 1 1 1
-          ∷ book-rate 1 2 7 2
-          ∷ start pipelined 0 4
-          ∷ release 3 4294967297 1
-          ∷ tick pipelined
-          ∷ tick pipelined
-          ∷ tick pipelined
-          ∷ start pipelined 0 4
+          ∷ book-rate 3 2 5555556
+          ∷ book-rate 3 2 5555556
+          ∷ book-rate 2 3 5555556
+          ∷ book-rate 2 3 5555555
+          ∷ book-rate 2 3 5555555
+          ∷ book-rate 2 2 16666666
+          ∷ book-rate 3 3 5555555
+          ∷ book-rate 3 3 5555556
+          ∷ book-rate 3 3 11111111
+          ∷ book-rate 2 1 16666666
+          ∷ book-rate 1 1 5555556
+          ∷ book 1 2 1
+          ∷ book-rate 2 3 5555555
+          ∷ arrive 1 3 69
+          ∷ arrive 3 1 87
+          ∷ arrive 1 3 88
+          ∷ release-rate 2 3 5555556
+          ∷ arrive 3 2 64
+          ∷ book 2 1 1
           ∷ tick pipelined
           ∷ tick pipelined
           ∷ tick pipelined
           ∷ tick pipelined
           ∷ tick pipelined
-          ∷ arrive 0 3 1
-          ∷ tick pipelined
-          ∷ tick pipelined
-          ∷ arrive 3 3 10
+          ∷ arrive 3 3 77
           ∷ tick pipelined
           ∷ tick pipelined
           ∷ tick pipelined
           ∷ tick pipelined
-          ∷ arrive 1 1 11
+          ∷ tick pipelined
+          ∷ release-rate 3 2 11111112
+          ∷ tick pipelined
+          ∷ tick pipelined
+          ∷ arrive 1 3 71
+          ∷ book 2 1 1
+          ∷ tick pipelined
+          ∷ tick pipelined
+          ∷ tick pipelined
+          ∷ book-rate 1 3 5555555
+          ∷ tick pipelined
+          ∷ tick pipelined
+          ∷ arrive 3 3 48
+          ∷ arrive 3 2 90
+          ∷ arrive 1 3 90
+          ∷ arrive 2 2 49
+          ∷ book-rate 2 1 5555556
+          ∷ arrive 3 3 73
+          ∷ arrive 4 1 1
+          ∷ arrive 3 2 51
+          ∷ arrive 2 3 76
+          ∷ release-rate 2 3 11111110
+          ∷ arrive 2 1 60
+          ∷ arrive 3 1 90
+          ∷ arrive 2 3 86
           ∷ tick pipelined
           ∷ [];
       expected =
           claim 1 1 1 0 0 0 0
-          ∷ claim 1 1 5 0 0 2 0
-          ∷ claim 1 1 9 0 2 4 0
-          ∷ claim 1 1 13 1 2 1 1
-          ∷ claim 1 1 17 1 2 0 0
+          ∷ claim 1 1 7 1 0 0 0
+          ∷ claim 1 1 13 1 0 0 0
+          ∷ claim 1 1 19 1 0 0 0
           ∷ claim 1 2 1 0 0 0 0
-          ∷ claim 1 2 5 0 0 2 0
-          ∷ claim 1 2 9 0 2 4 0
-          ∷ claim 1 2 13 0 3 4 0
-          ∷ claim 1 2 17 0 3 3 0
+          ∷ claim 1 2 7 0 4 0 0
+          ∷ claim 1 2 13 0 4 0 0
+          ∷ claim 1 2 19 0 3 0 0
           ∷ claim 1 3 1 0 0 0 0
-          ∷ claim 1 3 5 0 0 2 0
-          ∷ claim 1 3 9 1 1 4 1
-          ∷ claim 1 3 13 1 2 4 1
-          ∷ claim 1 3 17 1 2 3 1
+          ∷ claim 1 3 7 0 4 6 0
+          ∷ claim 1 3 13 0 4 6 0
+          ∷ claim 1 3 19 0 4 1 0
           ∷ claim 2 1 1 0 0 0 0
-          ∷ claim 2 1 5 0 0 0 0
-          ∷ claim 2 1 9 0 3 0 0
+          ∷ claim 2 1 7 0 4 0 0
           ∷ claim 2 1 13 0 4 0 0
-          ∷ claim 2 1 17 0 4 0 0
+          ∷ claim 2 1 19 0 4 0 0
           ∷ claim 2 2 1 0 0 0 0
-          ∷ claim 2 2 5 0 0 1 0
-          ∷ claim 2 2 9 1 1 4 1
-          ∷ claim 2 2 13 1 1 4 1
-          ∷ claim 2 2 17 1 1 1 1
+          ∷ claim 2 2 7 2 2 0 0
+          ∷ claim 2 2 13 2 2 0 0
+          ∷ claim 2 2 19 2 1 0 0
           ∷ claim 2 3 1 0 0 0 0
-          ∷ claim 2 3 5 0 0 0 0
-          ∷ claim 2 3 9 1 2 0 0
-          ∷ claim 2 3 13 1 2 0 0
-          ∷ claim 2 3 17 1 2 0 0
+          ∷ claim 2 3 7 1 4 0 0
+          ∷ claim 2 3 13 1 4 0 0
+          ∷ claim 2 3 19 1 4 0 0
           ∷ claim 3 1 1 0 0 0 0
-          ∷ claim 3 1 5 0 0 0 0
-          ∷ claim 3 1 9 1 0 0 0
-          ∷ claim 3 1 13 1 1 0 0
-          ∷ claim 3 1 17 1 1 0 0
+          ∷ claim 3 1 7 0 4 6 0
+          ∷ claim 3 1 13 0 4 6 0
+          ∷ claim 3 1 19 0 3 1 0
           ∷ claim 3 2 1 0 0 0 0
-          ∷ claim 3 2 5 0 0 0 0
-          ∷ claim 3 2 9 0 2 0 0
-          ∷ claim 3 2 13 0 2 0 0
-          ∷ claim 3 2 17 0 2 0 0
+          ∷ claim 3 2 7 1 4 6 1
+          ∷ claim 3 2 13 1 4 6 1
+          ∷ claim 3 2 19 0 4 1 0
           ∷ claim 3 3 1 0 0 0 0
-          ∷ claim 3 3 5 0 0 2 0
-          ∷ claim 3 3 9 0 3 4 0
-          ∷ claim 3 3 13 0 3 4 0
-          ∷ claim 3 3 17 0 3 3 0
+          ∷ claim 3 3 7 2 2 3 2
+          ∷ claim 3 3 13 2 2 6 2
+          ∷ claim 3 3 19 2 1 1 1
           ∷ [];
     }
 
 pub agrees-59 : first-wrong list-59 ≡ 0
-unfolding first-wrong entries apply Direct.start Direct.tick Pipelined.start Pipelined.tick book-words rate-words release-words arrive-words into-frame row-sum column-sum sum least some-of word
+unfolding first-wrong entries apply Direct.start Direct.tick Pipelined.start Pipelined.tick book-words rate-words release-words release-rate-words arrive-words into-frame booking bookings row-sum column-sum sum least some-of word
 agrees-59 = refl
 
 abbrev list-60 : Case
@@ -5951,97 +6247,90 @@ list-60 =
     record {
       switch =
           record {
-            clock = clock-of 3 0 77;
-            bookings = 7 ∷ 103 ∷ 103 ∷ 2 ∷ 104 ∷ 2 ∷ 3 ∷ 4 ∷ 1 ∷ [];
-            credits = 102 ∷ 7 ∷ 1 ∷ 104 ∷ 2 ∷ 7 ∷ 103 ∷ 102 ∷ 101 ∷ [];
-            queues = 4 ∷ 103 ∷ 1 ∷ 103 ∷ 101 ∷ 3 ∷ 2 ∷ 1 ∷ 103 ∷ [];
-            copy = 2 ∷ 2 ∷ 1 ∷ 101 ∷ 4 ∷ 102 ∷ 103 ∷ 1 ∷ 102 ∷ [];
-            flight = 1 ∷ 2 ∷ 104 ∷ 103 ∷ 102 ∷ 1 ∷ 103 ∷ 1 ∷ 2 ∷ 102 ∷ 3 ∷ 101 ∷ 101 ∷ 102 ∷ 104 ∷ 102 ∷ 4 ∷ 102 ∷ [];
+            clock = clock-of 3 0 77 1000;
+            book = book-of (103 ∷ 103 ∷ 2 ∷ 104 ∷ 2 ∷ 3 ∷ 4 ∷ 1 ∷ 102 ∷ []) (7 ∷ 1 ∷ 104 ∷ 2 ∷ 7 ∷ 103 ∷ 102 ∷ 101 ∷ 4 ∷ []);
+            credits = 103 ∷ 1 ∷ 103 ∷ 101 ∷ 3 ∷ 2 ∷ 1 ∷ 103 ∷ 2 ∷ [];
+            queues = 2 ∷ 1 ∷ 101 ∷ 4 ∷ 102 ∷ 103 ∷ 1 ∷ 102 ∷ 1 ∷ [];
+            copy = 2 ∷ 104 ∷ 103 ∷ 102 ∷ 1 ∷ 103 ∷ 1 ∷ 2 ∷ 102 ∷ [];
+            flight = 3 ∷ 101 ∷ 101 ∷ 102 ∷ 104 ∷ 102 ∷ 4 ∷ 102 ∷ 104 ∷ 1 ∷ 2 ∷ 7 ∷ 4 ∷ 7 ∷ 101 ∷ 101 ∷ 7 ∷ 1 ∷ [];
           };
       calls =
-          start direct 3 3
-          ∷ book-rate 2 1 1000 334
-          ∷ book 2 3 1
-          ∷ book-rate 3 1 100000000 33333333
-          ∷ book-rate 2 3 1000 333
-          ∷ arrive 2 3 12
-          ∷ arrive 2 1 9
-          ∷ arrive 3 2 11
-          ∷ arrive 1 2 11
-          ∷ arrive 2 1 10
-          ∷ arrive 3 3 11
-          ∷ arrive 2 2 7
-          ∷ arrive 2 1 6
-          ∷ arrive 1 1 12
+          start direct 2 3 1000
+          ∷ book 1 1 2
+          ∷ book-rate 1 2 111
+          ∷ book-rate 1 2 222
+          ∷ book-rate 1 2 111
+          ∷ book-rate 1 2 333
+          ∷ book-rate 1 2 111
+          ∷ book-rate 2 1 112
+          ∷ book-rate 2 1 111
+          ∷ arrive 2 2 8
+          ∷ arrive 2 2 9
+          ∷ arrive 2 2 11
+          ∷ arrive 1 2 8
+          ∷ arrive 1 1 6
+          ∷ arrive 2 2 9
           ∷ tick direct
-          ∷ tick direct
-          ∷ release 2 1 1
-          ∷ tick direct
-          ∷ arrive 3 1 9
-          ∷ arrive 2 3 12
+          ∷ arrive 2 1 11
           ∷ book 2 1 1
+          ∷ tick direct
+          ∷ start direct 26 32 1000
+          ∷ arrive 1 2 9
+          ∷ release-rate 4294967297 1 1
+          ∷ tick direct
+          ∷ tick direct
+          ∷ tick direct
+          ∷ tick direct
+          ∷ start direct 2 0 1000
+          ∷ release-rate 1 1 1
+          ∷ tick direct
+          ∷ release-rate 2 2 1
+          ∷ book-rate 2 2 112
+          ∷ tick direct
+          ∷ release 1 2 1
+          ∷ arrive 1 2 10
+          ∷ release-rate 2 2 112
+          ∷ tick direct
+          ∷ tick direct
+          ∷ tick direct
           ∷ tick direct
           ∷ tick direct
           ∷ book 1 1 1
           ∷ tick direct
+          ∷ start direct 7 32 1000
           ∷ tick direct
           ∷ tick direct
-          ∷ tick direct
-          ∷ release 2 1 1
-          ∷ tick direct
-          ∷ tick direct
-          ∷ tick direct
+          ∷ book-rate 1 2 111
           ∷ tick direct
           ∷ [];
       expected =
-          claim 1 1 1 0 2 3 0
-          ∷ claim 1 1 4 0 2 3 0
-          ∷ claim 1 1 7 0 2 3 0
-          ∷ claim 1 1 10 0 1 3 0
-          ∷ claim 1 1 13 0 1 1 0
-          ∷ claim 1 2 1 0 0 3 0
-          ∷ claim 1 2 4 0 0 3 0
-          ∷ claim 1 2 7 0 0 3 0
-          ∷ claim 1 2 10 0 0 3 0
-          ∷ claim 1 2 13 0 0 1 0
-          ∷ claim 1 3 1 0 0 0 0
-          ∷ claim 1 3 4 0 0 0 0
-          ∷ claim 1 3 7 0 0 0 0
-          ∷ claim 1 3 10 0 0 0 0
-          ∷ claim 1 3 13 0 0 0 0
-          ∷ claim 2 1 1 2 0 3 2
-          ∷ claim 2 1 4 2 0 3 2
-          ∷ claim 2 1 7 2 0 3 2
-          ∷ claim 2 1 10 1 0 3 1
-          ∷ claim 2 1 13 1 0 1 1
-          ∷ claim 2 2 1 0 2 3 0
-          ∷ claim 2 2 4 0 2 3 0
-          ∷ claim 2 2 7 0 2 3 0
-          ∷ claim 2 2 10 0 1 3 0
-          ∷ claim 2 2 13 0 1 1 0
-          ∷ claim 2 3 1 0 2 3 0
-          ∷ claim 2 3 4 0 2 3 0
-          ∷ claim 2 3 7 0 2 3 0
-          ∷ claim 2 3 10 0 1 3 0
-          ∷ claim 2 3 13 0 1 1 0
-          ∷ claim 3 1 1 0 2 0 0
-          ∷ claim 3 1 4 0 2 3 0
-          ∷ claim 3 1 7 0 2 3 0
-          ∷ claim 3 1 10 0 1 3 0
-          ∷ claim 3 1 13 0 1 1 0
-          ∷ claim 3 2 1 0 0 3 0
-          ∷ claim 3 2 4 0 0 3 0
-          ∷ claim 3 2 7 0 0 3 0
-          ∷ claim 3 2 10 0 0 3 0
-          ∷ claim 3 2 13 0 0 1 0
-          ∷ claim 3 3 1 0 0 3 0
-          ∷ claim 3 3 4 0 0 3 0
-          ∷ claim 3 3 7 0 0 3 0
-          ∷ claim 3 3 10 0 0 2 0
-          ∷ claim 3 3 13 0 0 0 0
+          claim 1 1 1 2 0 3 2
+          ∷ claim 1 1 4 2 0 3 2
+          ∷ claim 1 1 7 2 0 0 0
+          ∷ claim 1 1 10 2 0 0 0
+          ∷ claim 1 1 13 2 0 0 0
+          ∷ claim 1 1 16 2 0 0 0
+          ∷ claim 1 2 1 0 2 3 0
+          ∷ claim 1 2 4 0 2 3 0
+          ∷ claim 1 2 7 0 2 3 0
+          ∷ claim 1 2 10 0 2 3 0
+          ∷ claim 1 2 13 0 2 3 0
+          ∷ claim 1 2 16 0 2 2 0
+          ∷ claim 2 1 1 0 2 2 0
+          ∷ claim 2 1 4 0 2 3 0
+          ∷ claim 2 1 7 0 2 3 0
+          ∷ claim 2 1 10 0 2 3 0
+          ∷ claim 2 1 13 0 2 3 0
+          ∷ claim 2 1 16 0 2 2 0
+          ∷ claim 2 2 1 0 0 3 0
+          ∷ claim 2 2 4 0 0 3 0
+          ∷ claim 2 2 7 0 0 3 0
+          ∷ claim 2 2 10 0 0 3 0
+          ∷ claim 2 2 13 0 0 3 0
+          ∷ claim 2 2 16 0 0 2 0
           ∷ [];
     }
 
 pub agrees-60 : first-wrong list-60 ≡ 0
-unfolding first-wrong entries apply Direct.start Direct.tick Pipelined.start Pipelined.tick book-words rate-words release-words arrive-words into-frame row-sum column-sum sum least some-of word
+unfolding first-wrong entries apply Direct.start Direct.tick Pipelined.start Pipelined.tick book-words rate-words release-words release-rate-words arrive-words into-frame booking bookings row-sum column-sum sum least some-of word
 agrees-60 = refl

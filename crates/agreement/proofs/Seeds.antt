@@ -3,7 +3,7 @@
 use mathlib.Core.Path.{_≡_, refl}
 use mathlib.Core.List.{List, [], _∷_}
 use Rattle.wsgs.specs.Basics.{sum, some-of, least}
-use Rattle.wsgs.specs.Words.{row-sum, column-sum}
+use Rattle.wsgs.specs.Bookings.{bookings, row-sum, column-sum}
 use Rattle.wsgs.specs.Frames.{into-frame}
 use Rattle.wsgs.specs.Book.{book-words, arrive-words, release-words}
 use Rattle.wsgs.specs.Direct
@@ -183,7 +183,7 @@ pub seed-1 : program
     ∷ "match,55,6,4,2"
     ∷ "refused,54,4,1,8"
     ∷ [])
-unfolding program refused-line lines file Direct.start Direct.tick Pipelined.start Pipelined.tick book-words release-words arrive-words into-frame row-sum column-sum sum least some-of
+unfolding program refused-line lines file Direct.start Direct.tick Pipelined.start Pipelined.tick book-words release-words arrive-words into-frame bookings row-sum column-sum sum least some-of
 seed-1 = refl
 
 pub seed-2 : program
@@ -321,7 +321,7 @@ pub seed-2 : program
     ∷ "match,46,6,2,2"
     ∷ "refused,0,0,0,12"
     ∷ [])
-unfolding program refused-line lines file Direct.start Direct.tick Pipelined.start Pipelined.tick book-words release-words arrive-words into-frame row-sum column-sum sum least some-of
+unfolding program refused-line lines file Direct.start Direct.tick Pipelined.start Pipelined.tick book-words release-words arrive-words into-frame bookings row-sum column-sum sum least some-of
 seed-2 = refl
 
 pub seed-3 : program
@@ -451,7 +451,7 @@ pub seed-3 : program
     ∷ "match,57,1,1,2"
     ∷ "match,58,1,1,2"
     ∷ [])
-unfolding program refused-line lines file Direct.start Direct.tick Pipelined.start Pipelined.tick book-words release-words arrive-words into-frame row-sum column-sum sum least some-of
+unfolding program refused-line lines file Direct.start Direct.tick Pipelined.start Pipelined.tick book-words release-words arrive-words into-frame bookings row-sum column-sum sum least some-of
 seed-3 = refl
 
 pub seed-4 : program
@@ -599,7 +599,7 @@ pub seed-4 : program
     ∷ "match,70,2,2,2"
     ∷ "match,71,2,2,2"
     ∷ [])
-unfolding program refused-line lines file Direct.start Direct.tick Pipelined.start Pipelined.tick book-words release-words arrive-words into-frame row-sum column-sum sum least some-of
+unfolding program refused-line lines file Direct.start Direct.tick Pipelined.start Pipelined.tick book-words release-words arrive-words into-frame bookings row-sum column-sum sum least some-of
 seed-4 = refl
 
 pub seed-5 : program
@@ -739,7 +739,7 @@ pub seed-5 : program
     ∷ "refused,53,2,2,8"
     ∷ "refused,53,2,2,8"
     ∷ [])
-unfolding program refused-line lines file Direct.start Direct.tick Pipelined.start Pipelined.tick book-words release-words arrive-words into-frame row-sum column-sum sum least some-of
+unfolding program refused-line lines file Direct.start Direct.tick Pipelined.start Pipelined.tick book-words release-words arrive-words into-frame bookings row-sum column-sum sum least some-of
 seed-5 = refl
 
 pub seed-6 : program
@@ -911,7 +911,7 @@ pub seed-6 : program
     ∷ "match,44,1,1,2"
     ∷ "match,44,2,3,2"
     ∷ [])
-unfolding program refused-line lines file Direct.start Direct.tick Pipelined.start Pipelined.tick book-words release-words arrive-words into-frame row-sum column-sum sum least some-of
+unfolding program refused-line lines file Direct.start Direct.tick Pipelined.start Pipelined.tick book-words release-words arrive-words into-frame bookings row-sum column-sum sum least some-of
 seed-6 = refl
 
 pub seed-7 : program
@@ -1078,7 +1078,7 @@ pub seed-7 : program
     ∷ "match,44,3,1,2"
     ∷ "refused,0,0,0,12"
     ∷ [])
-unfolding program refused-line lines file Direct.start Direct.tick Pipelined.start Pipelined.tick book-words release-words arrive-words into-frame row-sum column-sum sum least some-of
+unfolding program refused-line lines file Direct.start Direct.tick Pipelined.start Pipelined.tick book-words release-words arrive-words into-frame bookings row-sum column-sum sum least some-of
 seed-7 = refl
 
 pub seed-8 : program
@@ -1242,7 +1242,7 @@ pub seed-8 : program
     ∷ "refused,39,3,5,6"
     ∷ "refused,0,0,0,12"
     ∷ [])
-unfolding program refused-line lines file Direct.start Direct.tick Pipelined.start Pipelined.tick book-words release-words arrive-words into-frame row-sum column-sum sum least some-of
+unfolding program refused-line lines file Direct.start Direct.tick Pipelined.start Pipelined.tick book-words release-words arrive-words into-frame bookings row-sum column-sum sum least some-of
 seed-8 = refl
 
 pub seed-9 : program
@@ -1384,7 +1384,7 @@ pub seed-9 : program
     ∷ "match,38,3,3,2"
     ∷ "match,38,5,5,2"
     ∷ [])
-unfolding program refused-line lines file Direct.start Direct.tick Pipelined.start Pipelined.tick book-words release-words arrive-words into-frame row-sum column-sum sum least some-of
+unfolding program refused-line lines file Direct.start Direct.tick Pipelined.start Pipelined.tick book-words release-words arrive-words into-frame bookings row-sum column-sum sum least some-of
 seed-9 = refl
 
 pub seed-10 : program
@@ -1537,7 +1537,7 @@ pub seed-10 : program
     ∷ "match,36,4,2,2"
     ∷ "refused,0,0,0,12"
     ∷ [])
-unfolding program refused-line lines file Direct.start Direct.tick Pipelined.start Pipelined.tick book-words release-words arrive-words into-frame row-sum column-sum sum least some-of
+unfolding program refused-line lines file Direct.start Direct.tick Pipelined.start Pipelined.tick book-words release-words arrive-words into-frame bookings row-sum column-sum sum least some-of
 seed-10 = refl
 
 pub seed-11 : program
@@ -1676,7 +1676,7 @@ pub seed-11 : program
     ∷ "match,45,1,2,2"
     ∷ "match,45,2,1,2"
     ∷ [])
-unfolding program refused-line lines file Direct.start Direct.tick Pipelined.start Pipelined.tick book-words release-words arrive-words into-frame row-sum column-sum sum least some-of
+unfolding program refused-line lines file Direct.start Direct.tick Pipelined.start Pipelined.tick book-words release-words arrive-words into-frame bookings row-sum column-sum sum least some-of
 seed-11 = refl
 
 pub seed-12 : program
@@ -1924,7 +1924,7 @@ pub seed-12 : program
     ∷ "match,70,2,1,2"
     ∷ "match,70,5,5,2"
     ∷ [])
-unfolding program refused-line lines file Direct.start Direct.tick Pipelined.start Pipelined.tick book-words release-words arrive-words into-frame row-sum column-sum sum least some-of
+unfolding program refused-line lines file Direct.start Direct.tick Pipelined.start Pipelined.tick book-words release-words arrive-words into-frame bookings row-sum column-sum sum least some-of
 seed-12 = refl
 
 pub seed-13 : program
@@ -2104,7 +2104,7 @@ pub seed-13 : program
     ∷ "match,57,3,4,2"
     ∷ "match,57,4,2,2"
     ∷ [])
-unfolding program refused-line lines file Direct.start Direct.tick Pipelined.start Pipelined.tick book-words release-words arrive-words into-frame row-sum column-sum sum least some-of
+unfolding program refused-line lines file Direct.start Direct.tick Pipelined.start Pipelined.tick book-words release-words arrive-words into-frame bookings row-sum column-sum sum least some-of
 seed-13 = refl
 
 pub seed-14 : program
@@ -2219,7 +2219,7 @@ pub seed-14 : program
     ∷ "match,37,1,3,2"
     ∷ "match,38,1,3,2"
     ∷ [])
-unfolding program refused-line lines file Direct.start Direct.tick Pipelined.start Pipelined.tick book-words release-words arrive-words into-frame row-sum column-sum sum least some-of
+unfolding program refused-line lines file Direct.start Direct.tick Pipelined.start Pipelined.tick book-words release-words arrive-words into-frame bookings row-sum column-sum sum least some-of
 seed-14 = refl
 
 pub seed-15 : program
@@ -2374,7 +2374,7 @@ pub seed-15 : program
     ∷ "match,28,5,4,2"
     ∷ "refused,28,5,0,5"
     ∷ [])
-unfolding program refused-line lines file Direct.start Direct.tick Pipelined.start Pipelined.tick book-words release-words arrive-words into-frame row-sum column-sum sum least some-of
+unfolding program refused-line lines file Direct.start Direct.tick Pipelined.start Pipelined.tick book-words release-words arrive-words into-frame bookings row-sum column-sum sum least some-of
 seed-15 = refl
 
 pub seed-16 : program
@@ -2537,7 +2537,7 @@ pub seed-16 : program
     ∷ "match,55,2,2,1"
     ∷ "match,55,3,3,2"
     ∷ [])
-unfolding program refused-line lines file Direct.start Direct.tick Pipelined.start Pipelined.tick book-words release-words arrive-words into-frame row-sum column-sum sum least some-of
+unfolding program refused-line lines file Direct.start Direct.tick Pipelined.start Pipelined.tick book-words release-words arrive-words into-frame bookings row-sum column-sum sum least some-of
 seed-16 = refl
 
 pub seed-17 : program
@@ -2716,7 +2716,7 @@ pub seed-17 : program
     ∷ "match,53,3,1,2"
     ∷ "match,53,5,6,2"
     ∷ [])
-unfolding program refused-line lines file Direct.start Direct.tick Pipelined.start Pipelined.tick book-words release-words arrive-words into-frame row-sum column-sum sum least some-of
+unfolding program refused-line lines file Direct.start Direct.tick Pipelined.start Pipelined.tick book-words release-words arrive-words into-frame bookings row-sum column-sum sum least some-of
 seed-17 = refl
 
 pub seed-18 : program
@@ -2827,7 +2827,7 @@ pub seed-18 : program
     ∷ "match,51,1,1,2"
     ∷ "match,52,1,1,2"
     ∷ [])
-unfolding program refused-line lines file Direct.start Direct.tick Pipelined.start Pipelined.tick book-words release-words arrive-words into-frame row-sum column-sum sum least some-of
+unfolding program refused-line lines file Direct.start Direct.tick Pipelined.start Pipelined.tick book-words release-words arrive-words into-frame bookings row-sum column-sum sum least some-of
 seed-18 = refl
 
 pub seed-19 : program
@@ -2951,7 +2951,7 @@ pub seed-19 : program
     ∷ "refused,47,1,1,8"
     ∷ "refused,47,1,1,8"
     ∷ [])
-unfolding program refused-line lines file Direct.start Direct.tick Pipelined.start Pipelined.tick book-words release-words arrive-words into-frame row-sum column-sum sum least some-of
+unfolding program refused-line lines file Direct.start Direct.tick Pipelined.start Pipelined.tick book-words release-words arrive-words into-frame bookings row-sum column-sum sum least some-of
 seed-19 = refl
 
 pub seed-20 : program
@@ -3109,7 +3109,7 @@ pub seed-20 : program
     ∷ "match,34,2,6,2"
     ∷ "match,34,5,5,2"
     ∷ [])
-unfolding program refused-line lines file Direct.start Direct.tick Pipelined.start Pipelined.tick book-words release-words arrive-words into-frame row-sum column-sum sum least some-of
+unfolding program refused-line lines file Direct.start Direct.tick Pipelined.start Pipelined.tick book-words release-words arrive-words into-frame bookings row-sum column-sum sum least some-of
 seed-20 = refl
 
 pub seed-21 : program
@@ -3233,7 +3233,7 @@ pub seed-21 : program
     ∷ "match,47,1,1,2"
     ∷ "refused,47,1,3,8"
     ∷ [])
-unfolding program refused-line lines file Direct.start Direct.tick Pipelined.start Pipelined.tick book-words release-words arrive-words into-frame row-sum column-sum sum least some-of
+unfolding program refused-line lines file Direct.start Direct.tick Pipelined.start Pipelined.tick book-words release-words arrive-words into-frame bookings row-sum column-sum sum least some-of
 seed-21 = refl
 
 pub seed-22 : program
@@ -3332,7 +3332,7 @@ pub seed-22 : program
     ∷ "match,28,1,1,1"
     ∷ "match,29,1,1,1"
     ∷ [])
-unfolding program refused-line lines file Direct.start Direct.tick Pipelined.start Pipelined.tick book-words release-words arrive-words into-frame row-sum column-sum sum least some-of
+unfolding program refused-line lines file Direct.start Direct.tick Pipelined.start Pipelined.tick book-words release-words arrive-words into-frame bookings row-sum column-sum sum least some-of
 seed-22 = refl
 
 pub seed-23 : program
@@ -3442,7 +3442,7 @@ pub seed-23 : program
     ∷ "match,30,6,3,2"
     ∷ "refused,0,0,0,12"
     ∷ [])
-unfolding program refused-line lines file Direct.start Direct.tick Pipelined.start Pipelined.tick book-words release-words arrive-words into-frame row-sum column-sum sum least some-of
+unfolding program refused-line lines file Direct.start Direct.tick Pipelined.start Pipelined.tick book-words release-words arrive-words into-frame bookings row-sum column-sum sum least some-of
 seed-23 = refl
 
 pub seed-24 : program
@@ -3559,7 +3559,7 @@ pub seed-24 : program
     ∷ "refused,38,2,2,6"
     ∷ "refused,38,2,1,10"
     ∷ [])
-unfolding program refused-line lines file Direct.start Direct.tick Pipelined.start Pipelined.tick book-words release-words arrive-words into-frame row-sum column-sum sum least some-of
+unfolding program refused-line lines file Direct.start Direct.tick Pipelined.start Pipelined.tick book-words release-words arrive-words into-frame bookings row-sum column-sum sum least some-of
 seed-24 = refl
 
 pub seed-25 : program
@@ -3713,7 +3713,7 @@ pub seed-25 : program
     ∷ "match,52,1,3,2"
     ∷ "match,52,2,4,2"
     ∷ [])
-unfolding program refused-line lines file Direct.start Direct.tick Pipelined.start Pipelined.tick book-words release-words arrive-words into-frame row-sum column-sum sum least some-of
+unfolding program refused-line lines file Direct.start Direct.tick Pipelined.start Pipelined.tick book-words release-words arrive-words into-frame bookings row-sum column-sum sum least some-of
 seed-25 = refl
 
 pub seed-26 : program
@@ -3848,7 +3848,7 @@ pub seed-26 : program
     ∷ "match,27,3,5,2"
     ∷ "match,27,4,2,2"
     ∷ [])
-unfolding program refused-line lines file Direct.start Direct.tick Pipelined.start Pipelined.tick book-words release-words arrive-words into-frame row-sum column-sum sum least some-of
+unfolding program refused-line lines file Direct.start Direct.tick Pipelined.start Pipelined.tick book-words release-words arrive-words into-frame bookings row-sum column-sum sum least some-of
 seed-26 = refl
 
 pub seed-27 : program
@@ -4026,7 +4026,7 @@ pub seed-27 : program
     ∷ "refused,42,3,5,9"
     ∷ "refused,42,4,3,8"
     ∷ [])
-unfolding program refused-line lines file Direct.start Direct.tick Pipelined.start Pipelined.tick book-words release-words arrive-words into-frame row-sum column-sum sum least some-of
+unfolding program refused-line lines file Direct.start Direct.tick Pipelined.start Pipelined.tick book-words release-words arrive-words into-frame bookings row-sum column-sum sum least some-of
 seed-27 = refl
 
 pub seed-28 : program
@@ -4175,7 +4175,7 @@ pub seed-28 : program
     ∷ "match,40,2,2,2"
     ∷ "match,40,3,4,2"
     ∷ [])
-unfolding program refused-line lines file Direct.start Direct.tick Pipelined.start Pipelined.tick book-words release-words arrive-words into-frame row-sum column-sum sum least some-of
+unfolding program refused-line lines file Direct.start Direct.tick Pipelined.start Pipelined.tick book-words release-words arrive-words into-frame bookings row-sum column-sum sum least some-of
 seed-28 = refl
 
 pub seed-29 : program
@@ -4291,7 +4291,7 @@ pub seed-29 : program
     ∷ "refused,32,2,1,8"
     ∷ "refused,32,2,1,8"
     ∷ [])
-unfolding program refused-line lines file Direct.start Direct.tick Pipelined.start Pipelined.tick book-words release-words arrive-words into-frame row-sum column-sum sum least some-of
+unfolding program refused-line lines file Direct.start Direct.tick Pipelined.start Pipelined.tick book-words release-words arrive-words into-frame bookings row-sum column-sum sum least some-of
 seed-29 = refl
 
 pub seed-30 : program
@@ -4440,7 +4440,7 @@ pub seed-30 : program
     ∷ "match,51,3,2,2"
     ∷ "refused,51,3,3,10"
     ∷ [])
-unfolding program refused-line lines file Direct.start Direct.tick Pipelined.start Pipelined.tick book-words release-words arrive-words into-frame row-sum column-sum sum least some-of
+unfolding program refused-line lines file Direct.start Direct.tick Pipelined.start Pipelined.tick book-words release-words arrive-words into-frame bookings row-sum column-sum sum least some-of
 seed-30 = refl
 
 pub seed-31 : program
@@ -4584,7 +4584,7 @@ pub seed-31 : program
     ∷ "match,42,1,1,1"
     ∷ "match,42,2,2,1"
     ∷ [])
-unfolding program refused-line lines file Direct.start Direct.tick Pipelined.start Pipelined.tick book-words release-words arrive-words into-frame row-sum column-sum sum least some-of
+unfolding program refused-line lines file Direct.start Direct.tick Pipelined.start Pipelined.tick book-words release-words arrive-words into-frame bookings row-sum column-sum sum least some-of
 seed-31 = refl
 
 pub seed-32 : program
@@ -4721,7 +4721,7 @@ pub seed-32 : program
     ∷ "match,53,1,1,2"
     ∷ "match,53,3,2,2"
     ∷ [])
-unfolding program refused-line lines file Direct.start Direct.tick Pipelined.start Pipelined.tick book-words release-words arrive-words into-frame row-sum column-sum sum least some-of
+unfolding program refused-line lines file Direct.start Direct.tick Pipelined.start Pipelined.tick book-words release-words arrive-words into-frame bookings row-sum column-sum sum least some-of
 seed-32 = refl
 
 pub seed-33 : program
@@ -4848,7 +4848,7 @@ pub seed-33 : program
     ∷ "refused,37,4,2,8"
     ∷ "refused,37,4,3,8"
     ∷ [])
-unfolding program refused-line lines file Direct.start Direct.tick Pipelined.start Pipelined.tick book-words release-words arrive-words into-frame row-sum column-sum sum least some-of
+unfolding program refused-line lines file Direct.start Direct.tick Pipelined.start Pipelined.tick book-words release-words arrive-words into-frame bookings row-sum column-sum sum least some-of
 seed-33 = refl
 
 pub seed-34 : program
@@ -4983,7 +4983,7 @@ pub seed-34 : program
     ∷ "match,63,2,3,2"
     ∷ "match,64,2,3,2"
     ∷ [])
-unfolding program refused-line lines file Direct.start Direct.tick Pipelined.start Pipelined.tick book-words release-words arrive-words into-frame row-sum column-sum sum least some-of
+unfolding program refused-line lines file Direct.start Direct.tick Pipelined.start Pipelined.tick book-words release-words arrive-words into-frame bookings row-sum column-sum sum least some-of
 seed-34 = refl
 
 pub seed-35 : program
@@ -5106,7 +5106,7 @@ pub seed-35 : program
     ∷ "match,51,1,1,2"
     ∷ "refused,0,0,0,12"
     ∷ [])
-unfolding program refused-line lines file Direct.start Direct.tick Pipelined.start Pipelined.tick book-words release-words arrive-words into-frame row-sum column-sum sum least some-of
+unfolding program refused-line lines file Direct.start Direct.tick Pipelined.start Pipelined.tick book-words release-words arrive-words into-frame bookings row-sum column-sum sum least some-of
 seed-35 = refl
 
 pub seed-36 : program
@@ -5245,7 +5245,7 @@ pub seed-36 : program
     ∷ "match,43,2,1,2"
     ∷ "match,44,2,1,2"
     ∷ [])
-unfolding program refused-line lines file Direct.start Direct.tick Pipelined.start Pipelined.tick book-words release-words arrive-words into-frame row-sum column-sum sum least some-of
+unfolding program refused-line lines file Direct.start Direct.tick Pipelined.start Pipelined.tick book-words release-words arrive-words into-frame bookings row-sum column-sum sum least some-of
 seed-36 = refl
 
 pub seed-37 : program
@@ -5448,7 +5448,7 @@ pub seed-37 : program
     ∷ "match,65,3,2,2"
     ∷ "match,65,4,4,2"
     ∷ [])
-unfolding program refused-line lines file Direct.start Direct.tick Pipelined.start Pipelined.tick book-words release-words arrive-words into-frame row-sum column-sum sum least some-of
+unfolding program refused-line lines file Direct.start Direct.tick Pipelined.start Pipelined.tick book-words release-words arrive-words into-frame bookings row-sum column-sum sum least some-of
 seed-37 = refl
 
 pub seed-38 : program
@@ -5633,7 +5633,7 @@ pub seed-38 : program
     ∷ "match,56,1,1,2"
     ∷ "match,56,3,2,2"
     ∷ [])
-unfolding program refused-line lines file Direct.start Direct.tick Pipelined.start Pipelined.tick book-words release-words arrive-words into-frame row-sum column-sum sum least some-of
+unfolding program refused-line lines file Direct.start Direct.tick Pipelined.start Pipelined.tick book-words release-words arrive-words into-frame bookings row-sum column-sum sum least some-of
 seed-38 = refl
 
 pub seed-39 : program
@@ -5852,7 +5852,7 @@ pub seed-39 : program
     ∷ "match,52,3,3,2"
     ∷ "match,52,4,1,2"
     ∷ [])
-unfolding program refused-line lines file Direct.start Direct.tick Pipelined.start Pipelined.tick book-words release-words arrive-words into-frame row-sum column-sum sum least some-of
+unfolding program refused-line lines file Direct.start Direct.tick Pipelined.start Pipelined.tick book-words release-words arrive-words into-frame bookings row-sum column-sum sum least some-of
 seed-39 = refl
 
 pub seed-40 : program
@@ -6017,7 +6017,7 @@ pub seed-40 : program
     ∷ "refused,62,3,1,8"
     ∷ "refused,62,0,2,5"
     ∷ [])
-unfolding program refused-line lines file Direct.start Direct.tick Pipelined.start Pipelined.tick book-words release-words arrive-words into-frame row-sum column-sum sum least some-of
+unfolding program refused-line lines file Direct.start Direct.tick Pipelined.start Pipelined.tick book-words release-words arrive-words into-frame bookings row-sum column-sum sum least some-of
 seed-40 = refl
 
 pub seed-41 : program
@@ -6152,7 +6152,7 @@ pub seed-41 : program
     ∷ "refused,56,1,1,6"
     ∷ "refused,56,1,3,5"
     ∷ [])
-unfolding program refused-line lines file Direct.start Direct.tick Pipelined.start Pipelined.tick book-words release-words arrive-words into-frame row-sum column-sum sum least some-of
+unfolding program refused-line lines file Direct.start Direct.tick Pipelined.start Pipelined.tick book-words release-words arrive-words into-frame bookings row-sum column-sum sum least some-of
 seed-41 = refl
 
 pub seed-42 : program
@@ -6287,7 +6287,7 @@ pub seed-42 : program
     ∷ "refused,51,1,3,10"
     ∷ "refused,0,0,0,12"
     ∷ [])
-unfolding program refused-line lines file Direct.start Direct.tick Pipelined.start Pipelined.tick book-words release-words arrive-words into-frame row-sum column-sum sum least some-of
+unfolding program refused-line lines file Direct.start Direct.tick Pipelined.start Pipelined.tick book-words release-words arrive-words into-frame bookings row-sum column-sum sum least some-of
 seed-42 = refl
 
 pub seed-43 : program
@@ -6409,7 +6409,7 @@ pub seed-43 : program
     ∷ "match,39,3,3,2"
     ∷ "match,39,4,2,2"
     ∷ [])
-unfolding program refused-line lines file Direct.start Direct.tick Pipelined.start Pipelined.tick book-words release-words arrive-words into-frame row-sum column-sum sum least some-of
+unfolding program refused-line lines file Direct.start Direct.tick Pipelined.start Pipelined.tick book-words release-words arrive-words into-frame bookings row-sum column-sum sum least some-of
 seed-43 = refl
 
 pub seed-44 : program
@@ -6506,7 +6506,7 @@ pub seed-44 : program
     ∷ "refused,33,1,1,8"
     ∷ "refused,33,1,1,8"
     ∷ [])
-unfolding program refused-line lines file Direct.start Direct.tick Pipelined.start Pipelined.tick book-words release-words arrive-words into-frame row-sum column-sum sum least some-of
+unfolding program refused-line lines file Direct.start Direct.tick Pipelined.start Pipelined.tick book-words release-words arrive-words into-frame bookings row-sum column-sum sum least some-of
 seed-44 = refl
 
 pub seed-45 : program
@@ -6630,7 +6630,7 @@ pub seed-45 : program
     ∷ "match,3,4,3,2"
     ∷ "match,4,4,3,2"
     ∷ [])
-unfolding program refused-line lines file Direct.start Direct.tick Pipelined.start Pipelined.tick book-words release-words arrive-words into-frame row-sum column-sum sum least some-of
+unfolding program refused-line lines file Direct.start Direct.tick Pipelined.start Pipelined.tick book-words release-words arrive-words into-frame bookings row-sum column-sum sum least some-of
 seed-45 = refl
 
 pub seed-46 : program
@@ -6843,7 +6843,7 @@ pub seed-46 : program
     ∷ "refused,52,2,2,8"
     ∷ "refused,52,2,2,10"
     ∷ [])
-unfolding program refused-line lines file Direct.start Direct.tick Pipelined.start Pipelined.tick book-words release-words arrive-words into-frame row-sum column-sum sum least some-of
+unfolding program refused-line lines file Direct.start Direct.tick Pipelined.start Pipelined.tick book-words release-words arrive-words into-frame bookings row-sum column-sum sum least some-of
 seed-46 = refl
 
 pub seed-47 : program
@@ -7026,7 +7026,7 @@ pub seed-47 : program
     ∷ "match,63,1,3,2"
     ∷ "match,63,2,1,2"
     ∷ [])
-unfolding program refused-line lines file Direct.start Direct.tick Pipelined.start Pipelined.tick book-words release-words arrive-words into-frame row-sum column-sum sum least some-of
+unfolding program refused-line lines file Direct.start Direct.tick Pipelined.start Pipelined.tick book-words release-words arrive-words into-frame bookings row-sum column-sum sum least some-of
 seed-47 = refl
 
 pub seed-48 : program
@@ -7200,5 +7200,5 @@ pub seed-48 : program
     ∷ "match,52,2,1,2"
     ∷ "refused,52,0,0,6"
     ∷ [])
-unfolding program refused-line lines file Direct.start Direct.tick Pipelined.start Pipelined.tick book-words release-words arrive-words into-frame row-sum column-sum sum least some-of
+unfolding program refused-line lines file Direct.start Direct.tick Pipelined.start Pipelined.tick book-words release-words arrive-words into-frame bookings row-sum column-sum sum least some-of
 seed-48 = refl

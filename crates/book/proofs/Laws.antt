@@ -1,5 +1,6 @@
--- Laws of amounts, of the calls on a pair, of its place, and of sums.
-pub mod Amounts
-pub mod Calls
+-- Laws of places, sums, amounts, pairs in reach and calls.
 pub mod Places
 pub mod Sums
+pub mod Reach
+pub mod Amounts
+pub mod Calls

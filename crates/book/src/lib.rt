@@ -1,21 +1,24 @@
-// The book and the arrivals of a switch: booking by slots and by rate, release and arrival.
+// The book and the arrivals of a switch: booking by slots and by rate, release of either, and arrival.
 ghost use mathlib.Core.Path.{_≡_};
 ghost use Rattle.wsgs.specs.Questions.{effect};
-ghost use Rattle.wsgs.specs.Book.{book-effect, rate-effect, release-effect, arrive-effect};
+ghost use Rattle.wsgs.specs.Bookings.{book-of};
+ghost use Rattle.wsgs.specs.Book.{book-effect, rate-effect, release-effect, release-rate-effect, arrive-effect};
 
 mod admission;
-mod bookings;
 mod pairs;
 mod queues;
 mod rates;
+mod sums;
 
-use admission::admit;
+use admission::admit_rate;
+use admission::admit_slots;
 use admission::withdraw;
+use questions::holds_book;
+use questions::holds_pairs;
 use questions::is_between;
 use questions::pair_refusal;
 use queues::enqueue;
 use rates::rate_in_range;
-use rates::rate_slots;
 use wsgs::BookedSlots;
 use wsgs::Clock;
 use wsgs::Input;
@@ -25,71 +28,93 @@ use wsgs::Output;
 // Books slots of each frame for a pair.
 pub fn book(
     clock: Clock,
-    bookings: &mut [u32],
+    slots: &mut [u32],
+    rates: &[u32],
     input: Input,
     output: Output,
-    slots: BookedSlots,
+    amount: BookedSlots,
 ) -> u32
-    ensures outcome { λ r. ⌜ effect r (now (bookings .exit))
-        ≡ book-effect clock (now (bookings .entry)) (input .0) (output .0) (slots .0) ⌝ }
+    ensures outcome { λ r. ⌜ effect r (book-of (now (slots .exit)) (now (rates .entry)))
+        ≡ book-effect clock (book-of (now (slots .entry)) (now (rates .entry))) (input .0) (output .0) (amount .0) ⌝ }
 {
-    let refusal = pair_refusal(clock, bookings, input, output);
+    let enough = holds_book(clock.ports as u64, slots, rates);
+    let refusal = pair_refusal(clock, enough, input, output);
     if refusal != 0 {
         return refusal;
     }
-    if !is_between(1, clock.frame as u64, slots.0) {
+    if !is_between(1, clock.frame as u64, amount.0) {
         return 6;
     }
-    admit(clock, bookings, input, output, slots)
+    admit_slots(clock, slots, rates, input, output, amount)
 }
 
-// Books the slots that a rate needs on a line, both in kbit/s.
+// Books a rate, in kbit/s, for a pair. It counts as the slots by which the pair's booking rises.
 pub fn book_rate(
     clock: Clock,
-    bookings: &mut [u32],
+    slots: &[u32],
+    rates: &mut [u32],
     input: Input,
     output: Output,
-    line: u64,
     rate: u64,
 ) -> u32
-    ensures outcome { λ r. ⌜ effect r (now (bookings .exit))
-        ≡ rate-effect clock (now (bookings .entry)) (input .0) (output .0) line rate ⌝ }
+    ensures outcome { λ r. ⌜ effect r (book-of (now (slots .entry)) (now (rates .exit)))
+        ≡ rate-effect clock (book-of (now (slots .entry)) (now (rates .entry))) (input .0) (output .0) rate ⌝ }
 {
-    let refusal = pair_refusal(clock, bookings, input, output);
+    let enough = holds_book(clock.ports as u64, slots, rates);
+    let refusal = pair_refusal(clock, enough, input, output);
     if refusal != 0 {
         return refusal;
     }
-    if !rate_in_range(line, rate) {
+    if !rate_in_range(clock.line as u64, rate) {
         return 6;
     }
-    admit(
-        clock,
-        bookings,
-        input,
-        output,
-        rate_slots(clock.frame as u64, line, rate),
-    )
+    admit_rate(clock, slots, rates, input, output, rate)
 }
 
 // Takes booked slots off a pair again.
 pub fn release(
     clock: Clock,
-    bookings: &mut [u32],
+    slots: &mut [u32],
+    rates: &[u32],
     input: Input,
     output: Output,
-    slots: BookedSlots,
+    amount: BookedSlots,
 ) -> u32
-    ensures outcome { λ r. ⌜ effect r (now (bookings .exit))
-        ≡ release-effect clock (now (bookings .entry)) (input .0) (output .0) (slots .0) ⌝ }
+    ensures outcome { λ r. ⌜ effect r (book-of (now (slots .exit)) (now (rates .entry)))
+        ≡ release-effect clock (book-of (now (slots .entry)) (now (rates .entry))) (input .0) (output .0) (amount .0) ⌝ }
 {
-    let refusal = pair_refusal(clock, bookings, input, output);
+    let enough = holds_book(clock.ports as u64, slots, rates);
+    let refusal = pair_refusal(clock, enough, input, output);
     if refusal != 0 {
         return refusal;
     }
-    if !is_between(1, clock.frame as u64, slots.0) {
+    if !is_between(1, clock.frame as u64, amount.0) {
         return 6;
     }
-    withdraw(clock, bookings, input, output, slots)
+    withdraw(clock.ports as u64, slots, input, output, amount.0)
+}
+
+// Takes a booked rate, in kbit/s, off a pair again.
+pub fn release_rate(
+    clock: Clock,
+    slots: &[u32],
+    rates: &mut [u32],
+    input: Input,
+    output: Output,
+    rate: u64,
+) -> u32
+    ensures outcome { λ r. ⌜ effect r (book-of (now (slots .entry)) (now (rates .exit)))
+        ≡ release-rate-effect clock (book-of (now (slots .entry)) (now (rates .entry))) (input .0) (output .0) rate ⌝ }
+{
+    let enough = holds_book(clock.ports as u64, slots, rates);
+    let refusal = pair_refusal(clock, enough, input, output);
+    if refusal != 0 {
+        return refusal;
+    }
+    if !rate_in_range(clock.line as u64, rate) {
+        return 6;
+    }
+    withdraw(clock.ports as u64, rates, input, output, rate)
 }
 
 // Adds packets that arrived to a pair's queue.
@@ -97,7 +122,8 @@ pub fn arrive(clock: Clock, queues: &mut [u32], input: Input, output: Output, pa
     ensures outcome { λ r. ⌜ effect r (now (queues .exit))
         ≡ arrive-effect clock (now (queues .entry)) (input .0) (output .0) packets ⌝ }
 {
-    let refusal = pair_refusal(clock, queues, input, output);
+    let enough = holds_pairs(clock.ports as u64, queues);
+    let refusal = pair_refusal(clock, enough, input, output);
     if refusal != 0 {
         return refusal;
     }

@@ -12,15 +12,17 @@ use wsgs::TickResult;
 // A tick of the direct form, which advances the lent clock.
 pub fn tick_direct(
     clock: &mut Clock,
-    bookings: &[u32],
+    slots: &[u32],
+    rates: &[u32],
     credits: &mut [u32],
     queues: &mut [u32],
 ) -> Answer
-    ensures outcome { λ r. ⌜ effect r (now (clock .exit), direct-runs-of (now (bookings .entry)) (now (credits .exit)) (now (queues .exit)))
+    ensures outcome { λ r. ⌜ effect r
+        (now (clock .exit), direct-runs-of (now (slots .entry)) (now (rates .entry)) (now (credits .exit)) (now (queues .exit)))
         ≡ answer-effect (Direct.tick (now (clock .entry))
-        (direct-runs-of (now (bookings .entry)) (now (credits .entry)) (now (queues .entry)))) ⌝ }
+        (direct-runs-of (now (slots .entry)) (now (rates .entry)) (now (credits .entry)) (now (queues .entry)))) ⌝ }
 {
-    let result = direct::tick(*clock, bookings, credits, queues);
+    let result = direct::tick(*clock, slots, rates, credits, queues);
     *clock = result.clock;
     Answer {
         refusal: result.refusal,
@@ -32,15 +34,18 @@ pub fn tick_direct(
 // The same by value: code that has a clock of its own runs the tick above through this, and lends no clock.
 pub fn step_direct(
     clock: Clock,
-    bookings: &[u32],
+    slots: &[u32],
+    rates: &[u32],
     credits: &mut [u32],
     queues: &mut [u32],
 ) -> TickResult
-    ensures outcome { λ r. ⌜ effect r (direct-runs-of (now (bookings .entry)) (now (credits .exit)) (now (queues .exit)))
-        ≡ tick-effect (Direct.tick clock (direct-runs-of (now (bookings .entry)) (now (credits .entry)) (now (queues .entry)))) ⌝ }
+    ensures outcome { λ r. ⌜ effect r
+        (direct-runs-of (now (slots .entry)) (now (rates .entry)) (now (credits .exit)) (now (queues .exit)))
+        ≡ tick-effect (Direct.tick clock
+        (direct-runs-of (now (slots .entry)) (now (rates .entry)) (now (credits .entry)) (now (queues .entry)))) ⌝ }
 {
     let mut advanced = clock;
-    let answer = tick_direct(&mut advanced, bookings, credits, queues);
+    let answer = tick_direct(&mut advanced, slots, rates, credits, queues);
     TickResult {
         refusal: answer.refusal,
         clock: advanced,
@@ -52,7 +57,8 @@ pub fn step_direct(
 // A tick of the pipelined form, which advances the lent clock.
 pub fn tick_pipelined(
     clock: &mut Clock,
-    bookings: &[u32],
+    slots: &[u32],
+    rates: &[u32],
     credits: &mut [u32],
     queues: &mut [u32],
     copy: &mut [u32],
@@ -60,14 +66,14 @@ pub fn tick_pipelined(
 ) -> Answer
     ensures outcome { λ r. ⌜ effect r (
       now (clock .exit),
-      pipelined-runs-of (now (bookings .entry)) (now (credits .exit)) (now (queues .exit))
+      pipelined-runs-of (now (slots .entry)) (now (rates .entry)) (now (credits .exit)) (now (queues .exit))
           (now (copy .exit)) (now (flight .exit)),
     )
         ≡ answer-effect (Pipelined.tick (now (clock .entry))
-        (pipelined-runs-of (now (bookings .entry)) (now (credits .entry)) (now (queues .entry))
+        (pipelined-runs-of (now (slots .entry)) (now (rates .entry)) (now (credits .entry)) (now (queues .entry))
         (now (copy .entry)) (now (flight .entry)))) ⌝ }
 {
-    let result = pipelined::tick(*clock, bookings, credits, queues, copy, flight);
+    let result = pipelined::tick(*clock, slots, rates, credits, queues, copy, flight);
     *clock = result.clock;
     Answer {
         refusal: result.refusal,
@@ -79,20 +85,22 @@ pub fn tick_pipelined(
 // The same by value: code that has a clock of its own runs the tick above through this, and lends no clock.
 pub fn step_pipelined(
     clock: Clock,
-    bookings: &[u32],
+    slots: &[u32],
+    rates: &[u32],
     credits: &mut [u32],
     queues: &mut [u32],
     copy: &mut [u32],
     flight: &mut [u32],
 ) -> TickResult
     ensures outcome { λ r. ⌜ effect r
-        (pipelined-runs-of (now (bookings .entry)) (now (credits .exit)) (now (queues .exit)) (now (copy .exit)) (now (flight .exit)))
+        (pipelined-runs-of (now (slots .entry)) (now (rates .entry)) (now (credits .exit)) (now (queues .exit))
+        (now (copy .exit)) (now (flight .exit)))
         ≡ tick-effect (Pipelined.tick clock
-        (pipelined-runs-of (now (bookings .entry)) (now (credits .entry)) (now (queues .entry))
+        (pipelined-runs-of (now (slots .entry)) (now (rates .entry)) (now (credits .entry)) (now (queues .entry))
         (now (copy .entry)) (now (flight .entry)))) ⌝ }
 {
     let mut advanced = clock;
-    let answer = tick_pipelined(&mut advanced, bookings, credits, queues, copy, flight);
+    let answer = tick_pipelined(&mut advanced, slots, rates, credits, queues, copy, flight);
     TickResult {
         refusal: answer.refusal,
         clock: advanced,

@@ -14,7 +14,8 @@ pub record TickConditions (c : Clock) (w : Direct.Runs) : Type 0 where
   pub some-port : 1 ≤ c .ports
   pub few-ports : c .ports ≤ 32
   pub some-slot : 1 ≤ c .frame
-  pub bookings : c .ports * c .ports ≤ length (w .bookings)
+  pub slots : c .ports * c .ports ≤ length (w .book .slots)
+  pub rates : c .ports * c .ports ≤ length (w .book .rates)
   pub credits : c .ports * c .ports ≤ length (w .credits)
   pub queues : c .ports * c .ports ≤ length (w .queues)
   pub slots-left : c .slot < 4000000000
@@ -28,7 +29,8 @@ accepted-found c w e =
       some-port = y .ports .0;
       few-ports = y .ports .1;
       some-slot = y .frame .0;
-      bookings = y .long .bookings;
+      slots = y .long .slots;
+      rates = y .long .rates;
       credits = y .long .credits;
       queues = y .long .queues;
       slots-left = ltb→lt (c .slot) 4000000000 (y .later .0);

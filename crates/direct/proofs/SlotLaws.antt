@@ -11,6 +11,7 @@ use Rattle.wsgs.specs.declared.Clock.{Clock}
 use Rattle.wsgs.specs.Clocks.{at-slot}
 use Rattle.wsgs.specs.Basics.{pick, Port}
 use Rattle.wsgs.specs.Words.{word, copied}
+use Rattle.wsgs.specs.Bookings.{booking-words}
 use Rattle.wsgs.specs.Frames.{first-of-frame}
 use Rattle.wsgs.specs.Steps.{Matching, empty-matching, pass-two, listed, marked, outputs-of, pass-word-of}
 use Rattle.wsgs.specs.Questions.{refused, effect}
@@ -32,9 +33,9 @@ unfolding pass-word-of
 mark-is m = refl
 
 -- slot k on the runs w
-module _ (n f k : ℕ) (w : Runs) where
+module _ (n f b k : ℕ) (w : Runs) where
   abbrev loads : List ℕ
-  loads = loaded n f k w
+  loads = loaded n f b k w
 
   abbrev one : ℕ → ℕ
   one = ones n loads (w .queues)
@@ -51,21 +52,25 @@ module _ (n f k : ℕ) (w : Runs) where
       go (no h) = rw (le-ltb 0 (one i) (omega arith)) (omega arith)
 
   -- step 1, and the pairs
-  loads-are : pick (first-of-frame f k) (copied (n * n) (w .bookings) (w .credits)) (w .credits) ≡ loads
+  abbrev first-credits : List ℕ
+  first-credits =
+      pick (first-of-frame f k) (copied (n * n) (booking-words f b (w .book .slots) (w .book .rates)) (w .credits)) (w .credits)
+
+  loads-are : first-credits ≡ loads
   unfolding loaded
   loads-are = refl
 
-  pairs-are : paired n f k w ≡ record { output = two; first = λ i. ltb 0 (one i) }
+  pairs-are : paired n f b k w ≡ record { output = two; first = λ i. ltb 0 (one i) }
   unfolding paired
   pairs-are = refl
 
   -- the passes on the credits of step 1
-  pub slot-run : (start : List ℕ) → start ≡ pick (first-of-frame f k) (copied (n * n) (w .bookings) (w .credits)) (w .credits)
+  pub slot-run : (start : List ℕ) → start ≡ first-credits
       → (free first : ℕ) (outputs credits queues : List ℕ)
       → PassState n (w .queues) (pass-two n (word n (w .queues)) (ones n start (w .queues)) n) free outputs queues
       → first ≡ marked 32 (λ i. ltb 0 (ones n start (w .queues) i))
       → credits ≡ spent n start (ones n start (w .queues)) n
-      → SlotRun n f k w outputs first credits queues
+      → SlotRun n f b k w outputs first credits queues
   slot-run start e free first outputs credits queues h m c =
       let d : start ≡ loads = e ∙ loads-are in
       let held = rw d at h in
@@ -93,9 +98,9 @@ module _ (k : Clock) (w : Runs) (r : ℕ) (asked : r ≡ tick-refusal k w) where
 
   -- another answers the slot
   pub tick-ran : r ≤ 0 → (first : ℕ) (outputs credits queues : List ℕ)
-      → SlotRun (k .ports) (k .frame) (k .slot + 1) w outputs first credits queues
+      → SlotRun (k .ports) (k .frame) (k .line) (k .slot + 1) w outputs first credits queues
       → effect (record { refusal = 0; clock = at-slot k (k .slot + 1); outputs = outputs; «first_pass» = first })
-      (direct-runs-of (w .bookings) credits queues)
+      (direct-runs-of (w .book .slots) (w .book .rates) credits queues)
       ≡ tick-effect (tick k w)
   unfolding ticked
   tick-ran h first outputs credits queues d = rw (out-ran h, d .answer, d .mark, d .credits-left, d .queues-left)

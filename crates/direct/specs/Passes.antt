@@ -40,9 +40,9 @@ PassTwo n first free outputs queues free′ outputs′ queues′ =
     (start : List ℕ) (one : ℕ → ℕ) → PassState n start one free outputs queues → first ≡ marked 32 (λ i. ltb 0 (one i))
     → PassState n start (pass-two n (word n start) one n) free′ outputs′ queues′
 
--- slot k has been run on the runs w: the answer is the paired inputs', and each pair has taken a packet, and by pass one a credit too
-pub record SlotRun (n f k : ℕ) (w : Runs) (outputs : List ℕ) (first-pass : ℕ) (credits queues : List ℕ) : Type 0 where
-  pub answer : outputs ≡ outputs-of (paired n f k w)
-  pub mark : first-pass ≡ pass-word-of (paired n f k w)
-  pub credits-left : credits ≡ spent n (loaded n f k w) (first-outputs (paired n f k w)) n
-  pub queues-left : queues ≡ spent n (w .queues) (paired n f k w .output) n
+-- slot k has been run on the runs w, with frames of f slots on lines of the rate b: the answer is the paired inputs', and each pair has taken a packet, and by pass one a credit too
+pub record SlotRun (n f b k : ℕ) (w : Runs) (outputs : List ℕ) (first-pass : ℕ) (credits queues : List ℕ) : Type 0 where
+  pub answer : outputs ≡ outputs-of (paired n f b k w)
+  pub mark : first-pass ≡ pass-word-of (paired n f b k w)
+  pub credits-left : credits ≡ spent n (loaded n f b k w) (first-outputs (paired n f b k w)) n
+  pub queues-left : queues ≡ spent n (w .queues) (paired n f b k w .output) n

@@ -6,6 +6,7 @@ ghost use Prim.Native.Nat.{_*_, _≤_};
 ghost use lib.ListN.{length};
 ghost use Rattle.wsgs.specs.Basics.{pick};
 ghost use Rattle.wsgs.specs.Words.{copied};
+ghost use Rattle.wsgs.specs.Bookings.{booking-words};
 ghost use Rattle.wsgs.specs.Frames.{first-of-frame};
 ghost use Rattle.wsgs.specs.Questions.{effect};
 ghost use Rattle.wsgs.specs.Answers.{direct-runs-of, tick-effect};
@@ -15,49 +16,68 @@ use passes::PassResult;
 use passes::pass_one;
 use passes::pass_two;
 use questions::direct_tick_refusal;
-use turns::load_credits;
+use turns::load_bookings;
 use wsgs::Clock;
 use wsgs::TickResult;
 
-// Step 1: in the first slot of a frame the credits become the bookings.
-fn reload(ports: usize, frame: u32, slot: u32, bookings: &[u32], credits: &mut [u32])
-    requires ports { ⌜ ports ≤ 32 ⌝ }
-    requires frame { ⌜ 1 ≤ frame ⌝ }
-    requires slot { ⌜ 1 ≤ slot ⌝ }
-    requires bookings_fit { ⌜ ports * ports ≤ length (now bookings) ⌝ }
-    requires credits_fit { ⌜ ports * ports ≤ length (now credits) ⌝ }
-    ensures credits_exit { λ _. ⌜ now (credits .exit) ≡ pick (first-of-frame frame slot)
-        (copied (ports * ports) (now (bookings .entry)) (now (credits .entry))) (now (credits .entry)) ⌝ }
+// Step 1: in the first slot of a frame the credits become the bookings, which are worked out from slots and rates.
+fn reload(clock: Clock, slots: &[u32], rates: &[u32], credits: &mut [u32])
+    requires ports { ⌜ clock .ports ≤ 32 ⌝ }
+    requires frame { ⌜ 1 ≤ clock .frame ⌝ }
+    requires slot { ⌜ 1 ≤ clock .slot ⌝ }
+    requires slots_fit { ⌜ clock .ports * clock .ports ≤ length (now slots) ⌝ }
+    requires rates_fit { ⌜ clock .ports * clock .ports ≤ length (now rates) ⌝ }
+    requires credits_fit { ⌜ clock .ports * clock .ports ≤ length (now credits) ⌝ }
+    ensures credits_exit { λ _. ⌜ now (credits .exit) ≡ pick (first-of-frame (clock .frame) (clock .slot))
+        (copied (clock .ports * clock .ports) (booking-words (clock .frame) (clock .line) (now (slots .entry)) (now (rates .entry)))
+        (now (credits .entry))) (now (credits .entry)) ⌝ }
 {
-    if (slot - 1) % frame == 0 {
-        load_credits(bookings, credits, ports * ports);
+    if (clock.slot - 1) % clock.frame == 0 {
+        let ports = clock.ports as usize;
+        let pairs = ports * ports;
+        load_bookings(clock.frame, clock.line, slots, rates, credits, pairs);
     }
 }
 
 // The nine steps for the slot that the clock has come to.
-fn run_slot(clock: Clock, bookings: &[u32], credits: &mut [u32], queues: &mut [u32]) -> PassResult
+fn run_slot(
+    clock: Clock,
+    slots: &[u32],
+    rates: &[u32],
+    credits: &mut [u32],
+    queues: &mut [u32],
+) -> PassResult
     requires ports { ⌜ clock .ports ≤ 32 ⌝ }
     requires frame { ⌜ 1 ≤ clock .frame ⌝ }
     requires slot { ⌜ 1 ≤ clock .slot ⌝ }
-    requires bookings_fit { ⌜ clock .ports * clock .ports ≤ length (now bookings) ⌝ }
+    requires slots_fit { ⌜ clock .ports * clock .ports ≤ length (now slots) ⌝ }
+    requires rates_fit { ⌜ clock .ports * clock .ports ≤ length (now rates) ⌝ }
     requires credits_fit { ⌜ clock .ports * clock .ports ≤ length (now credits) ⌝ }
     requires queues_fit { ⌜ clock .ports * clock .ports ≤ length (now queues) ⌝ }
-    ensures slot_run { λ r. ⌜ SlotRun (clock .ports) (clock .frame) (clock .slot)
-        (direct-runs-of (now (bookings .entry)) (now (credits .entry)) (now (queues .entry)))
+    ensures slot_run { λ r. ⌜ SlotRun (clock .ports) (clock .frame) (clock .line) (clock .slot)
+        (direct-runs-of (now (slots .entry)) (now (rates .entry)) (now (credits .entry)) (now (queues .entry)))
         (r .outputs) (r .«first_pass») (now (credits .exit)) (now (queues .exit)) ⌝ }
 {
     let ports = clock.ports as usize;
-    reload(ports, clock.frame, clock.slot, bookings, credits);
+    reload(clock, slots, rates, credits);
     let passed = pass_one(ports, credits, queues);
     pass_two(passed, ports, queues)
 }
 
 // A tick: the questions, then the slot. The clock goes in and comes back whole.
-pub fn tick(clock: Clock, bookings: &[u32], credits: &mut [u32], queues: &mut [u32]) -> TickResult
-    ensures outcome { λ r. ⌜ effect r (direct-runs-of (now (bookings .entry)) (now (credits .exit)) (now (queues .exit)))
-        ≡ tick-effect (Direct.tick clock (direct-runs-of (now (bookings .entry)) (now (credits .entry)) (now (queues .entry)))) ⌝ }
+pub fn tick(
+    clock: Clock,
+    slots: &[u32],
+    rates: &[u32],
+    credits: &mut [u32],
+    queues: &mut [u32],
+) -> TickResult
+    ensures outcome { λ r. ⌜ effect r
+        (direct-runs-of (now (slots .entry)) (now (rates .entry)) (now (credits .exit)) (now (queues .exit)))
+        ≡ tick-effect (Direct.tick clock
+        (direct-runs-of (now (slots .entry)) (now (rates .entry)) (now (credits .entry)) (now (queues .entry)))) ⌝ }
 {
-    let refusal = direct_tick_refusal(clock, bookings, credits, queues);
+    let refusal = direct_tick_refusal(clock, slots, rates, credits, queues);
     if refusal > 0 {
         return TickResult {
             refusal,
@@ -68,7 +88,7 @@ pub fn tick(clock: Clock, bookings: &[u32], credits: &mut [u32], queues: &mut [u
     }
     let mut next = clock;
     next.slot = clock.slot + 1;
-    let passed = run_slot(next, bookings, credits, queues);
+    let passed = run_slot(next, slots, rates, credits, queues);
     let outputs = passed.outputs;
     TickResult {
         refusal: 0,

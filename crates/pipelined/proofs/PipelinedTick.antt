@@ -11,6 +11,7 @@ use Rattle.wsgs.specs.declared.Clock.{Clock}
 use Rattle.wsgs.specs.declared.TickResult.{TickResult}
 use Rattle.wsgs.specs.Clocks.{at-slot}
 use Rattle.wsgs.specs.Words.{copied}
+use Rattle.wsgs.specs.Bookings.{booking-words}
 use Rattle.wsgs.specs.Frames.{into-frame}
 use Rattle.wsgs.specs.Questions.{clock-can-advance, effect}
 use Rattle.wsgs.specs.Steps.{outputs-of, pass-word-of}
@@ -21,13 +22,13 @@ use Rattle.wsgs.proofs.Laws.Listed.{listed-none}
 use Rattle.wsgs.proofs.Laws.Marked.{marked-none}
 use Rattle.pipelined.specs.Turnings.{turn-runs-of, RunsFit, answering}
 
--- THE FRAME COPY at time k
-module _ (n f k : ℕ) (w : Runs) (u : ℕ) (e : u ≡ into-frame f (k + 2 * n)) where
-  pub copies : (m : List ℕ) → u ≡ 0 → m ≡ copied (n * n) (w .bookings) (w .copy) → m ≡ copied-at n f k w
+-- THE FRAME COPY at time k, on lines of the rate b
+module _ (n f b k : ℕ) (w : Runs) (u : ℕ) (e : u ≡ into-frame f (k + 2 * n)) where
+  pub copies : (m : List ℕ) → u ≡ 0 → m ≡ copied (n * n) (booking-words f b (w .book .slots) (w .book .rates)) (w .copy) → m ≡ copied-at n f b k w
   unfolding copied-at
   copies m h d = d ∙ rw (← e, eq-eqb u 0 h)
 
-  pub stands : u ≢ 0 → w .copy ≡ copied-at n f k w
+  pub stands : u ≢ 0 → w .copy ≡ copied-at n f b k w
   unfolding copied-at
   stands h = rw (← e, ne-eqb u 0 h)
 
@@ -35,7 +36,8 @@ module _ (n f k : ℕ) (w : Runs) (u : ℕ) (e : u ≡ into-frame f (k + 2 * n))
 pub record TickConditions (c : Clock) (w : Runs) : Type 0 where
   pub some-port : 1 ≤ c .ports
   pub lent : RunsFit (c .ports) (w .copy) (w .credits) (w .queues) (w .flight)
-  pub bookings : c .ports * c .ports ≤ length (w .bookings)
+  pub slots : c .ports * c .ports ≤ length (w .book .slots)
+  pub rates : c .ports * c .ports ≤ length (w .book .rates)
   pub covers : c .ports ≤ c .frame
   pub slots-left : c .slot < 4000000000
 
@@ -48,7 +50,8 @@ accepted-found c w e =
     record {
       some-port = y .1 .ports .0;
       lent = record { ports = y .1 .ports .1; copy = y .1 .long .copy; credits = sized .credits; queues = sized .queues; flight = sized .flight };
-      bookings = y .1 .long .bookings;
+      slots = y .1 .long .slots;
+      rates = y .1 .long .rates;
       covers = y .0;
       slots-left = ltb→lt (c .slot) 4000000000 (y .1 .later .0);
     }
@@ -61,14 +64,14 @@ module _ (k : Clock) (w : Runs) where
   abbrev time : ℕ
   time = k .slot + 1
 
-  pub ticked-left : (r : TickResult) (c q p l l′ : List ℕ) → p ≡ copied-at n (k .frame) time w
+  pub ticked-left : (r : TickResult) (c q p l l′ : List ℕ) → p ≡ copied-at n (k .frame) (k .line) time w
       → turn-runs-of c q l ≡ turns n (k .frame) p time (turn-runs w) n
       → r ≡ answering (at-slot k time) (handed-out n l (time + 1)) → l′ ≡ row-cleared n l (time + 1)
-      → effect r (pipelined-runs-of (w .bookings) c q p l′) ≡ tick-effect (ticked k w)
+      → effect r (pipelined-runs-of (w .book .slots) (w .book .rates) c q p l′) ≡ tick-effect (ticked k w)
   unfolding ticked
   ticked-left r c q p l l′ ep et er el =
       let t = et ∙ ap (λ z. turns n (k .frame) z time (turn-runs w) n) ep in
-      let rows : l ≡ turns n (k .frame) (copied-at n (k .frame) time w) time (turn-runs w) n .flight = ap (λ z. z .flight) t in
+      let rows : l ≡ turns n (k .frame) (copied-at n (k .frame) (k .line) time w) time (turn-runs w) n .flight = ap (λ z. z .flight) t in
       rw (er, el, rows, ap (λ z. z .credits) t, ap (λ z. z .queues) t, ep)
 
   -- A TICK is this one where its refusal is 0, and else it leaves clock and runs

@@ -11,32 +11,38 @@ ghost use Rattle.wsgs.specs.Answers.{pipelined-runs-of, tick-effect};
 ghost use Rattle.wsgs.specs.Frames.{into-frame};
 ghost use Rattle.wsgs.specs.Pipelined;
 ghost use Rattle.pipelined.specs.Turnings.{RunsFit};
+use bookings::copy_bookings;
 use flight::clear_row;
 use flight::hand_out;
 use pipeline_turns::all_turns;
 use pipeline_turns::look_ahead;
 use questions::pipelined_tick_refusal;
-use words::copy_words;
 use wsgs::Clock;
 use wsgs::TickResult;
 
-// The frame copy becomes the bookings where slot time + 2N is the first of a frame: no slot of its frame comes before it.
-fn copy_bookings(ports: usize, into: u64, bookings: &[u32], copy: &mut [u32])
-    requires few_ports { ⌜ ports ≤ 32 ⌝ }
-    requires bookings_fit { ⌜ ports * ports ≤ length (now bookings) ⌝ }
-    requires copy_fits { ⌜ ports * ports ≤ length (now copy) ⌝ }
-    ensures copy_exit { λ _. ⌜ ((frame time : ℕ) → into ≡ into-frame frame (time + 2 * ports) → (c q f : List ℕ)
-        → now (copy .exit) ≡ Pipelined.copied-at ports frame time (pipelined-runs-of (now (bookings .entry)) c q (now (copy .entry)) f)) ⌝ }
+// Where slot time + 2N is the first of a frame, so that no slot of its frame comes before it, the frame copy becomes the bookings, which are
+// worked out from slots and rates.
+fn renew_copy(clock: Clock, into: u64, slots: &[u32], rates: &[u32], copy: &mut [u32])
+    requires few_ports { ⌜ clock .ports ≤ 32 ⌝ }
+    requires slots_fit { ⌜ clock .ports * clock .ports ≤ length (now slots) ⌝ }
+    requires rates_fit { ⌜ clock .ports * clock .ports ≤ length (now rates) ⌝ }
+    requires copy_fits { ⌜ clock .ports * clock .ports ≤ length (now copy) ⌝ }
+    ensures copy_exit { λ _. ⌜ ((time : ℕ) → into ≡ into-frame (clock .frame) (time + 2 * clock .ports) → (c q f : List ℕ)
+        → now (copy .exit) ≡ Pipelined.copied-at (clock .ports) (clock .frame) (clock .line) time
+        (pipelined-runs-of (now (slots .entry)) (now (rates .entry)) c q (now (copy .entry)) f)) ⌝ }
 {
     if into == 0 {
-        copy_words(bookings, copy, ports * ports);
+        let ports = clock.ports as usize;
+        let pairs = ports * ports;
+        copy_bookings(clock.frame, clock.line, slots, rates, copy, pairs);
     }
 }
 
 // An accepted tick: the copy, the turns of all inputs, then the pairs of the next slot, whose row is set to 0.
 fn run_tick(
     clock: Clock,
-    bookings: &[u32],
+    slots: &[u32],
+    rates: &[u32],
     credits: &mut [u32],
     queues: &mut [u32],
     copy: &mut [u32],
@@ -44,21 +50,23 @@ fn run_tick(
 ) -> TickResult
     requires some_port { ⌜ 1 ≤ clock .ports ⌝ }
     requires runs_fit { ⌜ RunsFit (clock .ports) (now copy) (now credits) (now queues) (now flight) ⌝ }
-    requires bookings_fit { ⌜ clock .ports * clock .ports ≤ length (now bookings) ⌝ }
+    requires slots_fit { ⌜ clock .ports * clock .ports ≤ length (now slots) ⌝ }
+    requires rates_fit { ⌜ clock .ports * clock .ports ≤ length (now rates) ⌝ }
     requires frame_covers { ⌜ clock .ports ≤ clock .frame ⌝ }
     requires slots_left { ⌜ clock .slot < 4000000000 ⌝ }
     ensures outcome { λ r. ⌜ effect r
-        (pipelined-runs-of (now (bookings .entry)) (now (credits .exit)) (now (queues .exit)) (now (copy .exit)) (now (flight .exit)))
+        (pipelined-runs-of (now (slots .entry)) (now (rates .entry)) (now (credits .exit)) (now (queues .exit))
+        (now (copy .exit)) (now (flight .exit)))
         ≡ tick-effect (Pipelined.ticked clock
-        (pipelined-runs-of (now (bookings .entry)) (now (credits .entry)) (now (queues .entry)) (now (copy .entry))
-        (now (flight .entry)))) ⌝ }
+        (pipelined-runs-of (now (slots .entry)) (now (rates .entry)) (now (credits .entry)) (now (queues .entry))
+        (now (copy .entry)) (now (flight .entry)))) ⌝ }
 {
     let mut next = clock;
     next.slot = clock.slot + 1;
     let ports = clock.ports as usize;
     let time = next.slot as u64;
     let ahead = look_ahead(ports, clock.frame as u64, time);
-    copy_bookings(ports, ahead.into, bookings, copy);
+    renew_copy(clock, ahead.into, slots, rates, copy);
     all_turns(ports, time, ahead, copy, credits, queues, flight);
     let result = hand_out(next, flight);
     clear_row(ports, time + 1, flight);
@@ -68,19 +76,21 @@ fn run_tick(
 // A tick: the questions, then the work. The clock goes in and comes back whole.
 pub fn tick(
     clock: Clock,
-    bookings: &[u32],
+    slots: &[u32],
+    rates: &[u32],
     credits: &mut [u32],
     queues: &mut [u32],
     copy: &mut [u32],
     flight: &mut [u32],
 ) -> TickResult
     ensures outcome { λ r. ⌜ effect r
-        (pipelined-runs-of (now (bookings .entry)) (now (credits .exit)) (now (queues .exit)) (now (copy .exit)) (now (flight .exit)))
+        (pipelined-runs-of (now (slots .entry)) (now (rates .entry)) (now (credits .exit)) (now (queues .exit))
+        (now (copy .exit)) (now (flight .exit)))
         ≡ tick-effect (Pipelined.tick clock
-        (pipelined-runs-of (now (bookings .entry)) (now (credits .entry)) (now (queues .entry)) (now (copy .entry))
-        (now (flight .entry)))) ⌝ }
+        (pipelined-runs-of (now (slots .entry)) (now (rates .entry)) (now (credits .entry)) (now (queues .entry))
+        (now (copy .entry)) (now (flight .entry)))) ⌝ }
 {
-    let refusal = pipelined_tick_refusal(clock, bookings, credits, queues, copy, flight);
+    let refusal = pipelined_tick_refusal(clock, slots, rates, credits, queues, copy, flight);
     if refusal > 0 {
         return TickResult {
             refusal,
@@ -89,5 +99,5 @@ pub fn tick(
             first_pass: 0,
         };
     }
-    run_tick(clock, bookings, credits, queues, copy, flight)
+    run_tick(clock, slots, rates, credits, queues, copy, flight)
 }

@@ -1,7 +1,7 @@
 -- Runs in which a fault shows: those of a hurried scheduler, and those of a careless tick or ledger. Each case is
 -- right as it stands, and another answer would be the fault. Assumes nothing.
 use mathlib.Core.List.{List, [], _∷_, _++_}
-use Rattle.wsgs.specs.Switch.{direct, pipelined, Call, start, book, book-rate, release, arrive, tick}
+use Rattle.wsgs.specs.Switch.{direct, pipelined, Call, start, book, book-rate, release, release-rate, arrive, tick}
 use Rattle.wsgs.specs.Ledger.{Ledger, ledger-of, reading, others, waited, served}
 use Rattle.wsgs.specs.Edges.{Case, calls, gives, ok, refused, pairs}
 use Rattle.wsgs.specs.Examples.{some-switch, ticks}
@@ -77,6 +77,9 @@ faults =
     -- the credits of a frame are those of slots and rates, in both forms
     ∷ calls some-switch (start direct 1 3 1000 ∷ book-rate 1 1 100 ∷ arrive 1 1 2 ∷ ticks direct 2) (ok ∷ ok ∷ ok ∷ pairs (1 ∷ []) 1 ∷ pairs (1 ∷ []) 0 ∷ [])
     ∷ calls some-switch (start pipelined 1 2 1000 ∷ book-rate 1 1 100 ∷ arrive 1 1 1 ∷ ticks pipelined 2) (ok ∷ ok ∷ ok ∷ pairs [] 0 ∷ pairs (1 ∷ []) 1 ∷ [])
+    -- a start clears the rates, in both forms
+    ∷ calls some-switch (start direct 1 3 1000 ∷ release-rate 1 1 1 ∷ []) (ok ∷ refused 10 ∷ [])
+    ∷ calls some-switch (start pipelined 1 3 1000 ∷ release-rate 1 1 1 ∷ []) (ok ∷ refused 10 ∷ [])
     -- others are those of the row and of the column
     ∷ gives (others (after (start direct 2 5 0 ∷ book 1 1 1 ∷ book 1 2 2 ∷ book 2 1 1 ∷ tick direct ∷ [])) 1 1 1) 3
     ∷ []

@@ -1,29 +1,46 @@
 -- `book::arrive` meets its contract: the pair refuses, or the amount is out of range, or the rest decides. Assumes nothing.
-use mathlib.Core.Path.{_≡_, sym, _∙_}
+use mathlib.Core.Path.{_≡_, sym, _∙_, ap}
 use mathlib.Core.Bool.{true}
-use borrow.Author.Needs.{needs}
-use Rattle.wsgs.specs.Questions.{packets-in-range}
-use Rattle.questions.specs.Refusals.{pair-refusal}
+use native.Mathlib.Omega.{arith}
 use Rattle.book.proofs.Laws.Amounts.{amount-few}
-use Rattle.book.proofs.Laws.Calls.{arrive-decides}
+use Rattle.wsgs.specs.Questions.{packets-in-range, holds-pairs}
+use Rattle.questions.specs.Refusals.{pair-refusal}
 use Rattle.questions.proofs.Laws.Pairs.{pair-asked}
 use Rattle.questions.proofs.Laws.Answers.{said-no, said-yes}
+use Rattle.book.proofs.Laws.Calls.{arrive-decides}
+use borrow.Author.Needs.{needs}
 use Rattle.book.proofs.arrive.Statement.{statement}
 use Rattle.book.proofs.arrive.Tie as tie
 
-abbrev start : tie.Else1 → tie.Start
-start c = c .before .before .before .before
+abbrev start : tie.After-pair-refusal → tie.Start
+start c = c .before .before .before .before .before
+
+-- the refusal is the pair's, with runs that are long enough or not
+refused : (c : tie.After-pair-refusal)
+    → let a = start c .args in
+    c .pair-refusal .result ≡ pair-refusal (a .clock) (holds-pairs (a .clock .ports) (a .queues .now)) (a .input .0) (a .output .0)
+refused c =
+    let a = start c .args in
+    c .pair-refusal .ensures ∙ ap (λ b. pair-refusal (a .clock) b (a .input .0) (a .output .0)) (c .before .holds-pairs .ensures)
 
 -- the pair has passed
-passed : (c : tie.Else1) → let a = start c .args in 0 ≡ pair-refusal (a .clock) (a .queues .now) (a .input .0) (a .output .0)
-passed c = sym (c .if1 .left) ∙ c .before .pair-refusal .ensures
+passed : (c : tie.Else1)
+    → let a = start (c .before) .args in
+    0 ≡ pair-refusal (a .clock) (holds-pairs (a .clock .ports) (a .queues .now)) (a .input .0) (a .output .0)
+passed c = sym (c .if1 .left) ∙ refused (c .before)
 
 abbrev asked : tie.Else2 → tie.Else1
 asked c = c .before .before
 
 -- and the amount is in range
-in-range : (c : tie.Else2) → let a = start (asked c) .args in packets-in-range (a .packets) .yes ≡ true
+in-range : (c : tie.Else2) → let a = start (asked c .before) .args in packets-in-range (a .packets) .yes ≡ true
 in-range c = said-yes (c .before .is-between .ensures) (c .if2 .left)
+
+cast-holds-pairs : tie.Need-cast-holds-pairs
+cast-holds-pairs c = search needs
+
+holds-pairs-requires : tie.Need-holds-pairs-requires
+holds-pairs-requires c κs = search needs
 
 pair-refusal-requires : tie.Need-pair-refusal-requires
 pair-refusal-requires c κs = search needs
@@ -32,7 +49,7 @@ same-length : tie.Need-same-length
 same-length c = search needs
 
 returns : tie.Need-returns
-returns c = arrive-decides _ _ _ _ _ .at-pair _ (c .before .pair-refusal .ensures) (c .if1 .taken)
+returns c = arrive-decides _ _ _ _ _ .at-pair _ (refused (c .before)) (c .if1 .taken)
 
 is-between-requires : tie.Need-is-between-requires
 is-between-requires c κs = search needs
@@ -44,7 +61,9 @@ returns-2 : tie.Need-returns-2
 returns-2 c = arrive-decides _ _ _ _ _ .at-amount (passed (c .before .before)) (said-no (c .before .is-between .ensures) (c .if2 .taken))
 
 enqueue-requires : tie.Need-enqueue-requires
-enqueue-requires c κs = (pair-asked _ _ _ _ (passed (asked (c .before))), amount-few _ _ (in-range (c .before)))
+enqueue-requires c κs =
+    let e = c .before in
+    (pair-asked _ _ _ _ (passed (asked e)), amount-few 65535 _ (in-range e))
 
 same-length-3 : tie.Need-same-length-3
 same-length-3 c = search needs
@@ -59,6 +78,8 @@ pub arrive-spec : {M : Type 1} → statement M
 arrive-spec =
     tie.close
     (tie.spec
+    cast-holds-pairs
+    holds-pairs-requires
     pair-refusal-requires
     same-length
     returns

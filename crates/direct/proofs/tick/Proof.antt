@@ -10,9 +10,9 @@ use Rattle.direct.proofs.tick.Tie as tie
 
 -- where the tick begins, and what an accepted one found
 abbrev begun : tie.Else1 → tie.Start
-begun c = c .before .before .before .before .before .before .before
+begun c = c .before .before .before .before .before .before .before .before
 
-found : (c : tie.Else1) → let a = begun c .args in TickConditions (a .clock) (direct-runs-of (a .bookings .now) (a .credits .now) (a .queues .now))
+found : (c : tie.Else1) → let a = begun c .args in TickConditions (a .clock) (direct-runs-of (a .slots .now) (a .rates .now) (a .credits .now) (a .queues .now))
 found c = accepted-found _ _ (sym (c .before .direct-tick-refusal .ensures) ∙ omega arith)
 
 direct-tick-refusal-requires : tie.Need-direct-tick-refusal-requires
@@ -33,7 +33,7 @@ add-next c = omega (arith, found (c .before) .slots-left)
 run-slot-requires : tie.Need-run-slot-requires
 run-slot-requires c κs =
     let a = found (c .before .before .before) in
-    (a .few-ports, (a .some-slot, (omega arith, (a .bookings, (a .credits, a .queues)))))
+    (a .few-ports, (a .some-slot, (omega arith, (a .slots, (a .rates, (a .credits, a .queues))))))
 
 same-length-3 : tie.Need-same-length-3
 same-length-3 c = search needs
@@ -46,7 +46,7 @@ returns-2 c =
     let k = c .before .before .before .before .before in
     let e = k .before .before .before .before in
     let a = begun e .args in
-    tick-ran (a .clock) (direct-runs-of (a .bookings .now) (a .credits .now) (a .queues .now)) _
+    tick-ran (a .clock) (direct-runs-of (a .slots .now) (a .rates .now) (a .credits .now) (a .queues .now)) _
     (e .before .direct-tick-refusal .ensures) (e .if1 .left) _ _ _ _ (k .run-slot .ensures)
 
 pub tick-spec : {M : Type 1} → statement M

@@ -9,14 +9,17 @@ use Rattle.pipelined.proofs.run_tick.Tie as tie
 abbrev turned : tie.After-hand-out-arg → tie.After-all-turns
 turned c = c .before .before .before .before .before .before .before
 
-abbrev copied : tie.After-all-turns → tie.After-copy-bookings
+abbrev copied : tie.After-all-turns → tie.After-renew-copy
 copied c = c .before .before .before .before .before .before .before
 
-abbrev looked : tie.After-copy-bookings → tie.After-look-ahead
+abbrev looked : tie.After-renew-copy → tie.After-look-ahead
 looked c = c .before .before
 
+abbrev begun : tie.After-renew-copy → tie.Start
+begun c = looked c .before .before .before .before .before .before .before .before .before .before .before
+
 abbrev start : tie.After-all-turns → tie.Start
-start c = looked (copied c) .before .before .before .before .before .before .before .before .before .before
+start c = begun (copied c)
 
 add-next : tie.Need-add-next
 add-next c = search needs
@@ -33,17 +36,20 @@ cast-look-ahead c = search needs
 look-ahead-requires : tie.Need-look-ahead-requires
 look-ahead-requires c κs = search needs
 
-copy-bookings-requires : tie.Need-copy-bookings-requires
-copy-bookings-requires c κs = search needs
+renew-copy-requires : tie.Need-renew-copy-requires
+renew-copy-requires c κs = search needs
 
 all-turns-requires : tie.Need-all-turns-requires
-all-turns-requires c κs = search needs
+all-turns-requires c κs =
+    let b = c .before .before .before .before .before .before in
+    let p = begun b .pre in
+    omega (arith, p .1 .0, looked b .look-ahead .ensures)
 
 hand-out-requires : tie.Need-hand-out-requires
 hand-out-requires c κs = let p = start (turned c) .pre in omega (arith, p .0, p .1 .0 .ports, p .1 .0 .flight)
 
 add-clear-row : tie.Need-add-clear-row
-add-clear-row c = omega (arith, start (turned (c .before)) .pre .1 .1 .1 .1)
+add-clear-row c = omega (arith, start (turned (c .before)) .pre .1 .1 .1 .1 .1)
 
 clear-row-requires : tie.Need-clear-row-requires
 clear-row-requires c κs = let p = start (turned (c .before .before)) .pre in omega (arith, p .0, p .1 .0 .ports, p .1 .0 .flight)
@@ -67,7 +73,7 @@ returns c =
     let t = turned (h .before) in
     let b = copied t in
     let a = looked b .look-ahead .ensures in
-    ticked-left _ _ _ _ _ _ _ _ (b .copy-bookings .ensures _ _ (a .place) _ _ _) (t .all-turns .ensures _ a) (h .hand-out .ensures) (e .clear-row .ensures)
+    ticked-left _ _ _ _ _ _ _ _ (b .renew-copy .ensures _ (a .place) _ _ _) (t .all-turns .ensures _ a) (h .hand-out .ensures) (e .clear-row .ensures)
 
 pub run-tick-spec : {M : Type 1} → statement M
 run-tick-spec =
@@ -78,7 +84,7 @@ run-tick-spec =
     cast-time
     cast-look-ahead
     look-ahead-requires
-    copy-bookings-requires
+    renew-copy-requires
     all-turns-requires
     hand-out-requires
     add-clear-row

@@ -8,8 +8,8 @@ use Rattle.pipelined.proofs.tick.Statement.{statement}
 use Rattle.pipelined.proofs.tick.Tie as tie
 
 -- what an accepted tick found
-found : (c : tie.Else1) → let a = c .before .before .before .before .before .before .before .before .before .before .before .args in
-    TickConditions (a .clock) (pipelined-runs-of (a .bookings .now) (a .credits .now) (a .queues .now) (a .copy .now) (a .flight .now))
+found : (c : tie.Else1) → let a = c .before .before .before .before .before .before .before .before .before .before .before .before .args in
+    TickConditions (a .clock) (pipelined-runs-of (a .slots .now) (a .rates .now) (a .credits .now) (a .queues .now) (a .copy .now) (a .flight .now))
 found c = accepted-found _ _ (sym (c .before .pipelined-tick-refusal .ensures) ∙ omega arith)
 
 pipelined-tick-refusal-requires : tie.Need-pipelined-tick-refusal-requires
@@ -33,7 +33,7 @@ returns c = tick-refused _ _ _ (c .before .pipelined-tick-refusal .ensures) (c .
 run-tick-requires : tie.Need-run-tick-requires
 run-tick-requires c κs =
     let a = found (c .before .before .before .before) in
-    (a .some-port, (a .lent, (a .bookings, (a .covers, a .slots-left))))
+    (a .some-port, (a .lent, (a .slots, (a .rates, (a .covers, a .slots-left)))))
 
 same-length-5 : tie.Need-same-length-5
 same-length-5 c = search needs

@@ -1,42 +1,50 @@
 -- `book::admission::withdraw` meets its contract. Assumes nothing.
 use native.Mathlib.Omega.{arith}
+use Rattle.book.proofs.Laws.Amounts.{too-little-held, enough-to-withdraw}
 use borrow.Author.Needs.{needs}
-use Rattle.book.proofs.Laws.Amounts.{too-few-booked, enough-to-withdraw}
 use Rattle.book.proofs.admission.withdraw.Statement.{statement}
 use Rattle.book.proofs.admission.withdraw.Tie as tie
 
-cast-ports : tie.Need-cast-ports
-cast-ports c = search needs
+word-of-requires : tie.Need-word-of-requires
+word-of-requires c κs = search needs
 
-booked-requires : tie.Need-booked-requires
-booked-requires c κs = search needs
+cast-if1 : tie.Need-cast-if1
+cast-if1 c = search needs
 
 same-length : tie.Need-same-length
 same-length c = search needs
 
 returns : tie.Need-returns
-returns c = too-few-booked _ _ _ _ _ (omega (arith, c .before .before .before .booked .ensures .0))
+returns c = too-little-held _ _ _ _ _ (omega (arith, c .before .word-of .ensures))
 
-set-booked-requires : tie.Need-set-booked-requires
-set-booked-requires c κs = search needs
+cast-put-word : tie.Need-cast-put-word
+cast-put-word c = search needs
+
+sub-put-word : tie.Need-sub-put-word
+sub-put-word c = search needs
+
+put-word-requires : tie.Need-put-word-requires
+put-word-requires c κs = search needs
 
 same-length-2 : tie.Need-same-length-2
 same-length-2 c = search needs
 
 returns-2 : tie.Need-returns-2
 returns-2 c =
-    let w = c .before .before in
-    let b = w .before .before .before .before .before .before .before in
-    rw (w .set-booked .ensures, b .booked .ensures .0) (enough-to-withdraw _ _ _ _ _ (omega (arith, b .booked .ensures .0)))
+    let p = c .before .before in
+    let w = p .before .before .before in
+    rw (p .put-word .ensures, w .word-of .ensures) (enough-to-withdraw _ _ _ _ _ (omega (arith, w .word-of .ensures)))
 
 pub withdraw-spec : {M : Type 1} → statement M
 withdraw-spec =
     tie.close
     (tie.spec
-    cast-ports
-    booked-requires
+    word-of-requires
+    cast-if1
     same-length
     returns
-    set-booked-requires
+    cast-put-word
+    sub-put-word
+    put-word-requires
     same-length-2
     returns-2)
