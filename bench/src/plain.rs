@@ -29,7 +29,7 @@ fn sizes(clock: &Clock) -> u32 {
 #[inline(always)]
 fn with_rate(clock: &Clock, slots: u32, rate: u64) -> u64 {
     let (f, line) = (clock[1] as u64, clock[3] as u64);
-    (slots as u64 + (rate * f + line - 1) / line).min(u32::MAX as u64)
+    (slots as u64 + (rate * f).div_ceil(line)).min(u32::MAX as u64)
 }
 
 #[inline(always)]
