@@ -433,7 +433,8 @@ static void check_clock(int line, const char *call, Call c) {
 
 #define CHECK_CLOCK(call) check_clock(__LINE__, #call, (call))
 
-#define LINE_MAX 100000000u
+/* the highest line rate */
+#define TOP_LINE 100000000u
 
 static void starts(void) {
     fresh(3);
@@ -449,8 +450,8 @@ static void starts(void) {
     CHECK_SHORT(slots, 9, start_direct(3, 7, 9));
     CHECK_SHORT(rates, 9, start_direct(3, 7, 9));
     CHECK_SHORT(credits, 9, start_direct(3, 7, 9));
-    CHECK_SHORT(queues, 9, start_direct(3, 7, LINE_MAX + 1)); /* 4 before 6 */
-    CHECK(KIVDRAG_REFUSED_AMOUNT, start_direct(3, 7, LINE_MAX + 1));
+    CHECK_SHORT(queues, 9, start_direct(3, 7, TOP_LINE + 1)); /* 4 before 6 */
+    CHECK(KIVDRAG_REFUSED_AMOUNT, start_direct(3, 7, TOP_LINE + 1));
     CHECK(KIVDRAG_REFUSED_AMOUNT, start_direct(3, 7, ((uint64_t)1 << 32) + 9));
     should_start(3, 7, 9, 0);
     CHECK(KIVDRAG_ACCEPTED, start_direct(3, 7, 9));
@@ -464,15 +465,15 @@ static void starts(void) {
     CHECK(KIVDRAG_REFUSED_FRAME, start_pipelined(3, 0, 9));
     CHECK(KIVDRAG_REFUSED_FRAME, start_pipelined(3, 10001, 9));
     CHECK(KIVDRAG_REFUSED_PIPELINE, start_pipelined(3, 2, 9));
-    CHECK(KIVDRAG_REFUSED_PIPELINE, start_pipelined(4, 3, LINE_MAX + 1));
+    CHECK(KIVDRAG_REFUSED_PIPELINE, start_pipelined(4, 3, TOP_LINE + 1));
     CHECK(KIVDRAG_REFUSED_RUNS, start_pipelined(4, 4, 9));
     CHECK_SHORT(slots, 9, start_pipelined(3, 7, 9));
     CHECK_SHORT(rates, 9, start_pipelined(3, 7, 9));
     CHECK_SHORT(credits, 9, start_pipelined(3, 7, 9));
     CHECK_SHORT(queues, 9, start_pipelined(3, 7, 9));
     CHECK_SHORT(copy, 9, start_pipelined(3, 7, 9));
-    CHECK_SHORT(flight, 18, start_pipelined(3, 7, LINE_MAX + 1)); /* 4 before 6 */
-    CHECK(KIVDRAG_REFUSED_AMOUNT, start_pipelined(3, 7, LINE_MAX + 1));
+    CHECK_SHORT(flight, 18, start_pipelined(3, 7, TOP_LINE + 1)); /* 4 before 6 */
+    CHECK(KIVDRAG_REFUSED_AMOUNT, start_pipelined(3, 7, TOP_LINE + 1));
     CHECK(KIVDRAG_REFUSED_AMOUNT, start_pipelined(3, 7, UINT64_MAX));
     should_start(3, 3, 0, 1);
     CHECK(KIVDRAG_ACCEPTED, start_pipelined(3, 3, 0));
@@ -481,10 +482,10 @@ static void starts(void) {
     fresh(3);
     lengths.slots = lengths.rates = lengths.credits = lengths.queues = lengths.copy = 9;
     lengths.flight = 18;
-    should_start(3, 10000, LINE_MAX, 0);
-    CHECK(KIVDRAG_ACCEPTED, start_direct(3, 10000, LINE_MAX));
-    should_start(3, 10000, LINE_MAX, 1);
-    CHECK(KIVDRAG_ACCEPTED, start_pipelined(3, 10000, LINE_MAX));
+    should_start(3, 10000, TOP_LINE, 0);
+    CHECK(KIVDRAG_ACCEPTED, start_direct(3, 10000, TOP_LINE));
+    should_start(3, 10000, TOP_LINE, 1);
+    CHECK(KIVDRAG_ACCEPTED, start_pipelined(3, 10000, TOP_LINE));
 }
 
 /* A switch of either form, on memory that somebody has used before. */
@@ -644,8 +645,8 @@ static void line_rates(int pipelined) {
     check_book(1, 1, 2); /* the rates count as 0 slots */
     check_release(1, 1, 2);
 
-    SET(rates[at(1, 1)], LINE_MAX);
-    SET(clock[KIVDRAG_CLOCK_LINE], LINE_MAX + 1);
+    SET(rates[at(1, 1)], TOP_LINE);
+    SET(clock[KIVDRAG_CLOCK_LINE], TOP_LINE + 1);
     CHECK(KIVDRAG_REFUSED_AMOUNT, book_rate(1, 1, 1));
     CHECK(KIVDRAG_REFUSED_AMOUNT, release_rate(1, 1, 1));
     CHECK(KIVDRAG_REFUSED_INPUT, book(1, 2, 1)); /* these rates count as 3 slots */
@@ -653,8 +654,8 @@ static void line_rates(int pipelined) {
     CHECK(KIVDRAG_REFUSED_AMOUNT, book_rate(1, 1, 1));
     CHECK(KIVDRAG_REFUSED_AMOUNT, release_rate(1, 1, 1));
     check_book(1, 2, 1); /* now as 1 */
-    SET(clock[KIVDRAG_CLOCK_LINE], LINE_MAX);
-    check_release_rate(1, 1, LINE_MAX);
+    SET(clock[KIVDRAG_CLOCK_LINE], TOP_LINE);
+    check_release_rate(1, 1, TOP_LINE);
     check_book_rate(1, 1, 1);
 }
 
@@ -853,9 +854,9 @@ static void pipelined_ticks(void) {
 /* A switch of 32 ports and frames of 10,000 slots: the last input and output have the last place, number and bit. */
 static void most_ports(void) {
     fresh(32);
-    CHECK(KIVDRAG_REFUSED_PORTS, start_direct(33, 10000, LINE_MAX));
-    CHECK(KIVDRAG_REFUSED_FRAME, start_direct(32, 10001, LINE_MAX));
-    started(32, 10000, LINE_MAX, 0);
+    CHECK(KIVDRAG_REFUSED_PORTS, start_direct(33, 10000, TOP_LINE));
+    CHECK(KIVDRAG_REFUSED_FRAME, start_direct(32, 10001, TOP_LINE));
+    started(32, 10000, TOP_LINE, 0);
     CHECK(KIVDRAG_REFUSED_INPUT, book(32, 32, 5001));
     CHECK(KIVDRAG_REFUSED_INPUT, book_rate(32, 32, 50000001));
     check_book(32, 32, 2500);
@@ -868,8 +869,8 @@ static void most_ports(void) {
     should.outputs[31] = 32;
     CHECK(KIVDRAG_ACCEPTED, tick_direct());
 
-    CHECK(KIVDRAG_REFUSED_PIPELINE, start_pipelined(32, 31, LINE_MAX));
-    started(32, 32, LINE_MAX, 1);
+    CHECK(KIVDRAG_REFUSED_PIPELINE, start_pipelined(32, 31, TOP_LINE));
+    started(32, 32, TOP_LINE, 1);
     SET(flight[in_flight(2, 32)], 132);
     should.flight[in_flight(2, 32)] = 0;
     should_answer(1, 0, 0, 0, 0x80000000u);

@@ -1,105 +1,44 @@
-//! Times the proved library against the plain Rust scheduler, in one run: `cargo run --release` after `rt staticlib kivdrag_c`.
-//! Writes a Markdown table to standard output, and with a path as argument the same numbers as comma-separated values there.
+//! Times the proved library against the plain Rust scheduler, in one run: `cargo run --release -- FOLDER` after `rt staticlib kivdrag_c`.
+//! Writes three tables into the folder, each as Markdown and as comma-separated values: ticks, frames (the ticks that read the book), bookings.
 
 mod plain;
+mod switch;
 
 use compare::calls::exported::*;
-use compare::Random;
 use std::fmt::Write;
 use std::hint::black_box;
 use std::time::Instant;
+use switch::{by_hand, by_second, loaded, of_second, proved, Switch, LINE};
 
-const FRAME: u32 = 100;
+const FORMS: [bool; 2] = [false, true];
+const PORTS: [usize; 4] = [4, 8, 16, 32];
 const LOADS: [(&str, u64); 4] = [("idle", 0), ("sparse", 5), ("half", 50), ("full", 100)];
 
-#[derive(Clone)]
-struct Switch {
-    clock: [u32; 3],
-    bookings: Vec<u32>,
-    credits: Vec<u32>,
-    queues: Vec<u32>,
-    copy: Vec<u32>,
-    flight: Vec<u32>,
+fn name(pipelined: bool) -> &'static str {
+    if pipelined {
+        "pipelined"
+    } else {
+        "direct"
+    }
 }
 
-/// A switch in which so many of a hundred pairs have packets for a long time and one slot booked in each frame.
-fn loaded(n: usize, percent: u64) -> Switch {
-    let mut r = Random::new(n as u64 * 1000 + percent);
-    let mut s = Switch {
-        clock: [n as u32, FRAME, 0],
-        bookings: vec![0; n * n],
-        credits: vec![0; n * n],
-        queues: vec![0; n * n],
-        copy: vec![0; n * n],
-        flight: vec![0; 2 * n * n],
-    };
-    for at in 0..n * n {
-        if r.within(1, 100) <= percent {
-            s.queues[at] = 1_000_000;
-            s.bookings[at] = 1;
+/// A table as it is printed, and its values.
+struct Table {
+    markdown: String,
+    values: String,
+}
+
+impl Table {
+    /// A table of these headings, as it is printed and for its values.
+    fn new(heading: &str, values: &str) -> Table {
+        let columns = heading.matches('|').count() - 1;
+        Table { markdown: format!("{heading}\n{}|\n", "|---".repeat(columns)), values: format!("{values}\n") }
+    }
+
+    fn write(&self, folder: &str, name: &str) {
+        for (text, kind) in [(&self.markdown, "md"), (&self.values, "csv")] {
+            std::fs::write(format!("{folder}/{name}.{kind}"), text).expect("the table is written");
         }
-    }
-    s
-}
-
-fn proved_direct(s: &mut Switch, outputs: &mut [u8; 32], first: &mut u32) -> u32 {
-    let n = s.bookings.len();
-    unsafe {
-        kivdrag_tick_direct(
-            s.clock.as_mut_ptr(), s.bookings.as_ptr(), n, s.credits.as_mut_ptr(), n, s.queues.as_mut_ptr(), n, outputs.as_mut_ptr(), first,
-        )
-    }
-}
-
-fn proved_pipelined(s: &mut Switch, outputs: &mut [u8; 32], first: &mut u32) -> u32 {
-    let n = s.bookings.len();
-    unsafe {
-        kivdrag_tick_pipelined(
-            s.clock.as_mut_ptr(), s.bookings.as_ptr(), n, s.credits.as_mut_ptr(), n, s.queues.as_mut_ptr(), n, s.copy.as_mut_ptr(), n,
-            s.flight.as_mut_ptr(), 2 * n, outputs.as_mut_ptr(), first,
-        )
-    }
-}
-
-fn proved(pipelined: bool, s: &mut Switch) -> plain::Answer {
-    let mut a = plain::Answer { refusal: 0, outputs: [0; 32], first: 0 };
-    a.refusal = if pipelined { proved_pipelined(s, &mut a.outputs, &mut a.first) } else { proved_direct(s, &mut a.outputs, &mut a.first) };
-    a
-}
-
-fn by_hand(pipelined: bool, s: &mut Switch) -> plain::Answer {
-    if pipelined {
-        plain::tick_pipelined(&mut s.clock, &s.bookings, &mut s.credits, &mut s.queues, &mut s.copy, &mut s.flight)
-    } else {
-        plain::tick_direct(&mut s.clock, &s.bookings, &mut s.credits, &mut s.queues)
-    }
-}
-
-/// The second program's switch of the same contents, at the level in force.
-fn of_second(s: &Switch) -> second::Switch {
-    let mut other = second::Switch::off(compare::rules());
-    [other.clock.ports, other.clock.frame, other.clock.last] = s.clock;
-    let w = &mut other.words;
-    (w.slots, w.credits, w.queues) = (s.bookings.clone(), s.credits.clone(), s.queues.clone());
-    (w.copy, w.flight) = (s.copy.clone(), s.flight.clone());
-    other
-}
-
-fn by_second(pipelined: bool, s: &mut second::Switch) -> second::Answer {
-    if pipelined {
-        s.tick_pipelined()
-    } else {
-        s.tick_direct()
-    }
-}
-
-/// Both give the same answers and words for some thousand ticks.
-fn agree(pipelined: bool, s: &Switch) {
-    let (mut a, mut b) = (s.clone(), s.clone());
-    for _ in 0..3_000 {
-        let (x, y) = (proved(pipelined, &mut a), by_hand(pipelined, &mut b));
-        assert!((x.refusal, x.outputs, x.first) == (y.refusal, y.outputs, y.first));
-        assert!((a.clock, &a.credits, &a.queues, &a.copy, &a.flight) == (b.clock, &b.credits, &b.queues, &b.copy, &b.flight));
     }
 }
 
@@ -111,8 +50,10 @@ fn warm_up() {
     }
 }
 
+type Work<'a> = Box<dyn FnMut() + 'a>;
+
 /// Nanoseconds of each of several works, done in turn so that all meet the same machine: the least of many rounds.
-fn nanoseconds(times: u32, works: &mut [&mut dyn FnMut()]) -> Vec<f64> {
+fn nanoseconds(times: u32, mut works: Vec<Work>) -> Vec<f64> {
     let mut least = vec![f64::MAX; works.len()];
     for _ in 0..15 {
         for (work, best) in works.iter_mut().zip(&mut least) {
@@ -126,63 +67,150 @@ fn nanoseconds(times: u32, works: &mut [&mut dyn FnMut()]) -> Vec<f64> {
     least
 }
 
+/// Library and plain scheduler give the same answers and words for some thousand ticks; each tick is prepared so.
+fn agree(pipelined: bool, s: &Switch, prepare: impl Fn(&mut Switch)) {
+    let (mut a, mut b) = (s.clone(), s.clone());
+    for _ in 0..3_000 {
+        prepare(&mut a);
+        prepare(&mut b);
+        let (x, y) = (proved(pipelined, &mut a), by_hand(pipelined, &mut b));
+        assert!((x.refusal, x.outputs, x.first) == (y.refusal, y.outputs, y.first));
+        assert!(a == b);
+    }
+}
+
 fn read_once(s: &Switch) -> u64 {
     s.credits.iter().zip(&s.queues).map(|(&c, &q)| c as u64 + q as u64).sum()
 }
 
-fn main() {
-    warm_up();
-    let mut values = String::from("form,ports,load,proved_ns,plain_ns,second_ns,read_ns\n");
-    println!("| form | N | load | proved, ns | plain Rust, ns | ratio | second program, ns | ratio | matrices read once, ns | ratio |");
-    println!("|---|---|---|---|---|---|---|---|---|---|");
-    for pipelined in [false, true] {
-        let form = if pipelined { "pipelined" } else { "direct" };
-        for n in [4, 8, 16, 32] {
+/// Ticks one after the other, among them one in a hundred that reads the book.
+fn ticks() -> Table {
+    let mut table = Table::new(
+        "| form | N | load | proved, ns | plain Rust, ns | ratio | second program, ns | ratio | matrices read once, ns | ratio |",
+        "form,ports,load,proved_ns,plain_ns,second_ns,read_ns",
+    );
+    for pipelined in FORMS {
+        for n in PORTS {
             for (load, percent) in LOADS {
                 let s = loaded(n, percent);
-                agree(pipelined, &s);
-                let (mut a, mut b, c, mut d) = (s.clone(), s.clone(), s.clone(), of_second(&s));
-                let t = nanoseconds(20_000, &mut [
-                    &mut || {
-                        black_box(proved(pipelined, black_box(&mut a)).first);
-                    },
-                    &mut || {
-                        black_box(by_hand(pipelined, black_box(&mut b)).first);
-                    },
-                    &mut || {
-                        black_box(by_second(pipelined, black_box(&mut d)).first);
-                    },
-                    &mut || {
-                        black_box(read_once(black_box(&c)));
-                    },
-                ]);
-                println!(
-                    "| {form} | {n} | {load} | {:.0} | {:.0} | {:.2} | {:.0} | {:.2} | {:.0} | {:.1} |",
-                    t[0], t[1], t[0] / t[1], t[2], t[0] / t[2], t[3], t[0] / t[3]
-                );
-                writeln!(values, "{form},{n},{load},{:.1},{:.1},{:.1},{:.1}", t[0], t[1], t[2], t[3]).unwrap();
+                agree(pipelined, &s, |_| ());
+                tick_row(&mut table, pipelined, n, load, &s);
             }
         }
     }
-    println!("\n| call | N | proved, million a second | plain Rust, million a second |\n|---|---|---|---|");
-    for n in [4u32, 8, 16, 32] {
-        let clock = [n, 10_000, 0];
-        let words = (n * n) as usize;
-        let (mut a, mut b) = (vec![0; words], vec![0; words]);
-        let t = nanoseconds(20_000, &mut [
-            &mut || {
-                a[0] = 0;
-                black_box(unsafe { kivdrag_book(clock.as_ptr(), a.as_mut_ptr(), words, 1, 1, 9) });
-            },
-            &mut || {
-                b[0] = 0;
-                black_box(plain::book(&clock, &mut b, 1, 1, 9));
-            },
-        ]);
-        println!("| booking by slots | {n} | {:.1} | {:.1} |", 1e3 / t[0], 1e3 / t[1]);
-        writeln!(values, "booking,{n},,{:.1},{:.1},,", t[0], t[1]).unwrap();
+    table
+}
+
+fn tick_row(table: &mut Table, pipelined: bool, n: usize, load: &str, s: &Switch) {
+    let (form, mut a, mut b, c, mut d) = (name(pipelined), s.clone(), s.clone(), s.clone(), of_second(s));
+    let works: Vec<Work> = vec![
+        Box::new(|| _ = black_box(proved(pipelined, black_box(&mut a)).first)),
+        Box::new(|| _ = black_box(by_hand(pipelined, black_box(&mut b)).first)),
+        Box::new(|| _ = black_box(by_second(pipelined, black_box(&mut d)).first)),
+        Box::new(|| _ = black_box(read_once(black_box(&c)))),
+    ];
+    let t = nanoseconds(20_000, works);
+    writeln!(
+        table.markdown,
+        "| {form} | {n} | {load} | {:.0} | {:.0} | {:.2} | {:.0} | {:.2} | {:.0} | {:.1} |",
+        t[0], t[1], t[0] / t[1], t[2], t[0] / t[2], t[3], t[0] / t[3]
+    )
+    .unwrap();
+    writeln!(table.values, "{form},{n},{load},{:.1},{:.1},{:.1},{:.1}", t[0], t[1], t[2], t[3]).unwrap();
+}
+
+/// Ticks that do not read the book, that read one without rates, and that read one with a rate for every pair.
+fn frames() -> Table {
+    let mut table = Table::new(
+        "| form | N | tick within a frame: proved, ns | plain Rust, ns | ratio | tick that reads the book, no rates: proved, ns | plain Rust, ns | ratio \
+         | rates on all pairs: proved, ns | plain Rust, ns | ratio |",
+        "form,ports,within_proved_ns,within_plain_ns,slots_proved_ns,slots_plain_ns,rates_proved_ns,rates_plain_ns",
+    );
+    for pipelined in FORMS {
+        for n in PORTS {
+            let kinds = [(false, true), (true, false), (true, true)];
+            let works = kinds.into_iter().flat_map(|(reads, rates)| frame_ticks(pipelined, n, reads, rates));
+            let t = nanoseconds(5_000, works.collect());
+            write!(table.markdown, "| {} | {n} |", name(pipelined)).unwrap();
+            t.chunks_exact(2).for_each(|t| write!(table.markdown, " {:.0} | {:.0} | {:.2} |", t[0], t[1], t[0] / t[1]).unwrap());
+            table.markdown.push('\n');
+            let values: Vec<String> = t.iter().map(|ns| format!("{ns:.1}")).collect();
+            writeln!(table.values, "{},{n},{}", name(pipelined), values.join(",")).unwrap();
+        }
     }
-    if let Some(path) = std::env::args().nth(1) {
-        std::fs::write(path, values).expect("the values are written");
+    table
+}
+
+/// A tick that reads the book or does not, where all pairs have packets and credits for all ticks: proved, and plain.
+fn frame_ticks(pipelined: bool, n: usize, reads: bool, rates: bool) -> [Work<'static>; 2] {
+    let s = switch::with_credits(n, rates);
+    let prepare = move |s: &mut Switch| s.set_frame(pipelined, reads);
+    agree(pipelined, &s, prepare);
+    assert_eq!(switch::reads_book(pipelined, &s, prepare), reads);
+    let (mut a, mut b) = (s.clone(), s);
+    let by_library = move || {
+        prepare(&mut a);
+        black_box(proved(pipelined, black_box(&mut a)).first);
+    };
+    let by_hand = move || {
+        prepare(&mut b);
+        black_box(by_hand(pipelined, black_box(&mut b)).first);
+    };
+    [Box::new(by_library), Box::new(by_hand)]
+}
+
+/// Accepted bookings, by slots and by rate, on a book without rates and on one with a rate for every pair.
+fn bookings() -> Table {
+    let mut table = Table::new(
+        "| booking | rates in the book | N | proved, million a second | plain Rust, million a second | ratio |",
+        "booking,rates,ports,proved_ns,plain_ns",
+    );
+    for by_rate in [false, true] {
+        for rates in [false, true] {
+            for n in PORTS {
+                let t = booking_calls(n, by_rate, rates);
+                let (by, held) = (if by_rate { "by rate" } else { "by slots" }, if rates { "all pairs" } else { "none" });
+                writeln!(table.markdown, "| {by} | {held} | {n} | {:.1} | {:.1} | {:.2} |", 1e3 / t[0], 1e3 / t[1], t[1] / t[0]).unwrap();
+                writeln!(table.values, "{by},{held},{n},{:.1},{:.1}", t[0], t[1]).unwrap();
+            }
+        }
     }
+    table
+}
+
+/// Nanoseconds of a booking for the pair (1, 1), whose words are set back before each: proved, and plain.
+fn booking_calls(n: usize, by_rate: bool, rates: bool) -> Vec<f64> {
+    let held = if rates { 1_000 } else { 0 };
+    let clock = [n as u32, 10_000, 0, LINE];
+    let book = (vec![0u32; n * n], vec![held; n * n]);
+    let (mut a, mut b) = (book.clone(), book);
+    let mut by_library = || {
+        (a.0[0], a.1[0]) = (0, held);
+        let (slots, rates) = (&mut a.0, &mut a.1);
+        let refusal = unsafe {
+            if by_rate {
+                kivdrag_book_rate(clock.as_ptr(), slots.as_ptr(), slots.len(), rates.as_mut_ptr(), rates.len(), 1, 1, 950)
+            } else {
+                kivdrag_book(clock.as_ptr(), slots.as_mut_ptr(), slots.len(), rates.as_ptr(), rates.len(), 1, 1, 9)
+            }
+        };
+        black_box((refusal, slots[0], rates[0]))
+    };
+    let mut by_hand = || {
+        (b.0[0], b.1[0]) = (0, held);
+        let refusal =
+            if by_rate { plain::book_rate(&clock, &b.0, &mut b.1, 1, 1, 950) } else { plain::book(&clock, &mut b.0, &b.1, 1, 1, 9) };
+        black_box((refusal, b.0[0], b.1[0]))
+    };
+    let expected = if by_rate { (0, 0, held + 950) } else { (0, 9, held) };
+    assert_eq!((by_library(), by_hand()), (expected, expected));
+    nanoseconds(20_000, vec![Box::new(|| _ = by_library()), Box::new(|| _ = by_hand())])
+}
+
+fn main() {
+    let folder = std::env::args().nth(1).expect("usage: bench FOLDER");
+    warm_up();
+    ticks().write(&folder, "ticks");
+    frames().write(&folder, "frames");
+    bookings().write(&folder, "bookings");
 }

@@ -1,5 +1,6 @@
 //! A plain Rust scheduler of the same rules on the same words, written for speed as one would by hand: masks of free outputs, rows as
-//! slices swept for words above 0, no check twice. It answers what the proved library answers; main.rs compares them before it measures.
+//! slices swept for words above 0, no check twice, no division for a pair without a rate. It answers what the proved library answers; main.rs
+//! compares them before it measures.
 
 pub struct Answer {
     pub refusal: u32,
@@ -13,11 +14,46 @@ fn refused(refusal: u32) -> Answer {
     Answer { refusal, ..NOTHING }
 }
 
-fn sizes(clock: &[u32; 3]) -> u32 {
+/// Ports, frame, last slot run, line rate.
+pub type Clock = [u32; 4];
+
+fn sizes(clock: &Clock) -> u32 {
     match clock {
         [n, ..] if *n == 0 || *n > 32 => 1,
-        [_, f, _] if *f == 0 || *f > 10_000 => 2,
+        [_, f, ..] if *f == 0 || *f > 10_000 => 2,
         _ => 0,
+    }
+}
+
+/// The booking of a pair with a rate, where the line rate is not 0.
+#[inline(always)]
+fn with_rate(clock: &Clock, slots: u32, rate: u64) -> u64 {
+    let (f, line) = (clock[1] as u64, clock[3] as u64);
+    (slots as u64 + (rate * f).div_ceil(line)).min(u32::MAX as u64)
+}
+
+#[inline(always)]
+fn booking(clock: &Clock, slots: u32, rate: u32) -> u64 {
+    if rate == 0 || clock[3] == 0 {
+        slots as u64
+    } else {
+        with_rate(clock, slots, rate as u64)
+    }
+}
+
+/// Whether there is a rate; the compiler makes vector instructions of it.
+#[inline(always)]
+fn any_rate<'a>(rates: impl Iterator<Item = &'a u32>) -> bool {
+    rates.fold(0, |any, &rate| any | rate) != 0
+}
+
+/// Writes the bookings of a book of n ports. Rows without a rate are only copied.
+fn read_book(clock: &Clock, n: usize, slots: &[u32], rates: &[u32], bookings: &mut [u32]) {
+    bookings.copy_from_slice(slots);
+    for (row, rates) in bookings.chunks_exact_mut(n).zip(rates.chunks_exact(n)) {
+        if any_rate(rates.iter()) {
+            row.iter_mut().zip(rates).for_each(|(a, &r)| *a = booking(clock, *a, r) as u32);
+        }
     }
 }
 
@@ -48,14 +84,14 @@ fn lowest(open: u32) -> Option<usize> {
     (open != 0).then(|| open.trailing_zeros() as usize)
 }
 
-pub fn tick_direct(clock: &mut [u32; 3], bookings: &[u32], credits: &mut [u32], queues: &mut [u32]) -> Answer {
+pub fn tick_direct(clock: &mut Clock, slots: &[u32], rates: &[u32], credits: &mut [u32], queues: &mut [u32]) -> Answer {
     let no = sizes(clock);
     if no != 0 {
         return refused(no);
     }
     let n = clock[0] as usize;
     let used = n * n;
-    if bookings.len() < used || credits.len() < used || queues.len() < used {
+    if [slots.len(), rates.len(), credits.len(), queues.len()].iter().any(|&l| l < used) {
         return refused(4);
     }
     if clock[2] >= 4_000_000_000 {
@@ -63,7 +99,7 @@ pub fn tick_direct(clock: &mut [u32; 3], bookings: &[u32], credits: &mut [u32], 
     }
     let (credits, queues) = (&mut credits[..used], &mut queues[..used]);
     if clock[2] % clock[1] == 0 {
-        credits.copy_from_slice(&bookings[..used]);
+        read_book(clock, n, &slots[..used], &rates[..used], credits);
     }
     let mut answer = NOTHING;
     let mut free = all(n);
@@ -111,7 +147,7 @@ fn free_in(n: usize, row: &[u32]) -> u32 {
 }
 
 pub fn tick_pipelined(
-    clock: &mut [u32; 3], bookings: &[u32], credits: &mut [u32], queues: &mut [u32], copy: &mut [u32], flight: &mut [u32],
+    clock: &mut Clock, slots: &[u32], rates: &[u32], credits: &mut [u32], queues: &mut [u32], copy: &mut [u32], flight: &mut [u32],
 ) -> Answer {
     let no = sizes(clock);
     if no != 0 {
@@ -122,7 +158,8 @@ pub fn tick_pipelined(
         return refused(3);
     }
     let used = n * n;
-    if [bookings.len(), credits.len(), queues.len(), copy.len()].iter().any(|&l| l < used) || flight.len() < 2 * used {
+    let lengths = [slots.len(), rates.len(), credits.len(), queues.len(), copy.len()];
+    if lengths.iter().any(|&l| l < used) || flight.len() < 2 * used {
         return refused(4);
     }
     if clock[2] >= 4_000_000_000 {
@@ -130,7 +167,7 @@ pub fn tick_pipelined(
     }
     let k = clock[2] as usize + 1;
     if (k + 2 * n - 1) % f as usize == 0 {
-        copy[..used].copy_from_slice(&bookings[..used]);
+        read_book(clock, n, &slots[..used], &rates[..used], &mut copy[..used]);
     }
     for i in 0..n {
         let own = i * n..(i + 1) * n;
@@ -172,29 +209,72 @@ pub fn tick_pipelined(
     answer
 }
 
-pub fn book(clock: &[u32; 3], bookings: &mut [u32], input: u64, output: u64, slots: u64) -> u32 {
+/// The questions on ports, frame, runs and pair; or where the pair stands.
+fn on_pair(clock: &Clock, slots: &[u32], rates: &[u32], input: u64, output: u64) -> Result<(usize, usize), u32> {
     let no = sizes(clock);
     if no != 0 {
-        return no;
+        return Err(no);
     }
     let n = clock[0] as usize;
-    if bookings.len() < n * n {
-        return 4;
+    if slots.len() < n * n || rates.len() < n * n {
+        return Err(4);
     }
     if input == 0 || input > n as u64 || output == 0 || output > n as u64 {
-        return 5;
+        return Err(5);
     }
-    if slots == 0 || slots > clock[1] as u64 {
-        return 6;
+    Ok((input as usize - 1, output as usize - 1))
+}
+
+/// The sum of some pairs' bookings.
+#[inline(always)]
+fn sum<'a>(clock: &Clock, slots: impl Iterator<Item = &'a u32>, rates: impl Iterator<Item = &'a u32> + Clone) -> u64 {
+    if any_rate(rates.clone()) {
+        slots.zip(rates).map(|(&s, &r)| booking(clock, s, r)).sum()
+    } else {
+        slots.map(|&s| s as u64).sum()
     }
-    let (i, j) = (input as usize - 1, output as usize - 1);
-    let limit = clock[1] as u64 + 1;
-    if 2 * (bookings[i * n..(i + 1) * n].iter().map(|&a| a as u64).sum::<u64>() + slots) > limit {
-        return 8;
+}
+
+/// The questions on the sums of row i and column j, with d more.
+#[inline(always)]
+fn sums_admit(clock: &Clock, slots: &[u32], rates: &[u32], (i, j): (usize, usize), d: u64) -> Result<(), u32> {
+    let (n, limit) = (clock[0] as usize, clock[1] as u64 + 1);
+    let row = i * n..(i + 1) * n;
+    if 2 * (sum(clock, slots[row.clone()].iter(), rates[row].iter()) + d) > limit {
+        return Err(8);
     }
-    if 2 * (bookings[..n * n].iter().skip(j).step_by(n).map(|&a| a as u64).sum::<u64>() + slots) > limit {
-        return 9;
+    if 2 * (sum(clock, slots[j..n * n].iter().step_by(n), rates[j..n * n].iter().step_by(n)) + d) > limit {
+        return Err(9);
     }
-    bookings[i * n + j] += slots as u32;
-    0
+    Ok(())
+}
+
+fn try_book(clock: &Clock, slots: &mut [u32], rates: &[u32], input: u64, output: u64, amount: u64) -> Result<(), u32> {
+    let (i, j) = on_pair(clock, slots, rates, input, output)?;
+    if amount == 0 || amount > clock[1] as u64 {
+        return Err(6);
+    }
+    sums_admit(clock, slots, rates, (i, j), amount)?;
+    slots[i * clock[0] as usize + j] += amount as u32;
+    Ok(())
+}
+
+fn try_book_rate(clock: &Clock, slots: &[u32], rates: &mut [u32], input: u64, output: u64, rate: u64) -> Result<(), u32> {
+    let (i, j) = on_pair(clock, slots, rates, input, output)?;
+    if clock[3] == 0 || clock[3] > 100_000_000 || rate == 0 || rate > clock[3] as u64 {
+        return Err(6);
+    }
+    let at = i * clock[0] as usize + j;
+    let rise = with_rate(clock, slots[at], rates[at] as u64 + rate) - booking(clock, slots[at], rates[at]);
+    sums_admit(clock, slots, rates, (i, j), rise)?;
+    rates[at] += rate as u32;
+    Ok(())
+}
+
+pub fn book(clock: &Clock, slots: &mut [u32], rates: &[u32], input: u64, output: u64, amount: u64) -> u32 {
+    try_book(clock, slots, rates, input, output, amount).err().unwrap_or(0)
+}
+
+pub fn book_rate(clock: &Clock, slots: &[u32], rates: &mut [u32], input: u64, output: u64, rate: u64) -> u32 {
+    try_book_rate(clock, slots, rates, input, output, rate).err().unwrap_or(0)
 }

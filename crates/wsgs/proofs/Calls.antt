@@ -2,21 +2,21 @@
 -- of a definition; put together into an outcome of the switch, that is what `apply` says of the call. For a start or a tick nothing is lost on
 -- the way: 32 outputs and the pass-one word tell the whole matching, since a switch has at most 32 inputs. Assumes nothing.
 use mathlib.Core.Path.{_≡_, refl, sym, _∙_, ap, ap₂, fun-ext}
-use mathlib.Core.Bool.{Bool, true, false, _&&_}
+use mathlib.Core.Bool.{Bool, true, false}
 use mathlib.Core.List.{List, [], _∷_}
 use Prim.Native.Nat.{ℕ, zero, suc, _+_, _-_, _≤_, _<_, _/_, _%_, _^_}
 use native.Mathlib.Decide.{decLt, ℕ-discrete}
 use native.Mathlib.Nat.{div-eq-of-lt, lt-of-lt-of-le}
 use native.Mathlib.Omega.{arith}
 use borrow.Author.Tests.{eq-eqb, ne-eqb, lt-ltb}
-use lib.Dec.{T, eqb, leb, ltb}
+use lib.Dec.{T, eqb, ltb}
 use lib.ListN.{getD, List·getD-eq-default}
 use lib.Pow.{pow-mono}
 use Rattle.wsgs.specs.declared.Clock.{Clock}
 use Rattle.wsgs.specs.declared.StartResult.{StartResult}
 use Rattle.wsgs.specs.declared.TickResult.{TickResult}
 use Rattle.wsgs.specs.Basics.{pick, bit, between, Port}
-use Rattle.wsgs.specs.Steps.{Matching, empty-matching, nine-steps, listed, marked, outputs-of, pass-word-of}
+use Rattle.wsgs.specs.Steps.{Matching, empty-matching, nine-steps, listed, outputs-of, pass-word-of}
 use Rattle.wsgs.specs.Questions.{Outcome, Effect, refused, clock-can-advance}
 use Rattle.wsgs.specs.Bookings.{Book}
 use Rattle.wsgs.specs.Book.{book-effect, rate-effect, release-effect, release-rate-effect, arrive-effect}

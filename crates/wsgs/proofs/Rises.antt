@@ -1,14 +1,14 @@
 -- What an accepted booking leaves: no word overflows, since question 8 keeps every booking to half a frame, rounded up; and the pair's booking has
 -- risen by just what the booking counted as. Assumes nothing.
-use mathlib.Core.Path.{_≡_, refl, _∙_, ap₂}
-use Prim.Native.Nat.{ℕ, _+_, _-_, _*_, _≤_, _<_}
+use mathlib.Core.Path.{_≡_, refl}
+use Prim.Native.Nat.{ℕ, _+_, _-_, _*_, _≤_}
 use native.Mathlib.Omega.{arith}
 use Rattle.wsgs.specs.declared.Clock.{Clock}
 use Rattle.wsgs.specs.Basics.{pick, Port, updated₂}
 use Rattle.wsgs.specs.Words.{word}
-use Rattle.wsgs.specs.Bookings.{Book, rate-slots, booking, bookings, row-sum}
-use Rattle.wsgs.specs.Book.{with-slots, with-rate, rise, book-refusal, book-words, rate-refusal, rate-words}
-use Rattle.wsgs.specs.Claims.{Reached, Admitted}
+use Rattle.wsgs.specs.Bookings.{Book, booking, bookings, row-sum}
+use Rattle.wsgs.specs.Book.{rise, book-refusal, book-words, rate-refusal, rate-words}
+use Rattle.wsgs.specs.Claims.{Admitted}
 use Rattle.wsgs.proofs.Laws.Tests.{at-pair}
 use Rattle.wsgs.proofs.Laws.Sums.{sum-parts}
 use Rattle.wsgs.proofs.Laws.Words.{word-put}

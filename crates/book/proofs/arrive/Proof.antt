@@ -1,7 +1,6 @@
 -- `book::arrive` meets its contract: the pair refuses, or the amount is out of range, or the rest decides. Assumes nothing.
 use mathlib.Core.Path.{_≡_, sym, _∙_, ap}
 use mathlib.Core.Bool.{true}
-use native.Mathlib.Omega.{arith}
 use Rattle.book.proofs.Laws.Amounts.{amount-few}
 use Rattle.wsgs.specs.Questions.{packets-in-range, holds-pairs}
 use Rattle.questions.specs.Refusals.{pair-refusal}

@@ -1,7 +1,6 @@
 -- `book::book_rate` meets its contract: the pair refuses, or the amount is out of range, or the rest decides. Assumes nothing.
 use mathlib.Core.Path.{_≡_, sym, _∙_, ap}
 use mathlib.Core.Bool.{true}
-use native.Mathlib.Omega.{arith}
 use Rattle.book.proofs.Laws.Amounts.{rate-asked}
 use Rattle.wsgs.specs.Questions.{rate-in-range, holds-book}
 use Rattle.wsgs.specs.Bookings.{book-of}

@@ -1,8 +1,8 @@
 -- Laws of bookings: as words; that they rise and fall with slots and rates; and what a few slots hold. Assumes nothing.
-use mathlib.Core.Path.{_≡_, refl, _∙_}
+use mathlib.Core.Path.{_≡_, refl}
 use mathlib.Core.List.{List, [], _∷_}
 use Prim.Native.Nat.{ℕ, zero, suc, _+_, _-_, _*_, _/_, min, _≤_, _<_}
-use native.Mathlib.Nat.{mul-le-mul-left, mul-le-mul-right, le-of-mul-le-mul-right, div-eq-of-lt, div-lt-iff-lt-mul, le-div-iff-mul-le, div-mul-le-self, suc-mul, mul-comm}
+use native.Mathlib.Nat.{mul-le-mul-right, le-of-mul-le-mul-right, div-eq-of-lt, div-lt-iff-lt-mul, le-div-iff-mul-le, div-mul-le-self, suc-mul, mul-comm}
 use native.Mathlib.Omega.{arith}
 use native.Mathlib.Decide.{ℕ-discrete}
 use lib.Dec.{eqb}

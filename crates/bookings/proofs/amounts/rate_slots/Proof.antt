@@ -1,5 +1,5 @@
 -- `amounts::rate_slots` meets its contract: without a rate or a line it is 0, else the quotient. Assumes nothing.
-use mathlib.Core.Path.{sym, _∙_}
+use mathlib.Core.Path.{sym}
 use native.Mathlib.Omega.{arith}
 use borrow.Author.Needs.{needs}
 use Rattle.bookings.proofs.Laws.{no-rate, no-line, divided, quotient-few}
