@@ -12,7 +12,9 @@ abbrev start : tie.After-direct-runs-suffice → tie.Start
 start c = c .before .before .before .before .before .before .before
 
 abbrev runs : tie.Start → Pipelined.Runs
-runs s = pipelined-runs-of (s .args .slots .now) (s .args .rates .now) (s .args .credits .now) (s .args .queues .now) (s .args .copy .now) (s .args .flight .now)
+runs s =
+    let a = s .args in
+    pipelined-runs-of (a .slots .now) (a .rates .now) (a .credits .now) (a .queues .now) (a .copy .now) (a .flight .now)
 
 direct-runs-suffice-requires : tie.Need-direct-runs-suffice-requires
 direct-runs-suffice-requires c κs = search needs
