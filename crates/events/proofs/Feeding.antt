@@ -99,17 +99,17 @@ right-true true b d e = absurd (false≢true (sym d))
 right-true false b d e = e
 
 -- what it says that there is work
-pub record Ready (slots bytes buffer room : ℕ) : Type 0 where
-  pub byte : slots ≡ 0 → 0 < bytes
+pub record Ready (left bytes buffer room : ℕ) : Type 0 where
+  pub byte : left ≡ 0 → 0 < bytes
   pub long : kept-bytes ≤ buffer
   pub room-left : slot-room ≤ room
 
-pub ready : (slots bytes buffer room : ℕ) → has-work slots bytes buffer room ≡ true → Ready slots bytes buffer room
-ready slots bytes buffer room t =
-    let p = both-true (ltb 0 slots || ltb 0 bytes) _ t in
+pub ready : (left bytes buffer room : ℕ) → has-work left bytes buffer room ≡ true → Ready left bytes buffer room
+ready left bytes buffer room t =
+    let p = both-true (ltb 0 left || ltb 0 bytes) _ t in
     let q = both-true (leb kept-bytes buffer) _ (p .1) in
     record {
-      byte = λ e. ltb-true _ _ (right-true (ltb 0 slots) _ (le-ltb 0 slots (omega arith)) (p .0));
+      byte = λ e. ltb-true _ _ (right-true (ltb 0 left) _ (le-ltb 0 left (omega arith)) (p .0));
       long = leb-true _ _ (q .0);
       room-left = leb-true _ _ (q .1);
     }

@@ -8,6 +8,7 @@ use lib.Dec.{eqb, ltb, leb}
 use lib.ListN.{length, getD, take}
 use Rattle.wsgs.specs.declared.Reading.{Reading}
 use Rattle.wsgs.specs.Basics.{pick}
+use Rattle.wsgs.specs.Bookings.{Book}
 use Rattle.wsgs.specs.Text.{LF, read-record}
 use Rattle.wsgs.specs.Program.{RecordOutcome, SlotOutcome, obey, run-slot, refusal-text, slot-text}
 use Rattle.wsgs.specs.Program
@@ -25,32 +26,36 @@ use Rattle.events.proofs.Whole.{end-read, end-heading, byte-ends, byte-
 step-is : {o o′ : StepOutcome} {s : State} {out out′ : List ℕ} {at next : ℕ} → o ≡ o′ → StepWritten o′ s out at next out′ → StepWritten o s out at next out′
 step-is {s = s} {out = out} {out′ = out′} {at = at} {next = next} e h = subst⁻¹ (λ (o : StepOutcome). StepWritten o s out at next out′) e h
 
-module _ (k : Progress) (b a c q p f : List ℕ) where
+-- a state by its book
+abbrev state-with : Progress → List ℕ → Book → (credits queues copy flight : List ℕ) → State
+state-with k b a c q p f = state-of k b (a .slots) (a .rates) c q p f
+
+module _ (k : Progress) (b : List ℕ) (a : Book) (c q p f : List ℕ) where
   abbrev S : State
-  S = state-of k b a c q p f
+  S = state-with k b a c q p f
 
   abbrev M : Program.Machine
-  M = machine-of (k .machine) a c q p f
+  M = machine-of (k .machine) (a .slots) (a .rates) c q p f
 
   -- THE END OF THE HEADING, and of any other record
   pub heading-written : {out : List ℕ} {at : ℕ} (k′ : Progress) (next : ℕ) → k .«past_heading» ≡ false → k′ ≡ ended-progress (k .machine) 0 → next ≡ at
-      → at ≤ length out → StepWritten (record-end S) (state-of k′ b a c q p f) out at next out
+      → at ≤ length out → StepWritten (record-end S) (state-with k′ b a c q p f) out at next out
   heading-written {out = out} {at = at} k′ next h e en l =
-      step-is (end-heading S h) (record { state = ap (λ (k : Progress). state-of k b a c q p f) e; text = rw en (wrote-none out at l) })
+      step-is (end-heading S h) (record { state = ap (λ (k : Progress). state-with k b a c q p f) e; text = rw en (wrote-none out at l) })
 
-  module _ {out out′ : List ℕ} {at : ℕ} (r : RecordResult) (k′ : Progress) (next end : ℕ) (a′ c′ q′ p′ f′ : List ℕ) where
-    obeyed-written : (reading : Reading) → record-outcome-of r a′ c′ q′ p′ f′ ≡ obey M reading → TextWritten out at (refusal-text (r .refusal)) next out′
-        → k′ ≡ ended-progress (r .machine) (r .slots) → end ≡ next → StepWritten (record-step S reading) (state-of k′ b a′ c′ q′ p′ f′) out at end out′
+  module _ {out out′ : List ℕ} {at : ℕ} (r : RecordResult) (k′ : Progress) (next end : ℕ) (a′ : Book) (c′ q′ p′ f′ : List ℕ) where
+    obeyed-written : (reading : Reading) → record-outcome-of r (a′ .slots) (a′ .rates) c′ q′ p′ f′ ≡ obey M reading → TextWritten out at (refusal-text (r .refusal)) next out′
+        → k′ ≡ ended-progress (r .machine) (r .«slots_left») → end ≡ next → StepWritten (record-step S reading) (state-with k′ b a′ c′ q′ p′ f′) out at end out′
     unfolding record-step
     obeyed-written reading e w ek el =
         record {
-          state = ap (λ (k : Progress). state-of k b a′ c′ q′ p′ f′) ek ∙ ap (λ (o : RecordOutcome). ended S (o .machine) (o .slots)) e;
+          state = ap (λ (k : Progress). state-with k b a′ c′ q′ p′ f′) ek ∙ ap (λ (o : RecordOutcome). ended S (o .machine) (o .slots)) e;
           text = rw el (wrote-is w (ap (λ (o : RecordOutcome). refusal-text (o .refusal)) e));
         }
 
     pub record-written : (n : ℕ) (reading : Reading) → k .«past_heading» ≡ true → n ≡ min (k .count - 1) kept-bytes → reading ≡ read-record (take n b)
-        → record-outcome-of r a′ c′ q′ p′ f′ ≡ obey M reading → TextWritten out at (refusal-text (r .refusal)) next out′
-        → k′ ≡ ended-progress (r .machine) (r .slots) → end ≡ next → StepWritten (record-end S) (state-of k′ b a′ c′ q′ p′ f′) out at end out′
+        → record-outcome-of r (a′ .slots) (a′ .rates) c′ q′ p′ f′ ≡ obey M reading → TextWritten out at (refusal-text (r .refusal)) next out′
+        → k′ ≡ ended-progress (r .machine) (r .«slots_left») → end ≡ next → StepWritten (record-end S) (state-with k′ b a′ c′ q′ p′ f′) out at end out′
     record-written n reading h en er e w ek el =
         let is : reading ≡ read-record (take (min (k .count - 1) kept-bytes) b) = er ∙ ap (λ n. read-record (take n b)) en in
         step-is (end-read S h ∙ ap (record-step S) (sym is)) (obeyed-written reading e w ek el)
@@ -66,15 +71,15 @@ module _ (k : Progress) (b a c q p f : List ℕ) where
     byte-kept {out = out} {at = at} is e t h l = step-is (byte-more S x (sym e ∙ t)) (record { state = h; text = wrote-none out at l })
 
   -- A SLOT
-  module _ {out out′ : List ℕ} {at : ℕ} (r : SlotResult) (k′ : Progress) (slots next : ℕ) (c′ q′ p′ f′ : List ℕ) where
-    pub slot-written : slot-outcome-of r a c′ q′ p′ f′ ≡ run-slot M → TextWritten out at (slot-result-text r) next out′
-        → slots ≡ slots-after (r .refusal .number) (k .«slots_left») → k′ ≡ moved-progress k (r .machine) slots
-        → StepWritten (slot-step S) (state-of k′ b a c′ q′ p′ f′) out at next out′
+  module _ {out out′ : List ℕ} {at : ℕ} (r : SlotResult) (k′ : Progress) (left next : ℕ) (c′ q′ p′ f′ : List ℕ) where
+    pub slot-written : slot-outcome-of r (a .slots) (a .rates) c′ q′ p′ f′ ≡ run-slot M → TextWritten out at (slot-result-text r) next out′
+        → left ≡ slots-after (r .refusal .number) (k .«slots_left») → k′ ≡ moved-progress k (r .machine) left
+        → StepWritten (slot-step S) (state-with k′ b a c′ q′ p′ f′) out at next out′
     unfolding slot-step
     slot-written e w en ek =
         record {
           state =
-              ap (λ (k : Progress). state-of k b a c′ q′ p′ f′) (ek ∙ ap (moved-progress k (r .machine)) en)
+              ap (λ (k : Progress). state-with k b a c′ q′ p′ f′) (ek ∙ ap (moved-progress k (r .machine)) en)
               ∙ ap (λ (o : SlotOutcome). with-machine S (o .machine) (slots-after (o .refusal .number) (k .«slots_left»))) e;
           text = wrote-is w (ap (λ (o : SlotOutcome). slot-text o) e);
         }
@@ -99,15 +104,15 @@ module _ (left taken : ℕ) where
   byte-taken l = rw (le-ltb 0 left l)
 
 -- WHETHER THERE IS WORK, by the code's tests
-module _ (slots bytes buffer room : ℕ) where
-  pub short-buffer : buffer < kept-bytes → false ≡ has-work slots bytes buffer room
+module _ (left bytes buffer room : ℕ) where
+  pub short-buffer : buffer < kept-bytes → false ≡ has-work left bytes buffer room
   short-buffer h = rw (lt-leb kept-bytes buffer h, and-false)
 
-  pub no-room : room < slot-room → false ≡ has-work slots bytes buffer room
+  pub no-room : room < slot-room → false ≡ has-work left bytes buffer room
   no-room h = rw (lt-leb slot-room room h, and-false (leb kept-bytes buffer), and-false)
 
-  pub slot-to-run : kept-bytes ≤ buffer → slot-room ≤ room → 0 < slots → true ≡ has-work slots bytes buffer room
-  slot-to-run h l n = rw (le-leb kept-bytes buffer h, le-leb slot-room room l, lt-ltb 0 slots n)
+  pub slot-to-run : kept-bytes ≤ buffer → slot-room ≤ room → 0 < left → true ≡ has-work left bytes buffer room
+  slot-to-run h l n = rw (le-leb kept-bytes buffer h, le-leb slot-room room l, lt-ltb 0 left n)
 
-  pub byte-to-take : kept-bytes ≤ buffer → slot-room ≤ room → slots ≤ 0 → ltb 0 bytes ≡ has-work slots bytes buffer room
-  byte-to-take h l n = rw (le-leb kept-bytes buffer h, le-leb slot-room room l, le-ltb 0 slots n) (sym (and-true (ltb 0 bytes)))
+  pub byte-to-take : kept-bytes ≤ buffer → slot-room ≤ room → left ≤ 0 → ltb 0 bytes ≡ has-work left bytes buffer room
+  byte-to-take h l n = rw (le-leb kept-bytes buffer h, le-leb slot-room room l, le-ltb 0 left n) (sym (and-true (ltb 0 bytes)))

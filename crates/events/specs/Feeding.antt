@@ -42,20 +42,20 @@ after text o = record { state = o .state; printed = text ++ o .printed }
 
 -- a state with another machine and other slots to run
 abbrev pub with-machine : State → Machine → ℕ → State
-with-machine s m slots =
+with-machine s m left =
     record {
       machine = m;
       past-heading = s .past-heading;
       after-CR = s .after-CR;
       count = s .count;
       buffer = s .buffer;
-      slots-left = slots;
+      slots-left = left;
     }
 
 -- a state in which a record has ended
 abbrev pub ended : State → Machine → ℕ → State
-ended s m slots =
-    record { machine = m; past-heading = true; after-CR = false; count = 0; buffer = s .buffer; slots-left = slots }
+ended s m left =
+    record { machine = m; past-heading = true; after-CR = false; count = 0; buffer = s .buffer; slots-left = left }
 
 -- a byte more of the record so far
 abbrev pub appended : State → ℕ → State
@@ -70,8 +70,8 @@ appended s x =
     }
 
 -- THE FIRST STEP: a slot of a tick record. Of the slots to run one less is left after it; the first that is refused ends the record.
-abbrev pub slots-after : (refusal slots : ℕ) → ℕ
-slots-after refusal slots = pick (eqb refusal 0) (slots - 1) 0
+abbrev pub slots-after : (refusal left : ℕ) → ℕ
+slots-after refusal left = pick (eqb refusal 0) (left - 1) 0
 
 unfoldable pub slot-step : State → StepOutcome
 unfolding run-slot match-lines
@@ -112,12 +112,12 @@ abbrev pub next-taken : State → ℕ → ℕ
 next-taken s k = pick (ltb 0 (s .slots-left)) k (k + 1)
 
 -- there is a slot to run or a byte to take, the buffer of the record is long enough, and there is room for what a step may print
-abbrev pub has-work : (slots bytes buffer room : ℕ) → Bool
-has-work slots bytes buffer room = (ltb 0 slots || ltb 0 bytes) && (leb kept-bytes buffer && leb slot-room room)
+abbrev pub has-work : (left bytes buffer room : ℕ) → Bool
+has-work left bytes buffer room = (ltb 0 left || ltb 0 bytes) && (leb kept-bytes buffer && leb slot-room room)
 
 -- more steps than so many slots and bytes can take: a byte leaves at most 10,000 slots to run
-abbrev pub most-steps : (slots bytes : ℕ) → ℕ
-most-steps slots bytes = slots + bytes * 10001
+abbrev pub most-steps : (left bytes : ℕ) → ℕ
+most-steps left bytes = left + bytes * 10001
 
 -- A CALL OF `feed`: the state, how many bytes of the block are taken, and what is printed so far.
 pub record FeedOutcome : Type 0 where

@@ -20,8 +20,8 @@ ghost use Rattle.events.specs.Feeding.{kept-bytes, most-counted, appende
 ghost use Rattle.events.specs.View.{state-of, ended-progress, StepWritten};
 
 // What is left where a record has ended.
-fn ended(machine: Machine, slots: u64, next: usize) -> ByteResult
-    ensures progress { λ r. ⌜ r .progress ≡ ended-progress machine slots ⌝ }
+fn ended(machine: Machine, slots_left: u64, next: usize) -> ByteResult
+    ensures progress { λ r. ⌜ r .progress ≡ ended-progress machine «slots_left» ⌝ }
     ensures place { λ r. ⌜ r .next ≡ next ⌝ }
 {
     let progress = Progress {
@@ -29,7 +29,7 @@ fn ended(machine: Machine, slots: u64, next: usize) -> ByteResult
         past_heading: true,
         after_cr: false,
         count: 0,
-        slots_left: slots,
+        slots_left,
     };
     ByteResult { progress, next }
 }
@@ -53,7 +53,8 @@ fn end_record(
     buffer: &[u8],
     out: &mut [u8],
     at: usize,
-    bookings: &mut [u32],
+    slots: &mut [u32],
+    rates: &mut [u32],
     credits: &mut [u32],
     queues: &mut [u32],
     copy: &mut [u32],
@@ -62,9 +63,9 @@ fn end_record(
     requires buffer { ⌜ kept-bytes ≤ length (now buffer) ⌝ }
     requires room { ⌜ at + refusal-room ≤ length (now out) ⌝ }
     ensures outcome { λ r. ⌜ StepWritten (record-end (state-of progress (now (buffer .entry))
-        (now (bookings .entry)) (now (credits .entry)) (now (queues .entry)) (now (copy .entry)) (now (flight .entry))))
+        (now (slots .entry)) (now (rates .entry)) (now (credits .entry)) (now (queues .entry)) (now (copy .entry)) (now (flight .entry))))
         (state-of (r .progress) (now (buffer .entry))
-        (now (bookings .exit)) (now (credits .exit)) (now (queues .exit)) (now (copy .exit)) (now (flight .exit)))
+        (now (slots .exit)) (now (rates .exit)) (now (credits .exit)) (now (queues .exit)) (now (copy .exit)) (now (flight .exit)))
         (now (out .entry)) at (r .next) (now (out .exit)) ⌝ }
 {
     let machine = progress.machine;
@@ -73,11 +74,20 @@ fn end_record(
     }
     let length = kept_length(progress.count);
     let reading = read_record(&buffer[..length]);
-    let obeyed = obey(machine, reading, bookings, credits, queues, copy, flight);
+    let obeyed = obey(
+        machine,
+        reading,
+        slots,
+        rates,
+        credits,
+        queues,
+        copy,
+        flight,
+    );
     let refusal = obeyed.refusal;
     let next = put_refusal(out, at, refusal);
     let after = obeyed.machine;
-    ended(after, obeyed.slots, next)
+    ended(after, obeyed.slots_left, next)
 }
 
 // Keeps a byte of the record so far, if it is one of the first 65.
@@ -104,8 +114,8 @@ fn counted(count: usize) -> usize
 // A byte more of the record so far.
 fn append(mut progress: Progress, byte: u8, buffer: &mut [u8]) -> Progress
     requires buffer { ⌜ kept-bytes ≤ length (now buffer) ⌝ }
-    ensures state { λ r. ⌜ ((a c q p f : List ℕ)
-        → state-of r (now (buffer .exit)) a c q p f ≡ appended (state-of progress (now (buffer .entry)) a c q p f) byte) ⌝ }
+    ensures state { λ r. ⌜ ((s t c q p f : List ℕ)
+        → state-of r (now (buffer .exit)) s t c q p f ≡ appended (state-of progress (now (buffer .entry)) s t c q p f) byte) ⌝ }
 {
     let count = progress.count;
     keep(buffer, count, byte);
@@ -129,7 +139,8 @@ pub fn take_byte(
     buffer: &mut [u8],
     out: &mut [u8],
     at: usize,
-    bookings: &mut [u32],
+    slots: &mut [u32],
+    rates: &mut [u32],
     credits: &mut [u32],
     queues: &mut [u32],
     copy: &mut [u32],
@@ -138,9 +149,10 @@ pub fn take_byte(
     requires buffer { ⌜ kept-bytes ≤ length (now buffer) ⌝ }
     requires room { ⌜ at + refusal-room ≤ length (now out) ⌝ }
     ensures outcome { λ r. ⌜ StepWritten (byte-step (state-of progress (now (buffer .entry))
-        (now (bookings .entry)) (now (credits .entry)) (now (queues .entry)) (now (copy .entry)) (now (flight .entry))) byte)
+        (now (slots .entry)) (now (rates .entry)) (now (credits .entry)) (now (queues .entry)) (now (copy .entry)) (now (flight .entry)))
+        byte)
         (state-of (r .progress) (now (buffer .exit))
-        (now (bookings .exit)) (now (credits .exit)) (now (queues .exit)) (now (copy .exit)) (now (flight .exit)))
+        (now (slots .exit)) (now (rates .exit)) (now (credits .exit)) (now (queues .exit)) (now (copy .exit)) (now (flight .exit)))
         (now (out .entry)) at (r .next) (now (out .exit)) ⌝ }
 {
     if is_end(progress.after_cr, byte) {
@@ -149,7 +161,8 @@ pub fn take_byte(
             buffer,
             out,
             at,
-            bookings,
+            slots,
+            rates,
             credits,
             queues,
             copy,

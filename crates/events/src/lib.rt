@@ -50,6 +50,7 @@ pub fn begin() -> Progress
         ports: 0,
         frame: 0,
         slot: 0,
+        line: 0,
     };
     let machine = Machine {
         running: false,
@@ -88,16 +89,17 @@ pub fn feed(
     block: &[u8],
     buffer: &mut [u8],
     out: &mut [u8],
-    bookings: &mut [u32],
+    slots: &mut [u32],
+    rates: &mut [u32],
     credits: &mut [u32],
     queues: &mut [u32],
     copy: &mut [u32],
     flight: &mut [u32],
 ) -> FeedResult
     ensures outcome { λ r. ⌜ feed-effect-of r (now (out .exit)) (now (buffer .exit))
-        (now (bookings .exit)) (now (credits .exit)) (now (queues .exit)) (now (copy .exit)) (now (flight .exit))
+        (now (slots .exit)) (now (rates .exit)) (now (credits .exit)) (now (queues .exit)) (now (copy .exit)) (now (flight .exit))
         ≡ feed-effect (fed (length (now (out .entry))) (now (block .entry)) (state-of progress (now (buffer .entry))
-        (now (bookings .entry)) (now (credits .entry)) (now (queues .entry)) (now (copy .entry)) (now (flight .entry))))
+        (now (slots .entry)) (now (rates .entry)) (now (credits .entry)) (now (queues .entry)) (now (copy .entry)) (now (flight .entry))))
         (now (out .entry)) ⌝ }
 {
     let mut fed = FeedResult {
@@ -111,7 +113,8 @@ pub fn feed(
             block,
             buffer,
             out,
-            bookings,
+            slots,
+            rates,
             credits,
             queues,
             copy,

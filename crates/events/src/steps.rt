@@ -25,30 +25,31 @@ pub fn goes_on(fed: FeedResult, block: usize, buffer: usize, room: usize) -> boo
 }
 
 // What is kept with another machine and other slots to run.
-fn moved(mut progress: Progress, machine: Machine, slots: u64) -> Progress
-    ensures progress { λ r. ⌜ r ≡ moved-progress progress machine slots ⌝ }
+fn moved(mut progress: Progress, machine: Machine, slots_left: u64) -> Progress
+    ensures progress { λ r. ⌜ r ≡ moved-progress progress machine «slots_left» ⌝ }
 {
     progress.machine = machine;
-    progress.slots_left = slots;
+    progress.slots_left = slots_left;
     progress
 }
 
 // The slots left to run after one of them, by its refusal: the first slot that is refused ends the record.
-fn slots_after(refusal: u32, slots: u64) -> u64
-    requires some { ⌜ 1 ≤ slots ⌝ }
-    ensures slots { λ r. ⌜ r ≡ slots-after refusal slots ⌝ }
+fn slots_after(refusal: u32, slots_left: u64) -> u64
+    requires some { ⌜ 1 ≤ «slots_left» ⌝ }
+    ensures left { λ r. ⌜ r ≡ slots-after refusal «slots_left» ⌝ }
 {
     if refusal != 0 {
         return 0;
     }
-    slots - 1
+    slots_left - 1
 }
 
 // A slot of a tick record.
 fn step_slot(
     fed: FeedResult,
     out: &mut [u8],
-    bookings: &[u32],
+    slots: &[u32],
+    rates: &[u32],
     credits: &mut [u32],
     queues: &mut [u32],
     copy: &mut [u32],
@@ -58,20 +59,20 @@ fn step_slot(
     requires room { ⌜ fed .written + slot-room ≤ length (now out) ⌝ }
     ensures taken { λ r. ⌜ r .taken ≡ fed .taken ⌝ }
     ensures outcome { λ r. ⌜ ((b : List ℕ) → StepWritten (slot-step (state-of (fed .progress) b
-        (now (bookings .entry)) (now (credits .entry)) (now (queues .entry)) (now (copy .entry)) (now (flight .entry))))
+        (now (slots .entry)) (now (rates .entry)) (now (credits .entry)) (now (queues .entry)) (now (copy .entry)) (now (flight .entry))))
         (state-of (r .progress) b
-        (now (bookings .entry)) (now (credits .exit)) (now (queues .exit)) (now (copy .exit)) (now (flight .exit)))
+        (now (slots .entry)) (now (rates .entry)) (now (credits .exit)) (now (queues .exit)) (now (copy .exit)) (now (flight .exit)))
         (now (out .entry)) (fed .written) (r .written) (now (out .exit))) ⌝ }
 {
     let progress = fed.progress;
     let machine = progress.machine;
-    let slot = run_slot(machine, bookings, credits, queues, copy, flight);
+    let slot = run_slot(machine, slots, rates, credits, queues, copy, flight);
     let written = put_slot(out, fed.written, slot);
     let after = slot.machine;
     let refusal = slot.refusal;
-    let slots = slots_after(refusal.number, progress.slots_left);
+    let slots_left = slots_after(refusal.number, progress.slots_left);
     FeedResult {
-        progress: moved(progress, after, slots),
+        progress: moved(progress, after, slots_left),
         taken: fed.taken,
         written,
     }
@@ -83,7 +84,8 @@ fn step_byte(
     block: &[u8],
     buffer: &mut [u8],
     out: &mut [u8],
-    bookings: &mut [u32],
+    slots: &mut [u32],
+    rates: &mut [u32],
     credits: &mut [u32],
     queues: &mut [u32],
     copy: &mut [u32],
@@ -94,10 +96,10 @@ fn step_byte(
     requires room { ⌜ fed .written + refusal-room ≤ length (now out) ⌝ }
     ensures taken { λ r. ⌜ r .taken ≡ fed .taken + 1 ⌝ }
     ensures outcome { λ r. ⌜ StepWritten (byte-step (state-of (fed .progress) (now (buffer .entry))
-        (now (bookings .entry)) (now (credits .entry)) (now (queues .entry)) (now (copy .entry)) (now (flight .entry)))
+        (now (slots .entry)) (now (rates .entry)) (now (credits .entry)) (now (queues .entry)) (now (copy .entry)) (now (flight .entry)))
         (getD (now (block .entry)) (fed .taken) 0))
         (state-of (r .progress) (now (buffer .exit))
-        (now (bookings .exit)) (now (credits .exit)) (now (queues .exit)) (now (copy .exit)) (now (flight .exit)))
+        (now (slots .exit)) (now (rates .exit)) (now (credits .exit)) (now (queues .exit)) (now (copy .exit)) (now (flight .exit)))
         (now (out .entry)) (fed .written) (r .written) (now (out .exit)) ⌝ }
 {
     let progress = fed.progress;
@@ -109,7 +111,8 @@ fn step_byte(
         buffer,
         out,
         fed.written,
-        bookings,
+        slots,
+        rates,
         credits,
         queues,
         copy,
@@ -129,7 +132,8 @@ pub fn step(
     block: &[u8],
     buffer: &mut [u8],
     out: &mut [u8],
-    bookings: &mut [u32],
+    slots: &mut [u32],
+    rates: &mut [u32],
     credits: &mut [u32],
     queues: &mut [u32],
     copy: &mut [u32],
@@ -139,25 +143,26 @@ pub fn step(
     requires buffer { ⌜ kept-bytes ≤ length (now buffer) ⌝ }
     requires room { ⌜ fed .written + slot-room ≤ length (now out) ⌝ }
     ensures taken { λ r. ⌜ r .taken ≡ next-taken (state-of (fed .progress) (now (buffer .entry))
-        (now (bookings .entry)) (now (credits .entry)) (now (queues .entry)) (now (copy .entry)) (now (flight .entry)))
+        (now (slots .entry)) (now (rates .entry)) (now (credits .entry)) (now (queues .entry)) (now (copy .entry)) (now (flight .entry)))
         (fed .taken) ⌝ }
     ensures outcome { λ r. ⌜ StepWritten (next-step (now (block .entry)) (state-of (fed .progress) (now (buffer .entry))
-        (now (bookings .entry)) (now (credits .entry)) (now (queues .entry)) (now (copy .entry)) (now (flight .entry)))
+        (now (slots .entry)) (now (rates .entry)) (now (credits .entry)) (now (queues .entry)) (now (copy .entry)) (now (flight .entry)))
         (fed .taken))
         (state-of (r .progress) (now (buffer .exit))
-        (now (bookings .exit)) (now (credits .exit)) (now (queues .exit)) (now (copy .exit)) (now (flight .exit)))
+        (now (slots .exit)) (now (rates .exit)) (now (credits .exit)) (now (queues .exit)) (now (copy .exit)) (now (flight .exit)))
         (now (out .entry)) (fed .written) (r .written) (now (out .exit)) ⌝ }
 {
     let progress = fed.progress;
     if progress.slots_left > 0 {
-        return step_slot(fed, out, bookings, credits, queues, copy, flight);
+        return step_slot(fed, out, slots, rates, credits, queues, copy, flight);
     }
     step_byte(
         fed,
         block,
         buffer,
         out,
-        bookings,
+        slots,
+        rates,
         credits,
         queues,
         copy,

@@ -56,7 +56,8 @@ fn feed_rest(
     text: &[u8],
     buffer: &mut [u8],
     out: &mut [u8],
-    bookings: &mut [u32],
+    slots: &mut [u32],
+    rates: &mut [u32],
     credits: &mut [u32],
     queues: &mut [u32],
     copy: &mut [u32],
@@ -64,9 +65,10 @@ fn feed_rest(
 ) -> TextResult
     requires taken { ⌜ fed .taken ≤ length (now text) ⌝ }
     ensures outcome { λ r. ⌜ text-state-of r (now (out .exit)) (now (buffer .exit))
-        (now (bookings .exit)) (now (credits .exit)) (now (queues .exit)) (now (copy .exit)) (now (flight .exit))
+        (now (slots .exit)) (now (rates .exit)) (now (credits .exit)) (now (queues .exit)) (now (copy .exit)) (now (flight .exit))
         ≡ next-call (now (text .entry)) (text-state-of fed (now (out .entry)) (now (buffer .entry))
-        (now (bookings .entry)) (now (credits .entry)) (now (queues .entry)) (now (copy .entry)) (now (flight .entry))) ⌝ }
+        (now (slots .entry)) (now (rates .entry)) (now (credits .entry)) (now (queues .entry))
+        (now (copy .entry)) (now (flight .entry))) ⌝ }
 {
     let progress = fed.progress;
     let from = fed.taken;
@@ -75,7 +77,8 @@ fn feed_rest(
         &text[from..],
         buffer,
         out,
-        bookings,
+        slots,
+        rates,
         credits,
         queues,
         copy,
@@ -95,16 +98,17 @@ pub fn feed_text(
     text: &[u8],
     buffer: &mut [u8],
     out: &mut [u8],
-    bookings: &mut [u32],
+    slots: &mut [u32],
+    rates: &mut [u32],
     credits: &mut [u32],
     queues: &mut [u32],
     copy: &mut [u32],
     flight: &mut [u32],
 ) -> TextResult
     ensures outcome { λ r. ⌜ TextFed (now (text .entry)) (text-begun progress (now (out .entry)) (now (buffer .entry))
-        (now (bookings .entry)) (now (credits .entry)) (now (queues .entry)) (now (copy .entry)) (now (flight .entry)))
+        (now (slots .entry)) (now (rates .entry)) (now (credits .entry)) (now (queues .entry)) (now (copy .entry)) (now (flight .entry)))
         (text-state-of r (now (out .exit)) (now (buffer .exit))
-        (now (bookings .exit)) (now (credits .exit)) (now (queues .exit)) (now (copy .exit)) (now (flight .exit)))
+        (now (slots .exit)) (now (rates .exit)) (now (credits .exit)) (now (queues .exit)) (now (copy .exit)) (now (flight .exit)))
         (r .«is_written») ⌝ }
 {
     let mut fed = TextResult {
@@ -118,7 +122,8 @@ pub fn feed_text(
             text,
             buffer,
             out,
-            bookings,
+            slots,
+            rates,
             credits,
             queues,
             copy,
@@ -133,18 +138,19 @@ pub fn feed_end(
     progress: Progress,
     buffer: &mut [u8],
     out: &mut [u8],
-    bookings: &mut [u32],
+    slots: &mut [u32],
+    rates: &mut [u32],
     credits: &mut [u32],
     queues: &mut [u32],
     copy: &mut [u32],
     flight: &mut [u32],
 ) -> TextResult
     ensures outcome { λ r. ⌜ TextFed (ending (state-of progress (now (buffer .entry))
-        (now (bookings .entry)) (now (credits .entry)) (now (queues .entry)) (now (copy .entry)) (now (flight .entry))))
+        (now (slots .entry)) (now (rates .entry)) (now (credits .entry)) (now (queues .entry)) (now (copy .entry)) (now (flight .entry))))
         (text-begun progress (now (out .entry)) (now (buffer .entry))
-        (now (bookings .entry)) (now (credits .entry)) (now (queues .entry)) (now (copy .entry)) (now (flight .entry)))
+        (now (slots .entry)) (now (rates .entry)) (now (credits .entry)) (now (queues .entry)) (now (copy .entry)) (now (flight .entry)))
         (text-state-of r (now (out .exit)) (now (buffer .exit))
-        (now (bookings .exit)) (now (credits .exit)) (now (queues .exit)) (now (copy .exit)) (now (flight .exit)))
+        (now (slots .exit)) (now (rates .exit)) (now (credits .exit)) (now (queues .exit)) (now (copy .exit)) (now (flight .exit)))
         (r .«is_written») ⌝ }
 {
     if progress.count == 0 {
@@ -153,7 +159,8 @@ pub fn feed_end(
             b"",
             buffer,
             out,
-            bookings,
+            slots,
+            rates,
             credits,
             queues,
             copy,
@@ -165,7 +172,8 @@ pub fn feed_end(
         b"\r\n",
         buffer,
         out,
-        bookings,
+        slots,
+        rates,
         credits,
         queues,
         copy,

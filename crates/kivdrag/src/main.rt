@@ -22,7 +22,8 @@ fn read_block(
     block: &mut [u8],
     buffer: &mut [u8],
     out: &mut [u8],
-    bookings: &mut [u32],
+    slots: &mut [u32],
+    rates: &mut [u32],
     credits: &mut [u32],
     queues: &mut [u32],
     copy: &mut [u32],
@@ -42,7 +43,8 @@ fn read_block(
         &block[..count],
         buffer,
         out,
-        bookings,
+        slots,
+        rates,
         credits,
         queues,
         copy,
@@ -62,7 +64,8 @@ fn read_input(
     block: &mut [u8],
     buffer: &mut [u8],
     out: &mut [u8],
-    bookings: &mut [u32],
+    slots: &mut [u32],
+    rates: &mut [u32],
     credits: &mut [u32],
     queues: &mut [u32],
     copy: &mut [u32],
@@ -81,7 +84,8 @@ fn read_input(
             block,
             buffer,
             out,
-            bookings,
+            slots,
+            rates,
             credits,
             queues,
             copy,
@@ -97,20 +101,32 @@ fn run(
     block: &mut [u8],
     buffer: &mut [u8],
     out: &mut [u8],
-    bookings: &mut [u32],
+    slots: &mut [u32],
+    rates: &mut [u32],
     credits: &mut [u32],
     queues: &mut [u32],
     copy: &mut [u32],
     flight: &mut [u32],
 ) {
-    let read = read_input(block, buffer, out, bookings, credits, queues, copy, flight);
+    let read = read_input(
+        block,
+        buffer,
+        out,
+        slots,
+        rates,
+        credits,
+        queues,
+        copy,
+        flight,
+    );
     let progress = read.progress;
     if read.has_ended {
         feed_end(
             progress,
             buffer,
             out,
-            bookings,
+            slots,
+            rates,
             credits,
             queues,
             copy,
@@ -123,7 +139,8 @@ fn main() {
     let mut block = io::large_buffer();
     let mut out = io::large_buffer();
     let mut buffer = [0u8; KEPT_BYTES];
-    let mut bookings = [0u32; PAIR_WORDS];
+    let mut slots = [0u32; PAIR_WORDS];
+    let mut rates = [0u32; PAIR_WORDS];
     let mut credits = [0u32; PAIR_WORDS];
     let mut queues = [0u32; PAIR_WORDS];
     let mut copy = [0u32; PAIR_WORDS];
@@ -135,7 +152,8 @@ fn main() {
         &mut block,
         &mut buffer,
         &mut out,
-        &mut bookings,
+        &mut slots,
+        &mut rates,
         &mut credits,
         &mut queues,
         &mut copy,

@@ -5,13 +5,14 @@ use mathlib.Core.List.{List}
 use Prim.Native.Nat.{ℕ}
 use Rattle.wsgs.specs.declared.TickResult.{TickResult}
 use Rattle.wsgs.specs.Answers.{direct-runs-of, pipelined-runs-of, tick-effect}
+use Rattle.wsgs.specs.Bookings.{Book}
 use Rattle.wsgs.specs.Direct
 use Rattle.wsgs.specs.Ledger.{slot-of-tick}
 use Rattle.wsgs.specs.Pipelined
 use Rattle.wsgs.specs.Program.{SlotOutcome, with-switch, refusal-of, run-slot}
 use Rattle.wsgs.specs.Program
 use Rattle.wsgs.specs.Questions.{effect}
-use Rattle.wsgs.specs.Switch.{Outcome, tick, apply}
+use Rattle.wsgs.specs.Switch.{Outcome, tick, apply, direct-runs, pipelined-runs}
 use Rattle.wsgs.proofs.Calls
 use Rattle.machine.specs.declared.Machine.{Machine}
 use Rattle.machine.specs.declared.SlotResult.{SlotResult}
@@ -31,19 +32,20 @@ slot-is : (M : Program.Machine) {o : Outcome} → o ≡ apply (tick (M .form)) (
 unfolding run-slot
 slot-is M e = ap (slot-from M) e
 
-module _ (m : Machine) (a c q p f : List ℕ) (r : SlotResult) (t : TickResult) (er : r ≡ tick-slot-result m t) where
+module _ (m : Machine) (a : Book) (c q p f : List ℕ) (r : SlotResult) (t : TickResult) (er : r ≡ tick-slot-result m t) where
   abbrev M : Program.Machine
-  M = machine-of m a c q p f
+  M = machine-of m (a .slots) (a .rates) c q p f
 
   pub direct-slot-is : {c′ q′ : List ℕ} → m .pipelined ≡ false
-      → effect t (direct-runs-of a c′ q′) ≡ tick-effect (Direct.tick (m .clock) (direct-runs-of a c q)) → slot-outcome-of r a c′ q′ p f ≡ run-slot M
+      → effect t (direct-runs-of (a .slots) (a .rates) c′ q′) ≡ tick-effect (Direct.tick (m .clock) (direct-runs (M .switch)))
+      → slot-outcome-of r (a .slots) (a .rates) c′ q′ p f ≡ run-slot M
   direct-slot-is {c′} {q′} form e =
-      ap (λ (r : SlotResult). slot-outcome-of r a c′ q′ p f) er
+      ap (λ (r : SlotResult). slot-outcome-of r (a .slots) (a .rates) c′ q′ p f) er
       ∙ slot-is M (Calls.tick-direct (M .switch) _ e ∙ ap (λ b. apply (tick (form-of b)) (M .switch)) (sym form))
 
   pub pipelined-slot-is : {c′ q′ p′ f′ : List ℕ} → m .pipelined ≡ true
-      → effect t (pipelined-runs-of a c′ q′ p′ f′) ≡ tick-effect (Pipelined.tick (m .clock) (pipelined-runs-of a c q p f))
-      → slot-outcome-of r a c′ q′ p′ f′ ≡ run-slot M
+      → effect t (pipelined-runs-of (a .slots) (a .rates) c′ q′ p′ f′) ≡ tick-effect (Pipelined.tick (m .clock) (pipelined-runs (M .switch)))
+      → slot-outcome-of r (a .slots) (a .rates) c′ q′ p′ f′ ≡ run-slot M
   pipelined-slot-is {c′} {q′} {p′} {f′} form e =
-      ap (λ (r : SlotResult). slot-outcome-of r a c′ q′ p′ f′) er
+      ap (λ (r : SlotResult). slot-outcome-of r (a .slots) (a .rates) c′ q′ p′ f′) er
       ∙ slot-is M (Calls.tick-pipelined (M .switch) _ e ∙ ap (λ b. apply (tick (form-of b)) (M .switch)) (sym form))

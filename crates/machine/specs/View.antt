@@ -9,6 +9,7 @@ use Rattle.wsgs.specs.declared.StartResult.{StartResult}
 use Rattle.wsgs.specs.declared.TickResult.{TickResult}
 use Rattle.wsgs.specs.Answers.{matching-of}
 use Rattle.wsgs.specs.Basics.{pick}
+use Rattle.wsgs.specs.Bookings.{book-of}
 use Rattle.wsgs.specs.Ledger.{slot-of-tick}
 use Rattle.wsgs.specs.Switch.{Form, direct, pipelined}
 use Rattle.wsgs.specs.Program.{number-alone, refusal-of, RecordOutcome, SlotOutcome}
@@ -22,34 +23,34 @@ form-of true = pipelined
 form-of false = direct
 
 -- a machine with its runs
-abbrev pub machine-of : Machine → (bookings credits queues copy flight : List ℕ) → Program.Machine
-machine-of m a c q p f =
+abbrev pub machine-of : Machine → (slots rates credits queues copy flight : List ℕ) → Program.Machine
+machine-of m s r c q p f =
     record {
       running = m .running;
       form = form-of (m .pipelined);
-      switch = record { clock = m .clock; bookings = a; credits = c; queues = q; copy = p; flight = f };
+      switch = record { clock = m .clock; book = book-of s r; credits = c; queues = q; copy = p; flight = f };
     }
 
 -- what a record leaves, and what a slot leaves, with the runs
-abbrev pub record-outcome-of : RecordResult → (bookings credits queues copy flight : List ℕ) → RecordOutcome
-record-outcome-of r a c q p f = record { machine = machine-of (r .machine) a c q p f; slots = r .slots; refusal = r .refusal }
+abbrev pub record-outcome-of : RecordResult → (slots rates credits queues copy flight : List ℕ) → RecordOutcome
+record-outcome-of o s r c q p f = record { machine = machine-of (o .machine) s r c q p f; slots = o .«slots_left»; refusal = o .refusal }
 
-abbrev pub slot-outcome-of : SlotResult → (bookings credits queues copy flight : List ℕ) → SlotOutcome
-slot-outcome-of r a c q p f =
+abbrev pub slot-outcome-of : SlotResult → (slots rates credits queues copy flight : List ℕ) → SlotOutcome
+slot-outcome-of o s r c q p f =
     record {
-      machine = machine-of (r .machine) a c q p f;
-      slot = r .slot;
-      matching = matching-of (r .outputs) (r .«first_pass»);
-      refusal = r .refusal;
+      machine = machine-of (o .machine) s r c q p f;
+      slot = o .slot;
+      matching = matching-of (o .outputs) (o .«first_pass»);
+      refusal = o .refusal;
     }
 
 -- a refusal looks at no run
 abbrev pub machine-refusal : Machine → ℕ → ℕ → ℕ → Refusal
-machine-refusal m x y number = refusal-of (machine-of m [] [] [] [] []) x y number
+machine-refusal m x y number = refusal-of (machine-of m [] [] [] [] [] []) x y number
 
 -- what a record that cannot be read leaves
 abbrev pub unread-result : Machine → ℕ → RecordResult
-unread-result m number = record { machine = m; slots = 0; refusal = number-alone number }
+unread-result m number = record { machine = m; «slots_left» = 0; refusal = number-alone number }
 
 -- the machine after a start or pipe
 abbrev pub started-machine : Machine → Bool → StartResult → Machine

@@ -20,6 +20,9 @@ ghost use Rattle.machine.specs.View.{machine-of, record-outcome-of, star
 // The most slots that a tick record asks for.
 const MAX_TICK_SLOTS: u64 = 10_000;
 
+// The rate of a line that a start or pipe record gives: none, since no record books by rate.
+const LINE_RATE: u64 = 0;
+
 // The machine after a start or pipe.
 fn after_start(machine: Machine, pipelined: bool, started: StartResult) -> Machine
     ensures machine { λ r. ⌜ r ≡ started-machine machine pipelined started ⌝ }
@@ -40,20 +43,30 @@ fn obey_start(
     machine: Machine,
     ports: u64,
     frame: u64,
-    bookings: &mut [u32],
+    slots: &mut [u32],
+    rates: &mut [u32],
     credits: &mut [u32],
     queues: &mut [u32],
 ) -> RecordResult
     ensures outcome { λ r. ⌜ ((z : ℕ) (p f : List ℕ)
-        → record-outcome-of r (now (bookings .exit)) (now (credits .exit)) (now (queues .exit)) p f
-        ≡ obey (machine-of machine (now (bookings .entry)) (now (credits .entry)) (now (queues .entry)) p f)
+        → record-outcome-of r (now (slots .exit)) (now (rates .exit)) (now (credits .exit)) (now (queues .exit)) p f
+        ≡ obey (machine-of machine (now (slots .entry)) (now (rates .entry)) (now (credits .entry)) (now (queues .entry)) p f)
         (Request Start ports frame z)) ⌝ }
 {
     let clock = machine.clock;
-    let started = starts::start_direct(ports, frame, clock, bookings, credits, queues);
+    let started = starts::start_direct(
+        ports,
+        frame,
+        LINE_RATE,
+        clock,
+        slots,
+        rates,
+        credits,
+        queues,
+    );
     RecordResult {
         machine: after_start(machine, false, started),
-        slots: 0,
+        slots_left: 0,
         refusal: refusal(machine, ports, frame, started.refusal),
     }
 }
@@ -63,24 +76,27 @@ fn obey_pipe(
     machine: Machine,
     ports: u64,
     frame: u64,
-    bookings: &mut [u32],
+    slots: &mut [u32],
+    rates: &mut [u32],
     credits: &mut [u32],
     queues: &mut [u32],
     copy: &mut [u32],
     flight: &mut [u32],
 ) -> RecordResult
     ensures outcome { λ r. ⌜ ((z : ℕ) → record-outcome-of r
-        (now (bookings .exit)) (now (credits .exit)) (now (queues .exit)) (now (copy .exit)) (now (flight .exit))
+        (now (slots .exit)) (now (rates .exit)) (now (credits .exit)) (now (queues .exit)) (now (copy .exit)) (now (flight .exit))
         ≡ obey (machine-of machine
-        (now (bookings .entry)) (now (credits .entry)) (now (queues .entry)) (now (copy .entry)) (now (flight .entry)))
+        (now (slots .entry)) (now (rates .entry)) (now (credits .entry)) (now (queues .entry)) (now (copy .entry)) (now (flight .entry)))
         (Request Pipe ports frame z)) ⌝ }
 {
     let clock = machine.clock;
     let started = starts::start_pipelined(
         ports,
         frame,
+        LINE_RATE,
         clock,
-        bookings,
+        slots,
+        rates,
         credits,
         queues,
         copy,
@@ -88,7 +104,7 @@ fn obey_pipe(
     );
     RecordResult {
         machine: after_start(machine, true, started),
-        slots: 0,
+        slots_left: 0,
         refusal: refusal(machine, ports, frame, started.refusal),
     }
 }
@@ -98,21 +114,23 @@ fn obey_book(
     machine: Machine,
     input: u64,
     output: u64,
-    slots: u64,
-    bookings: &mut [u32],
+    amount: u64,
+    slots: &mut [u32],
+    rates: &[u32],
 ) -> RecordResult
-    ensures outcome { λ r. ⌜ ((c q p f : List ℕ) → record-outcome-of r (now (bookings .exit)) c q p f
-        ≡ obey (machine-of machine (now (bookings .entry)) c q p f) (Request Book input output slots)) ⌝ }
+    ensures outcome { λ r. ⌜ ((c q p f : List ℕ)
+        → record-outcome-of r (now (slots .exit)) (now (rates .entry)) c q p f
+        ≡ obey (machine-of machine (now (slots .entry)) (now (rates .entry)) c q p f) (Request Book input output amount)) ⌝ }
 {
     if !machine.running {
         return unread(machine, 12);
     }
     let clock = machine.clock;
-    let slots = BookedSlots(slots);
-    let number = book::book(clock, bookings, Input(input), Output(output), slots);
+    let amount = BookedSlots(amount);
+    let number = book::book(clock, slots, rates, Input(input), Output(output), amount);
     RecordResult {
         machine,
-        slots: 0,
+        slots_left: 0,
         refusal: refusal(machine, input, output, number),
     }
 }
@@ -122,21 +140,23 @@ fn obey_release(
     machine: Machine,
     input: u64,
     output: u64,
-    slots: u64,
-    bookings: &mut [u32],
+    amount: u64,
+    slots: &mut [u32],
+    rates: &[u32],
 ) -> RecordResult
-    ensures outcome { λ r. ⌜ ((c q p f : List ℕ) → record-outcome-of r (now (bookings .exit)) c q p f
-        ≡ obey (machine-of machine (now (bookings .entry)) c q p f) (Request Release input output slots)) ⌝ }
+    ensures outcome { λ r. ⌜ ((c q p f : List ℕ)
+        → record-outcome-of r (now (slots .exit)) (now (rates .entry)) c q p f
+        ≡ obey (machine-of machine (now (slots .entry)) (now (rates .entry)) c q p f) (Request Release input output amount)) ⌝ }
 {
     if !machine.running {
         return unread(machine, 12);
     }
     let clock = machine.clock;
-    let slots = BookedSlots(slots);
-    let number = book::release(clock, bookings, Input(input), Output(output), slots);
+    let amount = BookedSlots(amount);
+    let number = book::release(clock, slots, rates, Input(input), Output(output), amount);
     RecordResult {
         machine,
-        slots: 0,
+        slots_left: 0,
         refusal: refusal(machine, input, output, number),
     }
 }
@@ -149,8 +169,8 @@ fn obey_arrive(
     packets: u64,
     queues: &mut [u32],
 ) -> RecordResult
-    ensures outcome { λ r. ⌜ ((a c p f : List ℕ) → record-outcome-of r a c (now (queues .exit)) p f
-        ≡ obey (machine-of machine a c (now (queues .entry)) p f) (Request Arrive input output packets)) ⌝ }
+    ensures outcome { λ r. ⌜ ((s t c p f : List ℕ) → record-outcome-of r s t c (now (queues .exit)) p f
+        ≡ obey (machine-of machine s t c (now (queues .entry)) p f) (Request Arrive input output packets)) ⌝ }
 {
     if !machine.running {
         return unread(machine, 12);
@@ -159,29 +179,29 @@ fn obey_arrive(
     let number = book::arrive(clock, queues, Input(input), Output(output), packets);
     RecordResult {
         machine,
-        slots: 0,
+        slots_left: 0,
         refusal: refusal(machine, input, output, number),
     }
 }
 
 // Asks for slots, which are left to run.
-fn obey_tick(machine: Machine, input: u64, output: u64, slots: u64) -> RecordResult
-    ensures outcome { λ r. ⌜ ((a c q p f : List ℕ) → record-outcome-of r a c q p f
-        ≡ obey (machine-of machine a c q p f) (Request Tick input output slots)) ⌝ }
+fn obey_tick(machine: Machine, input: u64, output: u64, amount: u64) -> RecordResult
+    ensures outcome { λ r. ⌜ ((s t c q p f : List ℕ) → record-outcome-of r s t c q p f
+        ≡ obey (machine-of machine s t c q p f) (Request Tick input output amount)) ⌝ }
 {
     if !machine.running {
         return unread(machine, 12);
     }
-    if is_between(1, MAX_TICK_SLOTS, slots) {
+    if is_between(1, MAX_TICK_SLOTS, amount) {
         return RecordResult {
             machine,
-            slots,
+            slots_left: amount,
             refusal: refusal(machine, input, output, 0),
         };
     }
     RecordResult {
         machine,
-        slots: 0,
+        slots_left: 0,
         refusal: refusal(machine, input, output, 6),
     }
 }
@@ -193,32 +213,34 @@ pub fn obey_request(
     input: u64,
     output: u64,
     amount: u64,
-    bookings: &mut [u32],
+    slots: &mut [u32],
+    rates: &mut [u32],
     credits: &mut [u32],
     queues: &mut [u32],
     copy: &mut [u32],
     flight: &mut [u32],
 ) -> RecordResult
     ensures outcome { λ r. ⌜ record-outcome-of r
-        (now (bookings .exit)) (now (credits .exit)) (now (queues .exit)) (now (copy .exit)) (now (flight .exit))
+        (now (slots .exit)) (now (rates .exit)) (now (credits .exit)) (now (queues .exit)) (now (copy .exit)) (now (flight .exit))
         ≡ obey (machine-of machine
-        (now (bookings .entry)) (now (credits .entry)) (now (queues .entry)) (now (copy .entry)) (now (flight .entry)))
+        (now (slots .entry)) (now (rates .entry)) (now (credits .entry)) (now (queues .entry)) (now (copy .entry)) (now (flight .entry)))
         (Request operation input output amount) ⌝ }
 {
     match operation {
-        Operation::Start => obey_start(machine, input, output, bookings, credits, queues),
+        Operation::Start => obey_start(machine, input, output, slots, rates, credits, queues),
         Operation::Pipe => obey_pipe(
             machine,
             input,
             output,
-            bookings,
+            slots,
+            rates,
             credits,
             queues,
             copy,
             flight,
         ),
-        Operation::Book => obey_book(machine, input, output, amount, bookings),
-        Operation::Release => obey_release(machine, input, output, amount, bookings),
+        Operation::Book => obey_book(machine, input, output, amount, slots, rates),
+        Operation::Release => obey_release(machine, input, output, amount, slots, rates),
         Operation::Arrive => obey_arrive(machine, input, output, amount, queues),
         Operation::Tick => obey_tick(machine, input, output, amount),
     }

@@ -29,7 +29,7 @@ pub struct Machine {
 // What a record leaves: the machine, the slots still to run, and its refusal.
 pub struct RecordResult {
     pub machine: Machine,
-    pub slots: u64,
+    pub slots_left: u64,
     pub refusal: Refusal,
 }
 
@@ -46,16 +46,18 @@ pub struct SlotResult {
 pub fn obey(
     machine: Machine,
     reading: Reading,
-    bookings: &mut [u32],
+    slots: &mut [u32],
+    rates: &mut [u32],
     credits: &mut [u32],
     queues: &mut [u32],
     copy: &mut [u32],
     flight: &mut [u32],
 ) -> RecordResult
     ensures outcome { λ r. ⌜ record-outcome-of r
-        (now (bookings .exit)) (now (credits .exit)) (now (queues .exit)) (now (copy .exit)) (now (flight .exit))
+        (now (slots .exit)) (now (rates .exit)) (now (credits .exit)) (now (queues .exit)) (now (copy .exit)) (now (flight .exit))
         ≡ obey (machine-of machine
-        (now (bookings .entry)) (now (credits .entry)) (now (queues .entry)) (now (copy .entry)) (now (flight .entry))) reading ⌝ }
+        (now (slots .entry)) (now (rates .entry)) (now (credits .entry)) (now (queues .entry)) (now (copy .entry)) (now (flight .entry)))
+        reading ⌝ }
 {
     match reading {
         Reading::Request(operation, input, output, amount) => obey_request(
@@ -64,7 +66,8 @@ pub fn obey(
             input,
             output,
             amount,
-            bookings,
+            slots,
+            rates,
             credits,
             queues,
             copy,
@@ -77,19 +80,21 @@ pub fn obey(
 // One of the slots that are left to run: the tick of the machine's form.
 pub fn run_slot(
     machine: Machine,
-    bookings: &[u32],
+    slots: &[u32],
+    rates: &[u32],
     credits: &mut [u32],
     queues: &mut [u32],
     copy: &mut [u32],
     flight: &mut [u32],
 ) -> SlotResult
     ensures outcome { λ r. ⌜ slot-outcome-of r
-        (now (bookings .entry)) (now (credits .exit)) (now (queues .exit)) (now (copy .exit)) (now (flight .exit))
+        (now (slots .entry)) (now (rates .entry)) (now (credits .exit)) (now (queues .exit)) (now (copy .exit)) (now (flight .exit))
         ≡ run-slot (machine-of machine
-        (now (bookings .entry)) (now (credits .entry)) (now (queues .entry)) (now (copy .entry)) (now (flight .entry))) ⌝ }
+        (now (slots .entry)) (now (rates .entry)) (now (credits .entry)) (now (queues .entry))
+        (now (copy .entry)) (now (flight .entry))) ⌝ }
 {
     if machine.pipelined {
-        return pipelined_slot(machine, bookings, credits, queues, copy, flight);
+        return pipelined_slot(machine, slots, rates, credits, queues, copy, flight);
     }
-    direct_slot(machine, bookings, credits, queues)
+    direct_slot(machine, slots, rates, credits, queues)
 }

@@ -43,7 +43,7 @@ pub fn unread(machine: Machine, number: u32) -> RecordResult
 {
     RecordResult {
         machine,
-        slots: 0,
+        slots_left: 0,
         refusal: number_alone(number),
     }
 }

@@ -48,23 +48,26 @@ fn slot_result(machine: Machine, tick: TickResult) -> SlotResult
 // A slot of the direct form.
 pub fn direct_slot(
     machine: Machine,
-    bookings: &[u32],
+    slots: &[u32],
+    rates: &[u32],
     credits: &mut [u32],
     queues: &mut [u32],
 ) -> SlotResult
     requires form { ⌜ machine .pipelined ≡ false ⌝ }
-    ensures outcome { λ r. ⌜ ((p f : List ℕ) → slot-outcome-of r (now (bookings .entry)) (now (credits .exit)) (now (queues .exit)) p f
-        ≡ run-slot (machine-of machine (now (bookings .entry)) (now (credits .entry)) (now (queues .entry)) p f)) ⌝ }
+    ensures outcome { λ r. ⌜ ((p f : List ℕ)
+        → slot-outcome-of r (now (slots .entry)) (now (rates .entry)) (now (credits .exit)) (now (queues .exit)) p f
+        ≡ run-slot (machine-of machine (now (slots .entry)) (now (rates .entry)) (now (credits .entry)) (now (queues .entry)) p f)) ⌝ }
 {
     let clock = machine.clock;
-    let tick = clock::step_direct(clock, bookings, credits, queues);
+    let tick = clock::step_direct(clock, slots, rates, credits, queues);
     slot_result(machine, tick)
 }
 
 // A slot of the pipelined form.
 pub fn pipelined_slot(
     machine: Machine,
-    bookings: &[u32],
+    slots: &[u32],
+    rates: &[u32],
     credits: &mut [u32],
     queues: &mut [u32],
     copy: &mut [u32],
@@ -72,11 +75,12 @@ pub fn pipelined_slot(
 ) -> SlotResult
     requires form { ⌜ machine .pipelined ≡ true ⌝ }
     ensures outcome { λ r. ⌜ slot-outcome-of r
-        (now (bookings .entry)) (now (credits .exit)) (now (queues .exit)) (now (copy .exit)) (now (flight .exit))
+        (now (slots .entry)) (now (rates .entry)) (now (credits .exit)) (now (queues .exit)) (now (copy .exit)) (now (flight .exit))
         ≡ run-slot (machine-of machine
-        (now (bookings .entry)) (now (credits .entry)) (now (queues .entry)) (now (copy .entry)) (now (flight .entry))) ⌝ }
+        (now (slots .entry)) (now (rates .entry)) (now (credits .entry)) (now (queues .entry))
+        (now (copy .entry)) (now (flight .entry))) ⌝ }
 {
     let clock = machine.clock;
-    let tick = clock::step_pipelined(clock, bookings, credits, queues, copy, flight);
+    let tick = clock::step_pipelined(clock, slots, rates, credits, queues, copy, flight);
     slot_result(machine, tick)
 }

@@ -33,7 +33,8 @@ fn feed_pieces(
     input: &[u8],
     buffer: &mut [u8],
     out: &mut [u8],
-    bookings: &mut [u32],
+    slots: &mut [u32],
+    rates: &mut [u32],
     credits: &mut [u32],
     queues: &mut [u32],
     copy: &mut [u32],
@@ -53,7 +54,8 @@ fn feed_pieces(
             &input[from..end],
             buffer,
             out,
-            bookings,
+            slots,
+            rates,
             credits,
             queues,
             copy,
@@ -69,20 +71,32 @@ fn run(
     input: &[u8],
     buffer: &mut [u8],
     out: &mut [u8],
-    bookings: &mut [u32],
+    slots: &mut [u32],
+    rates: &mut [u32],
     credits: &mut [u32],
     queues: &mut [u32],
     copy: &mut [u32],
     flight: &mut [u32],
 ) {
-    let fed = feed_pieces(input, buffer, out, bookings, credits, queues, copy, flight);
+    let fed = feed_pieces(
+        input,
+        buffer,
+        out,
+        slots,
+        rates,
+        credits,
+        queues,
+        copy,
+        flight,
+    );
     let progress = fed.progress;
     if fed.is_written {
         feed_end(
             progress,
             buffer,
             out,
-            bookings,
+            slots,
+            rates,
             credits,
             queues,
             copy,
@@ -95,7 +109,8 @@ fn run(
 fn run_input(input: &[u8]) {
     let mut out = [0u8; OUTPUT_BYTES];
     let mut buffer = [0u8; KEPT_BYTES];
-    let mut bookings = [0u32; PAIR_WORDS];
+    let mut slots = [0u32; PAIR_WORDS];
+    let mut rates = [0u32; PAIR_WORDS];
     let mut credits = [0u32; PAIR_WORDS];
     let mut queues = [0u32; PAIR_WORDS];
     let mut copy = [0u32; PAIR_WORDS];
@@ -107,7 +122,8 @@ fn run_input(input: &[u8]) {
         input,
         &mut buffer,
         &mut out,
-        &mut bookings,
+        &mut slots,
+        &mut rates,
         &mut credits,
         &mut queues,
         &mut copy,

@@ -31,8 +31,11 @@ same-length-4 c = search needs
 same-length-5 : tie.Need-same-length-5
 same-length-5 c = search needs
 
+same-length-6 : tie.Need-same-length-6
+same-length-6 c = search needs
+
 returns : tie.Need-returns
-returns c = let call = c .before .before .before .before .before .before .before .before .before .before in rw (call .before .before .before .before .before .before .before .reading .given .1) (call .obey-request .ensures)
+returns c = let call = c .before .before .before .before .before .before .before .before .before .before .before .before in rw (call .before .before .before .before .before .before .before .before .reading .given .1) (call .obey-request .ensures)
 
 returns-2 : tie.Need-returns-2
 returns-2 c = rw (c .before .before .reading2 .given .1) (unread-obeyed _ _ _ _ _ _ (c .unread .ensures))
@@ -50,5 +53,6 @@ obey-spec =
     same-length-3
     same-length-4
     same-length-5
+    same-length-6
     returns
     returns-2)

@@ -2,6 +2,7 @@
 use borrow.Author.Tests.{not-true, not-false}
 use Rattle.machine.proofs.RecordLaws.{idle-arrive, arrive-obeyed}
 use borrow.Author.Needs.{needs}
+use Rattle.wsgs.specs.Bookings.{book-of}
 use Rattle.machine.proofs.calls.obey_arrive.Statement.{statement}
 use Rattle.machine.proofs.calls.obey_arrive.Tie as tie
 
@@ -11,7 +12,7 @@ unread-requires c κs = search needs
 returns : tie.Need-returns
 returns c =
     let a = c .before .before .before .before .args in
-    λ k b p f. idle-arrive (a .machine) k b (a .queues .now) p f _ (c .unread .ensures) (not-true (a .machine .running) (c .before .if1 .taken)) _ _ _
+    λ s t k p f. idle-arrive (a .machine) (book-of s t) k (a .queues .now) p f _ (c .unread .ensures) (not-true (a .machine .running) (c .before .if1 .taken)) _ _ _
 
 arrive-requires : tie.Need-arrive-requires
 arrive-requires c κs = search needs
@@ -27,8 +28,8 @@ returns-2 c =
     let call = c .before .before .before in
     let way = call .before .before .before in
     let a = way .before .before .before .args in
-    λ k b p f.
-    arrive-obeyed (a .machine) k b (a .queues .now) p f _ _ _ (not-false (a .machine .running) (way .if1 .left)) _ _ (c .refusal .ensures) _ (call .arrive .ensures)
+    λ s t k p f.
+    arrive-obeyed (a .machine) (book-of s t) k (a .queues .now) p f _ _ _ (not-false (a .machine .running) (way .if1 .left)) _ _ (c .refusal .ensures) _ (call .arrive .ensures)
 
 pub obey-arrive-spec : {M : Type 1} → statement M
 obey-arrive-spec =

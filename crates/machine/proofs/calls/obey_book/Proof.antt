@@ -2,6 +2,7 @@
 use borrow.Author.Tests.{not-true, not-false}
 use Rattle.machine.proofs.RecordLaws.{idle-book, book-obeyed}
 use borrow.Author.Needs.{needs}
+use Rattle.wsgs.specs.Bookings.{book-of}
 use Rattle.machine.proofs.calls.obey_book.Statement.{statement}
 use Rattle.machine.proofs.calls.obey_book.Tie as tie
 
@@ -10,8 +11,8 @@ unread-requires c κs = search needs
 
 returns : tie.Need-returns
 returns c =
-    let a = c .before .before .before .before .args in
-    λ k q p f. idle-book (a .machine) (a .bookings .now) k q p f _ (c .unread .ensures) (not-true (a .machine .running) (c .before .if1 .taken)) _ _ _
+    let a = c .before .before .before .before .before .args in
+    λ k q p f. idle-book (a .machine) (book-of (a .slots .now) (a .rates .now)) k q p f _ (c .unread .ensures) (not-true (a .machine .running) (c .before .if1 .taken)) _ _ _
 
 book-requires : tie.Need-book-requires
 book-requires c κs = search needs
@@ -26,9 +27,9 @@ returns-2 : tie.Need-returns-2
 returns-2 c =
     let call = c .before .before .before in
     let way = call .before .before .before in
-    let a = way .before .before .before .args in
+    let a = way .before .before .before .before .args in
     λ k q p f.
-    book-obeyed (a .machine) (a .bookings .now) k q p f _ _ _ (not-false (a .machine .running) (way .if1 .left)) _ _ (c .refusal .ensures) _ (call .book .ensures)
+    book-obeyed (a .machine) (book-of (a .slots .now) (a .rates .now)) k q p f _ _ _ (not-false (a .machine .running) (way .if1 .left)) _ _ (c .refusal .ensures) _ (call .book .ensures)
 
 pub obey-book-spec : {M : Type 1} → statement M
 obey-book-spec =

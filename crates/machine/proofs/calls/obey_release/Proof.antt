@@ -2,6 +2,7 @@
 use borrow.Author.Tests.{not-true, not-false}
 use Rattle.machine.proofs.RecordLaws.{idle-release, release-obeyed}
 use borrow.Author.Needs.{needs}
+use Rattle.wsgs.specs.Bookings.{book-of}
 use Rattle.machine.proofs.calls.obey_release.Statement.{statement}
 use Rattle.machine.proofs.calls.obey_release.Tie as tie
 
@@ -10,8 +11,8 @@ unread-requires c κs = search needs
 
 returns : tie.Need-returns
 returns c =
-    let a = c .before .before .before .before .args in
-    λ k q p f. idle-release (a .machine) (a .bookings .now) k q p f _ (c .unread .ensures) (not-true (a .machine .running) (c .before .if1 .taken)) _ _ _
+    let a = c .before .before .before .before .before .args in
+    λ k q p f. idle-release (a .machine) (book-of (a .slots .now) (a .rates .now)) k q p f _ (c .unread .ensures) (not-true (a .machine .running) (c .before .if1 .taken)) _ _ _
 
 release-requires : tie.Need-release-requires
 release-requires c κs = search needs
@@ -26,9 +27,9 @@ returns-2 : tie.Need-returns-2
 returns-2 c =
     let call = c .before .before .before in
     let way = call .before .before .before in
-    let a = way .before .before .before .args in
+    let a = way .before .before .before .before .args in
     λ k q p f.
-    release-obeyed (a .machine) (a .bookings .now) k q p f _ _ _ (not-false (a .machine .running) (way .if1 .left)) _ _ (c .refusal .ensures) _ (call .release .ensures)
+    release-obeyed (a .machine) (book-of (a .slots .now) (a .rates .now)) k q p f _ _ _ (not-false (a .machine .running) (way .if1 .left)) _ _ (c .refusal .ensures) _ (call .release .ensures)
 
 pub obey-release-spec : {M : Type 1} → statement M
 obey-release-spec =

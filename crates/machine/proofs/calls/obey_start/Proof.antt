@@ -1,6 +1,7 @@
 -- A direct start, by what the call gives back.
 use Rattle.machine.proofs.RecordLaws.{start-obeyed}
 use borrow.Author.Needs.{needs}
+use Rattle.wsgs.specs.Bookings.{book-of}
 use Rattle.machine.proofs.calls.obey_start.Statement.{statement}
 use Rattle.machine.proofs.calls.obey_start.Tie as tie
 
@@ -22,12 +23,15 @@ same-length-2 c = search needs
 same-length-3 : tie.Need-same-length-3
 same-length-3 c = search needs
 
+same-length-4 : tie.Need-same-length-4
+same-length-4 c = search needs
+
 returns : tie.Need-returns
 returns c =
-    let call = c .before .before .before .before .before .before .before .before in
-    let a = call .before .before .before .before .before .before .before .before .args in
+    let call = c .before .before .before .before .before .before .before .before .before .before in
+    let a = call .before .before .before .before .before .before .before .before .before .before .args in
     λ z p f.
-    start-obeyed (a .machine) (a .bookings .now) (a .credits .now) (a .queues .now) p f _ _ z (call .start-direct .result) _ _ (c .refusal .ensures) _ _ _ (c .before .after-start .ensures)
+    start-obeyed (a .machine) (book-of (a .slots .now) (a .rates .now)) (a .credits .now) (a .queues .now) p f _ _ z (call .start-direct .result) _ _ (c .refusal .ensures) _ _ _ (c .before .after-start .ensures)
     (call .start-direct .ensures)
 
 pub obey-start-spec : {M : Type 1} → statement M
@@ -40,4 +44,5 @@ obey-start-spec =
     same-length
     same-length-2
     same-length-3
+    same-length-4
     returns)

@@ -1,6 +1,7 @@
 -- A slot of the direct form.
 use Rattle.machine.proofs.SlotLaws.{direct-slot-is}
 use borrow.Author.Needs.{needs}
+use Rattle.wsgs.specs.Bookings.{book-of}
 use Rattle.machine.proofs.slots.direct_slot.Statement.{statement}
 use Rattle.machine.proofs.slots.direct_slot.Tie as tie
 
@@ -19,10 +20,10 @@ same-length-2 c = search needs
 returns : tie.Need-returns
 returns c =
     let call = c .before .before .before .before .before in
-    let start = call .before .before .before .before .before .before .before in
+    let start = call .before .before .before .before .before .before .before .before in
     let a = start .args in
     λ p f.
-    direct-slot-is (a .machine) (a .bookings .now) (a .credits .now) (a .queues .now) p f _ _ (c .slot-result .ensures) (start .pre) (call .step-direct .ensures)
+    direct-slot-is (a .machine) (book-of (a .slots .now) (a .rates .now)) (a .credits .now) (a .queues .now) p f _ _ (c .slot-result .ensures) (start .pre) (call .step-direct .ensures)
 
 pub direct-slot-spec : {M : Type 1} → statement M
 direct-slot-spec =

@@ -1,6 +1,7 @@
 -- A slot of the pipelined form.
 use Rattle.machine.proofs.SlotLaws.{pipelined-slot-is}
 use borrow.Author.Needs.{needs}
+use Rattle.wsgs.specs.Bookings.{book-of}
 use Rattle.machine.proofs.slots.pipelined_slot.Statement.{statement}
 use Rattle.machine.proofs.slots.pipelined_slot.Tie as tie
 
@@ -25,9 +26,9 @@ same-length-4 c = search needs
 returns : tie.Need-returns
 returns c =
     let call = c .before .before .before .before .before .before .before .before .before in
-    let start = call .before .before .before .before .before .before .before .before .before .before .before in
+    let start = call .before .before .before .before .before .before .before .before .before .before .before .before in
     let a = start .args in
-    pipelined-slot-is (a .machine) (a .bookings .now) (a .credits .now) (a .queues .now) (a .copy .now) (a .flight .now) _ _ (c .slot-result .ensures) (start .pre) (call .step-pipelined .ensures)
+    pipelined-slot-is (a .machine) (book-of (a .slots .now) (a .rates .now)) (a .credits .now) (a .queues .now) (a .copy .now) (a .flight .now) _ _ (c .slot-result .ensures) (start .pre) (call .step-pipelined .ensures)
 
 pub pipelined-slot-spec : {M : Type 1} → statement M
 pipelined-slot-spec =
