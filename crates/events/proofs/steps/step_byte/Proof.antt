@@ -10,7 +10,7 @@ shared-slice-read-byte c = search needs
 take-byte-requires : tie.Need-take-byte-requires
 take-byte-requires c κs = search needs
 
-add-t34 : tie.Need-add-t33
+add-t34 : tie.Need-add-t34
 add-t34 c =
     let start = c .before .before .before .before .before .before .before .before .before .before .before .before .before .before .before .before .before .before .before .before .before .before .before .before .before .before .before .before .before .before .before .before .before .before .before .before .before in
     omega (arith, start .pre .0, start .good .1 .0 .0)
