@@ -186,7 +186,8 @@ pub extern "C" fn kivdrag_tick_direct(
         ≡ c-tick-of (Direct.tick (clock-in-words (now (clock .entry)))
         (direct-runs-of (now (slots .entry)) (now (rates .entry)) (now (credits .entry)) (now (queues .entry)))) ⌝ }
 {
-    let result = clock::step_direct(clock_in(clock), slots, rates, credits, queues);
+    let before = clock_in(clock);
+    let result = clock::step_direct(before, slots, rates, credits, queues);
     put_result(result, clock, outputs, first_pass)
 }
 
@@ -210,14 +211,7 @@ pub extern "C" fn kivdrag_tick_pipelined(
         (pipelined-runs-of (now (slots .entry)) (now (rates .entry)) (now (credits .entry)) (now (queues .entry))
         (now (copy .entry)) (now (flight .entry)))) ⌝ }
 {
-    let result = clock::step_pipelined(
-        clock_in(clock),
-        slots,
-        rates,
-        credits,
-        queues,
-        copy,
-        flight,
-    );
+    let before = clock_in(clock);
+    let result = clock::step_pipelined(before, slots, rates, credits, queues, copy, flight);
     put_result(result, clock, outputs, first_pass)
 }

@@ -7,11 +7,11 @@ use Rattle.pipelined_test.proofs.cases.Statement.{statement}
 use Rattle.pipelined_test.proofs.cases.Tie as tie
 
 abbrev Inv-loop : tie.InvT-loop
-Inv-loop name ports frame from to bookings credits₀ queues₀ copy₀ flight₀ slot₀ credits queues copy flight slot =
+Inv-loop name clock to slots rates credits₀ queues₀ copy₀ flight₀ slot₀ credits queues copy flight slot =
     (length credits ≡ length credits₀) × (length queues ≡ length queues₀) × (length copy ≡ length copy₀) × (length flight ≡ length flight₀)
 
 abbrev μ-loop : tie.MeasureT-loop
-μ-loop name ports frame from to bookings credits₀ queues₀ copy₀ flight₀ slot₀ credits queues copy flight slot =
+μ-loop name clock to slots rates credits₀ queues₀ copy₀ flight₀ slot₀ credits queues copy flight slot =
     to - slot
 
 loop-holds : tie.Need-loop-holds Inv-loop μ-loop
