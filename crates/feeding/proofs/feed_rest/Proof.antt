@@ -19,16 +19,16 @@ part-feed-end c = search needs
 feed-requires : tie.Need-feed-requires
 feed-requires c κs = search needs
 
-add-t15 : tie.Need-add-t15
-add-t15 c =
-    let call = c .before .before .before .before .before .before .before .before .before .before .before .before .before .before .before .before in
-    let start = call .before .before .before .before .before .before .before .before .before .before .before .before .before .before .before .before .before .before in
+add-t16 : tie.Need-add-t16
+add-t16 c =
+    let call = c .before .before .before .before .before .before .before .before .before .before .before .before .before .before .before .before .before .before in
+    let start = call .before .before .before .before .before .before .before .before .before .before .before .before .before .before .before .before .before .before .before .before in
     let a = start .args in
-    let t = text-state-of (a .fed) (a .out .now) (a .buffer .now) (a .bookings .now) (a .credits .now) (a .queues .now) (a .copy .now) (a .flight .now) in
+    let t = text-state-of (a .fed) (a .out .now) (a .buffer .now) (a .slots .now) (a .rates .now) (a .credits .now) (a .queues .now) (a .copy .now) (a .flight .now) in
     omega (
       arith,
       next-within (a .text .now) t (start .pre),
-      ap (λ (t : TextState). t .taken) (call-is (a .text .now) t (start .pre) (call .feed .result) _ _ _ _ _ _ _ (call .feed .ensures)),
+      ap (λ (t : TextState). t .taken) (call-is (a .text .now) t (start .pre) (call .feed .result) _ _ _ _ _ _ _ _ (call .feed .ensures)),
       start .good .1 .0 .0,
     )
 
@@ -56,12 +56,15 @@ same-length-6 c = search needs
 same-length-7 : tie.Need-same-length-7
 same-length-7 c = search needs
 
+same-length-8 : tie.Need-same-length-8
+same-length-8 c = search needs
+
 returns : tie.Need-returns
 returns c =
-    let call = c .before .before .before .before .before .before .before .before .before .before .before .before .before .before .before .before .before .before in
-    let start = call .before .before .before .before .before .before .before .before .before .before .before .before .before .before .before .before .before .before in
+    let call = c .before .before .before .before .before .before .before .before .before .before .before .before .before .before .before .before .before .before .before .before in
+    let start = call .before .before .before .before .before .before .before .before .before .before .before .before .before .before .before .before .before .before .before .before in
     let a = start .args in
-    call-is (a .text .now) (text-state-of (a .fed) (a .out .now) (a .buffer .now) (a .bookings .now) (a .credits .now) (a .queues .now) (a .copy .now) (a .flight .now)) (start .pre) (call .feed .result) _ _ _ _ _ _ _ (call .feed .ensures)
+    call-is (a .text .now) (text-state-of (a .fed) (a .out .now) (a .buffer .now) (a .slots .now) (a .rates .now) (a .credits .now) (a .queues .now) (a .copy .now) (a .flight .now)) (start .pre) (call .feed .result) _ _ _ _ _ _ _ _ (call .feed .ensures)
 
 pub feed-rest-spec : {M : Type 1} → statement M
 feed-rest-spec =
@@ -71,7 +74,7 @@ feed-rest-spec =
     part-feed-start
     part-feed-end
     feed-requires
-    add-t15
+    add-t16
     write-front-requires
     same-length
     same-length-2
@@ -80,4 +83,5 @@ feed-rest-spec =
     same-length-5
     same-length-6
     same-length-7
+    same-length-8
     returns)

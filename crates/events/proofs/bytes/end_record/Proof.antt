@@ -5,6 +5,7 @@ use borrow.Author.Tests.{not-true, not-false}
 use lib.Seq.{length-take-le}
 use Rattle.events.proofs.StepLaws.{heading-written, record-written}
 use borrow.Author.Needs.{needs}
+use Rattle.wsgs.specs.Bookings.{book-of}
 use Rattle.events.proofs.bytes.end_record.Statement.{statement}
 use Rattle.events.proofs.bytes.end_record.Tie as tie
 
@@ -13,8 +14,8 @@ ended-requires c κs = search needs
 
 returns : tie.Need-returns
 returns c =
-    let a = c .before .before .before .before .before .before .before .before .before .before .before .args in
-    heading-written (a .progress) (a .buffer .now) (a .bookings .now) (a .credits .now) (a .queues .now) (a .copy .now) (a .flight .now) _ _
+    let a = c .before .before .before .before .before .before .before .before .before .before .before .before .args in
+    heading-written (a .progress) (a .buffer .now) (book-of (a .slots .now) (a .rates .now)) (a .credits .now) (a .queues .now) (a .copy .now) (a .flight .now) _ _
     (not-true (a .progress .«past_heading») (c .before .if1 .taken)) (c .ended .ensures .0) (c .ended .ensures .1) (omega arith)
 
 kept-length-requires : tie.Need-kept-length-requires
@@ -31,7 +32,7 @@ obey-requires c κs = search needs
 
 put-refusal-requires : tie.Need-put-refusal-requires
 put-refusal-requires c κs =
-    let start = c .before .before .before .before .before .before .before .before .before .before .before .before .before .before .before .before .before .before .before .before .before .before .before .before .before .before .before .before .before .before .before in
+    let start = c .before .before .before .before .before .before .before .before .before .before .before .before .before .before .before .before .before .before .before .before .before .before .before .before .before .before .before .before .before .before .before .before .before .before .before in
     omega (arith, start .pre .1)
 
 ended-requires-2 : tie.Need-ended-requires-2
@@ -55,14 +56,17 @@ same-length-5 c = search needs
 same-length-6 : tie.Need-same-length-6
 same-length-6 c = search needs
 
+same-length-7 : tie.Need-same-length-7
+same-length-7 c = search needs
+
 returns-2 : tie.Need-returns-2
 returns-2 c =
     let put = c .before .before .before .before in
-    let call = put .before .before .before .before .before .before .before .before .before .before .before .before .before in
-    let read = call .before .before .before .before .before .before in
+    let call = put .before .before .before .before .before .before .before .before .before .before .before .before .before .before .before in
+    let read = call .before .before .before .before .before .before .before in
     let length = read .before .before in
-    let a = length .before .before .before .before .before .before .before .before .before .before .before .args in
-    record-written (a .progress) (a .buffer .now) (a .bookings .now) (a .credits .now) (a .queues .now) (a .copy .now) (a .flight .now) (call .obey .result) _ _ _ _ _ _ _ _ _ _
+    let a = length .before .before .before .before .before .before .before .before .before .before .before .before .args in
+    record-written (a .progress) (a .buffer .now) (book-of (a .slots .now) (a .rates .now)) (a .credits .now) (a .queues .now) (a .copy .now) (a .flight .now) (call .obey .result) _ _ _ _ _ _ _ _ _ _
     (not-false (a .progress .«past_heading») (length .before .if1 .left)) (length .kept-length .ensures) (read .read-record .ensures) (call .obey .ensures)
     (put .put-refusal .ensures) (c .ended2 .ensures .0) (c .ended2 .ensures .1)
 
@@ -84,4 +88,5 @@ end-record-spec =
     same-length-4
     same-length-5
     same-length-6
+    same-length-7
     returns-2)

@@ -3,6 +3,7 @@ use mathlib.Core.Path.{refl}
 use native.Mathlib.Omega.{arith}
 use Rattle.events.proofs.StepLaws.{slot-written}
 use borrow.Author.Needs.{needs}
+use Rattle.wsgs.specs.Bookings.{book-of}
 use Rattle.events.proofs.steps.step_slot.Statement.{statement}
 use Rattle.events.proofs.steps.step_slot.Tie as tie
 
@@ -13,7 +14,7 @@ put-slot-requires : tie.Need-put-slot-requires
 put-slot-requires c κs = search needs
 
 slots-after-requires : tie.Need-slots-after-requires
-slots-after-requires c κs = let start = c .before .before .before .before .before .before .before .before .before .before .before .before .before .before .before .before .before .before .before .before .before .before .before .before .before .before .before in omega (arith, start .pre .0)
+slots-after-requires c κs = let start = c .before .before .before .before .before .before .before .before .before .before .before .before .before .before .before .before .before .before .before .before .before .before .before .before .before .before .before .before in omega (arith, start .pre .0)
 
 moved-requires : tie.Need-moved-requires
 moved-requires c κs = search needs
@@ -37,10 +38,10 @@ returns : tie.Need-returns
 returns c =
     let put = c .before .before .before .before .before .before in
     let call = put .before .before .before .before .before .before .before .before .before .before in
-    let a = call .before .before .before .before .before .before .before .before .before .before .before .before .before .args in (
+    let a = call .before .before .before .before .before .before .before .before .before .before .before .before .before .before .args in (
       refl,
       λ b.
-          slot-written (a .fed .progress) b (a .bookings .now) (a .credits .now) (a .queues .now) (a .copy .now) (a .flight .now) (call .run-slot .result) _ _ _ _ _ _ _ (call .run-slot .ensures) (put .put-slot .ensures)
+          slot-written (a .fed .progress) b (book-of (a .slots .now) (a .rates .now)) (a .credits .now) (a .queues .now) (a .copy .now) (a .flight .now) (call .run-slot .result) _ _ _ _ _ _ _ (call .run-slot .ensures) (put .put-slot .ensures)
           (c .before .slots-after .ensures) (c .moved .ensures),
     )
 

@@ -78,17 +78,23 @@ returns-2 c = let call = c .before .before .before .before .before .before .befo
 same-length-11 : tie.Need-same-length-11
 same-length-11 c = search needs
 
+same-length-12 : tie.Need-same-length-12
+same-length-12 c = search needs
+
 returns-3 : tie.Need-returns-3
 returns-3 c = let call = c .before .before in rw (call .before .before .before .enum-told3 .given .1) (call .obey-book .ensures _ _ _ _)
 
-same-length-12 : tie.Need-same-length-12
-same-length-12 c = search needs
+same-length-13 : tie.Need-same-length-13
+same-length-13 c = search needs
+
+same-length-14 : tie.Need-same-length-14
+same-length-14 c = search needs
 
 returns-4 : tie.Need-returns-4
 returns-4 c = let call = c .before .before in rw (call .before .before .before .enum-told4 .given .1) (call .obey-release .ensures _ _ _ _)
 
-same-length-13 : tie.Need-same-length-13
-same-length-13 c = search needs
+same-length-15 : tie.Need-same-length-15
+same-length-15 c = search needs
 
 returns-5 : tie.Need-returns-5
 returns-5 c = let call = c .before .before in rw (call .before .before .enum-told5 .given .1) (call .obey-arrive .ensures _ _ _ _ _)
@@ -125,9 +131,11 @@ obey-request-spec =
     same-length-10
     returns-2
     same-length-11
-    returns-3
     same-length-12
-    returns-4
+    returns-3
     same-length-13
+    same-length-14
+    returns-4
+    same-length-15
     returns-5
     returns-6)
