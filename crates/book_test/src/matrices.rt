@@ -11,6 +11,7 @@ use book::book_rate;
 use book::release;
 use book::release_rate;
 use wsgs::BookedSlots;
+use wsgs::Clock;
 use wsgs::Input;
 use wsgs::Output;
 
@@ -23,21 +24,31 @@ fn show_last(name: &[u8], refusal: u32, words: &[u32]) {
     text(b"\n");
 }
 
-fn last_on(slots: &mut [u32], rates: &mut [u32], queues: &mut [u32]) {
-    let clock = clock(32, 10_000, 10_000);
+fn book_last(clock: Clock, slots: &mut [u32], rates: &[u32]) {
     let i = Input(32);
     let j = Output(32);
     let booked = book(clock, slots, rates, i, j, BookedSlots(5_000));
     show_last(b"last pair, book 5000 on ", booked, slots);
     let released = release(clock, slots, rates, i, j, BookedSlots(1));
     show_last(b"last pair, release 1 on ", released, slots);
+}
+
+fn rate_last(clock: Clock, slots: &[u32], rates: &mut [u32]) {
+    let i = Input(32);
+    let j = Output(32);
     let rated = book_rate(clock, slots, rates, i, j, 1);
     show_last(b"last pair, book rate 1 of 10000 on ", rated, rates);
     let over = book_rate(clock, slots, rates, i, j, 1);
     show_last(b"last pair, book rate 1 of 10000 on ", over, rates);
     let unrated = release_rate(clock, slots, rates, i, j, 1);
     show_last(b"last pair, release rate 1 of 10000 on ", unrated, rates);
-    let arrived = arrive(clock, queues, i, j, 65_535);
+}
+
+fn last_on(slots: &mut [u32], rates: &mut [u32], queues: &mut [u32]) {
+    let clock = clock(32, 10_000, 10_000);
+    book_last(clock, slots, rates);
+    rate_last(clock, slots, rates);
+    let arrived = arrive(clock, queues, Input(32), Output(32), 65_535);
     show_last(b"last pair, arrive 65535 on ", arrived, queues);
 }
 

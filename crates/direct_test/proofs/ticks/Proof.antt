@@ -16,6 +16,9 @@ abbrev μ-loop : tie.MeasureT-loop
 loop-holds : tie.Need-loop-holds Inv-loop μ-loop
 loop-holds c = search needs
 
+at-requires : tie.Need-at-requires Inv-loop μ-loop
+at-requires c κs = search needs
+
 case-requires : tie.Need-case-requires Inv-loop μ-loop
 case-requires c κs = search needs
 
@@ -44,6 +47,7 @@ ticks-spec =
     Inv-loop
     μ-loop
     loop-holds
+    at-requires
     case-requires
     add-slot
     loop-less

@@ -17,6 +17,9 @@ abbrev μ-loop : tie.MeasureT-loop
 loop-holds : tie.Need-loop-holds Inv-loop μ-loop
 loop-holds c = (refl, refl, refl, refl)
 
+at-requires : tie.Need-at-requires Inv-loop μ-loop
+at-requires c κs = search needs
+
 case-requires : tie.Need-case-requires Inv-loop μ-loop
 case-requires c κs = search needs
 
@@ -29,8 +32,8 @@ loop-less c = search needs
 loop-again : tie.Need-loop-again Inv-loop μ-loop
 loop-again c =
     let k = c .before .before .before .before .before .before .before .before in
-    let l = k .before .before .before .before .before .before .loop .inv in
-    let kept = k .case .kept .1 .1 .1 .1 .1 in
+    let l = k .before .before .before .before .before .before .before .loop .inv in
+    let kept = k .case .kept .1 .1 .1 .1 in
     (kept .0 ∙ l .0, kept .1 .0 ∙ l .1, kept .1 .1 .0 ∙ l .2, kept .1 .1 .1 .0 ∙ l .3)
 
 same-length : tie.Need-same-length Inv-loop μ-loop
@@ -55,6 +58,7 @@ cases-spec =
     Inv-loop
     μ-loop
     loop-holds
+    at-requires
     case-requires
     add-slot
     loop-less
