@@ -14,7 +14,7 @@ use borrow.Author.Tests.{eq-eqb, ne-eqb, le-leb, lt-leb, lt-ltb, le-ltb, ltb-fal
 use Rattle.wsgs.specs.Basics.{Port, some-of}
 use Rattle.wsgs.specs.Words.{copied}
 use Rattle.wsgs.specs.Bookings.{rate-slots, booking, booking-words}
-use Rattle.wsgs.proofs.Laws.Bookings.{rate-slots-none, booking-mono, booking-words-length, booking-at}
+use Rattle.wsgs.proofs.Laws.Bookings.{rate-slots-none, booking-words-length, booking-at}
 use Rattle.words.specs.Runs.{copy-words}
 use Rattle.words.proofs.Laws.{copy-more, copy-fits, copy-short}
 use Rattle.bookings.specs.Rises.{rise-of, has-rate}
@@ -57,9 +57,6 @@ module _ (f b s r more : ℕ) where
   pub rise-is : f ≤ 10000 → rise-of f b s r more ≡ booking f b s (r + more) - booking f b s r
   unfolding rise-of
   rise-is h = rw (le-leb f 10000 h)
-
-  pub rises : booking f b s r ≤ booking f b s (r + more)
-  rises = booking-mono f b s s r (r + more) (omega arith) (omega arith)
 
 -- A WORD IS 0 where the union of words has no bit
 or-none : (a b : ℕ) → ltb 0 (bitOr a b) ≡ (ltb 0 b || ltb 0 a)
