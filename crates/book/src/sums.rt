@@ -23,12 +23,8 @@ fn booked(clock: Clock, slots: &[u32], rates: &[u32], input: Input, output: Outp
 {
     let ports = clock.ports as u64;
     let held = slots_of(word_of(ports, slots, input, output));
-    booking(
-        clock.frame,
-        clock.line,
-        held,
-        word_of(ports, rates, input, output),
-    )
+    let rate = word_of(ports, rates, input, output);
+    booking(clock.frame, clock.line, held, rate)
 }
 
 // The bookings of an input, summed in 64 bits: none of 32 can make them wrap.

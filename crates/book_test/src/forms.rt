@@ -3,15 +3,22 @@
 use crate::show::clock;
 use crate::show::clock_of;
 use crate::show::number;
+use crate::show::refused;
 use crate::show::text;
 use crate::show::word;
 use starts::start_direct;
 use starts::start_pipelined;
 use wsgs::StartResult;
 
-// Prints what a start answers.
-fn show_start(started: StartResult) {
-    number(b": refusal ", started.refusal as u64);
+// What a start is given: the number of ports, the length of a frame and the rate of a line.
+struct Sizes(u64, u64, u64);
+
+// Prints what a start was given, and what it answers.
+fn show_start(name: &[u8], sizes: Sizes, started: StartResult) {
+    number(name, sizes.0);
+    number(b" ", sizes.1);
+    number(b" ", sizes.2);
+    refused(started.refusal);
     clock_of(started.clock);
 }
 
@@ -25,105 +32,124 @@ fn show_run(name: &[u8], run: &[u32], last: usize, beyond: usize) {
 }
 
 // Prints the runs that both forms have.
-fn show_direct_runs(bookings: &[u32], credits: &[u32], queues: &[u32]) {
-    show_run(b" bookings ", bookings, 1023, 1024);
+fn show_direct_runs(slots: &[u32], rates: &[u32], credits: &[u32], queues: &[u32]) {
+    show_run(b" slots ", slots, 1023, 1024);
+    show_run(b" rates ", rates, 1023, 1024);
     show_run(b" credits ", credits, 1023, 1024);
     show_run(b" queues ", queues, 1023, 1024);
 }
 
 fn direct_on(
-    ports: u64,
-    frame: u64,
-    bookings: &mut [u32],
+    sizes: Sizes,
+    slots: &mut [u32],
+    rates: &mut [u32],
     credits: &mut [u32],
     queues: &mut [u32],
 ) {
-    let started = start_direct(ports, frame, clock(5, 6), bookings, credits, queues);
-    number(b"direct ", ports);
-    number(b" ", frame);
-    show_start(started);
-    show_direct_runs(bookings, credits, queues);
+    let started = start_direct(
+        sizes.0,
+        sizes.1,
+        sizes.2,
+        clock(5, 6, 8),
+        slots,
+        rates,
+        credits,
+        queues,
+    );
+    show_start(b"direct ", sizes, started);
+    show_direct_runs(slots, rates, credits, queues);
     text(b"\n");
 }
 
-fn direct_exact(ports: u64, frame: u64) {
-    let mut bookings = [7u32; 1024];
+fn direct_exact(sizes: Sizes) {
+    let mut slots = [7u32; 1024];
+    let mut rates = [7u32; 1024];
     let mut credits = [7u32; 1024];
     let mut queues = [7u32; 1024];
-    direct_on(ports, frame, &mut bookings, &mut credits, &mut queues);
+    direct_on(sizes, &mut slots, &mut rates, &mut credits, &mut queues);
 }
 
-fn direct_longer(ports: u64, frame: u64) {
-    let mut bookings = [7u32; 1025];
+fn direct_longer(sizes: Sizes) {
+    let mut slots = [7u32; 1025];
+    let mut rates = [7u32; 1025];
     let mut credits = [7u32; 1025];
     let mut queues = [7u32; 1025];
-    direct_on(ports, frame, &mut bookings, &mut credits, &mut queues);
+    direct_on(sizes, &mut slots, &mut rates, &mut credits, &mut queues);
 }
 
-// One of the three is a word too short.
-fn direct_shorter(ports: u64, frame: u64) {
-    let mut first = [7u32; 1024];
-    let mut second = [7u32; 1024];
+// One of the four is a word too short.
+fn direct_shorter(sizes: Sizes) {
+    let mut one = [7u32; 1024];
+    let mut two = [7u32; 1024];
+    let mut three = [7u32; 1024];
     let mut short = [7u32; 1023];
-    direct_on(ports, frame, &mut short, &mut first, &mut second);
-    direct_on(ports, frame, &mut first, &mut short, &mut second);
-    direct_on(ports, frame, &mut first, &mut second, &mut short);
+    direct_on(sizes, &mut short, &mut one, &mut two, &mut three);
+    direct_on(sizes, &mut one, &mut short, &mut two, &mut three);
+    direct_on(sizes, &mut one, &mut two, &mut short, &mut three);
+    direct_on(sizes, &mut one, &mut two, &mut three, &mut short);
 }
 
-// Sizes at and past their ends, then runs too short, and both.
+// Sizes at and past their ends, then runs too short, and both; then line rates at and past their end, alone and with the others.
 pub fn direct() {
-    direct_exact(32, 10_000);
-    direct_longer(32, 10_000);
-    direct_exact(1, 1);
-    direct_exact(0, 10_000);
-    direct_exact(33, 10_000);
-    direct_exact(18_446_744_073_709_551_615, 10_000);
-    direct_exact(32, 0);
-    direct_exact(32, 10_001);
-    direct_exact(32, 18_446_744_073_709_551_615);
-    direct_exact(33, 10_001);
-    direct_shorter(32, 10_000);
-    direct_shorter(33, 10_001);
+    direct_exact(Sizes(32, 10_000, 0));
+    direct_longer(Sizes(32, 10_000, 1_000));
+    direct_exact(Sizes(1, 1, 1));
+    direct_exact(Sizes(0, 10_000, 0));
+    direct_exact(Sizes(33, 10_000, 0));
+    direct_exact(Sizes(18_446_744_073_709_551_615, 10_000, 0));
+    direct_exact(Sizes(32, 0, 0));
+    direct_exact(Sizes(32, 10_001, 0));
+    direct_exact(Sizes(32, 18_446_744_073_709_551_615, 0));
+    direct_exact(Sizes(33, 10_001, 0));
+    direct_shorter(Sizes(32, 10_000, 0));
+    direct_shorter(Sizes(33, 10_001, 0));
+    direct_exact(Sizes(32, 10_000, 100_000_000));
+    direct_exact(Sizes(32, 10_000, 100_000_001));
+    direct_exact(Sizes(32, 10_000, 18_446_744_073_709_551_615));
+    direct_exact(Sizes(33, 10_000, 100_000_001));
+    direct_exact(Sizes(32, 10_001, 100_000_001));
+    direct_shorter(Sizes(32, 10_000, 100_000_001));
 }
 
 fn pipelined_on(
-    ports: u64,
-    frame: u64,
-    bookings: &mut [u32],
+    sizes: Sizes,
+    slots: &mut [u32],
+    rates: &mut [u32],
     credits: &mut [u32],
     queues: &mut [u32],
     copy: &mut [u32],
     flight: &mut [u32],
 ) {
     let started = start_pipelined(
-        ports,
-        frame,
-        clock(5, 6),
-        bookings,
+        sizes.0,
+        sizes.1,
+        sizes.2,
+        clock(5, 6, 8),
+        slots,
+        rates,
         credits,
         queues,
         copy,
         flight,
     );
-    number(b"pipelined ", ports);
-    number(b" ", frame);
-    show_start(started);
-    show_direct_runs(bookings, credits, queues);
+    show_start(b"pipelined ", sizes, started);
+    show_direct_runs(slots, rates, credits, queues);
     show_run(b" copy ", copy, 1023, 1024);
     show_run(b" flight ", flight, 2047, 2048);
     text(b"\n");
 }
 
-fn pipelined_exact(ports: u64, frame: u64) {
-    let mut bookings = [7u32; 1024];
+fn pipelined_exact(sizes: Sizes) {
+    let mut slots = [7u32; 1024];
+    let mut rates = [7u32; 1024];
     let mut credits = [7u32; 1024];
     let mut queues = [7u32; 1024];
     let mut copy = [7u32; 1024];
     let mut flight = [7u32; 2048];
     pipelined_on(
-        ports,
-        frame,
-        &mut bookings,
+        sizes,
+        &mut slots,
+        &mut rates,
         &mut credits,
         &mut queues,
         &mut copy,
@@ -131,16 +157,17 @@ fn pipelined_exact(ports: u64, frame: u64) {
     );
 }
 
-fn pipelined_longer(ports: u64, frame: u64) {
-    let mut bookings = [7u32; 1025];
+fn pipelined_longer(sizes: Sizes) {
+    let mut slots = [7u32; 1025];
+    let mut rates = [7u32; 1025];
     let mut credits = [7u32; 1025];
     let mut queues = [7u32; 1025];
     let mut copy = [7u32; 1025];
     let mut flight = [7u32; 2049];
     pipelined_on(
-        ports,
-        frame,
-        &mut bookings,
+        sizes,
+        &mut slots,
+        &mut rates,
         &mut credits,
         &mut queues,
         &mut copy,
@@ -148,53 +175,77 @@ fn pipelined_longer(ports: u64, frame: u64) {
     );
 }
 
-// The bookings, then the copy, then the flight are a word too short.
-fn pipelined_shorter(ports: u64, frame: u64) {
-    let mut first = [7u32; 1024];
-    let mut second = [7u32; 1024];
-    let mut third = [7u32; 1024];
-    let mut copy = [7u32; 1024];
+// The slots, then the rates, then the copy are a word too short.
+fn pipelined_shorter(sizes: Sizes) {
+    let mut one = [7u32; 1024];
+    let mut two = [7u32; 1024];
+    let mut three = [7u32; 1024];
+    let mut four = [7u32; 1024];
     let mut flight = [7u32; 2048];
     let mut short = [7u32; 1023];
-    let mut short_flight = [7u32; 2047];
     pipelined_on(
-        ports,
-        frame,
+        sizes,
         &mut short,
-        &mut second,
-        &mut third,
-        &mut copy,
+        &mut one,
+        &mut two,
+        &mut three,
+        &mut four,
         &mut flight,
     );
     pipelined_on(
-        ports,
-        frame,
-        &mut first,
-        &mut second,
-        &mut third,
+        sizes,
+        &mut one,
         &mut short,
+        &mut two,
+        &mut three,
+        &mut four,
         &mut flight,
     );
     pipelined_on(
-        ports,
-        frame,
-        &mut first,
-        &mut second,
-        &mut third,
-        &mut copy,
-        &mut short_flight,
+        sizes,
+        &mut one,
+        &mut two,
+        &mut three,
+        &mut four,
+        &mut short,
+        &mut flight,
     );
 }
 
-// Sizes at and past their ends, then runs too short, and both.
+// The rows in flight are.
+fn flight_shorter(sizes: Sizes) {
+    let mut one = [7u32; 1024];
+    let mut two = [7u32; 1024];
+    let mut three = [7u32; 1024];
+    let mut four = [7u32; 1024];
+    let mut five = [7u32; 1024];
+    let mut flight = [7u32; 2047];
+    pipelined_on(
+        sizes,
+        &mut one,
+        &mut two,
+        &mut three,
+        &mut four,
+        &mut five,
+        &mut flight,
+    );
+}
+
+// Sizes at and past their ends, then runs too short, and both; then line rates at and past their end, alone and with the others.
 pub fn pipelined() {
-    pipelined_exact(32, 10_000);
-    pipelined_longer(32, 10_000);
-    pipelined_exact(32, 32);
-    pipelined_exact(32, 31);
-    pipelined_exact(33, 10_000);
-    pipelined_exact(32, 10_001);
-    pipelined_exact(33, 1);
-    pipelined_shorter(32, 10_000);
-    pipelined_shorter(32, 31);
+    pipelined_exact(Sizes(32, 10_000, 0));
+    pipelined_longer(Sizes(32, 10_000, 1_000));
+    pipelined_exact(Sizes(32, 32, 0));
+    pipelined_exact(Sizes(32, 31, 0));
+    pipelined_exact(Sizes(33, 10_000, 0));
+    pipelined_exact(Sizes(32, 10_001, 0));
+    pipelined_exact(Sizes(33, 1, 0));
+    pipelined_shorter(Sizes(32, 10_000, 0));
+    flight_shorter(Sizes(32, 10_000, 0));
+    pipelined_shorter(Sizes(32, 31, 0));
+    flight_shorter(Sizes(32, 31, 0));
+    pipelined_exact(Sizes(32, 10_000, 100_000_000));
+    pipelined_exact(Sizes(32, 10_000, 100_000_001));
+    pipelined_exact(Sizes(32, 31, 100_000_001));
+    flight_shorter(Sizes(32, 10_000, 100_000_001));
 }

@@ -2,11 +2,12 @@
 use wsgs::Clock;
 
 // A clock that has run nine slots.
-pub fn clock(ports: u32, frame: u32) -> Clock {
+pub fn clock(ports: u32, frame: u32, line: u32) -> Clock {
     Clock {
         ports,
         frame,
         slot: 9,
+        line,
     }
 }
 
@@ -38,16 +39,20 @@ pub fn clock_of(clock: Clock) {
     number(b" clock ", clock.ports as u64);
     number(b" ", clock.frame as u64);
     number(b" ", clock.slot as u64);
+    number(b" ", clock.line as u64);
 }
 
-// Prints a refusal and the first five words of a run: those of two ports, and one beyond.
-pub fn outcome(refusal: u32, run: &[u32]) {
+// Prints a refusal.
+pub fn refused(refusal: u32) {
     number(b": refusal ", wide(refusal));
-    text(b" words");
+}
+
+// Prints the name and the first five words of a run: those of two ports, and one beyond.
+pub fn five_words(name: &[u8], run: &[u32]) {
+    text(name);
     word(run, 0);
     word(run, 1);
     word(run, 2);
     word(run, 3);
     word(run, 4);
-    text(b"\n");
 }

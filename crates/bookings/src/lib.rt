@@ -2,13 +2,16 @@
 mod amounts;
 
 ghost use mathlib.Core.Path.{_≡_};
-ghost use Prim.Native.Nat.{_^_, _≤_, _<_};
-ghost use lib.ListN.{length};
+ghost use Prim.Native.Nat.{_-_, _^_, _≤_, _<_};
+ghost use lib.Dec.{ltb};
+ghost use lib.ListN.{length, getD};
+ghost use Rattle.wsgs.specs.Basics.{some-of};
 ghost use Rattle.wsgs.specs.Words.{copied};
 ghost use Rattle.wsgs.specs.Bookings.{booking, booking-words};
 ghost use Rattle.words.specs.Runs.{copy-words};
-ghost use Rattle.bookings.specs.Rises.{rise-of};
+ghost use Rattle.bookings.specs.Rises.{rise-of, has-rate};
 use amounts::booked;
+use words::copy_words;
 use wsgs::BookedSlots;
 use wsgs::MAX_FRAME;
 
@@ -41,8 +44,49 @@ pub fn rise(frame: u32, line: u32, slots: BookedSlots, rate: u32, more: u32) -> 
     BookedSlots(raised.0 - present.0)
 }
 
+// Whether one of the first count rates is above 0, or the run has fewer. Without a rate the bookings are the slots.
+pub fn has_rate(rates: &[u32], count: usize) -> bool
+    ensures result { λ r. ⌜ r ≡ has-rate count (now (rates .entry)) ⌝ }
+{
+    if count > rates.len() {
+        return true;
+    }
+    union_of(rates, count) > 0
+}
+
+// The bits that any of the first count words has.
+fn union_of(words: &[u32], count: usize) -> u32
+    requires words_long { ⌜ count ≤ length (now words) ⌝ }
+    ensures union { λ r. ⌜ ltb 0 r ≡ some-of (λ k. ltb 0 (getD (now (words .entry)) (k - 1) 0)) count ⌝ }
+{
+    let mut union = 0;
+    for at in 0..count {
+        union |= words[at];
+    }
+    union
+}
+
 // The first count words of a run become the bookings at these places; where a run has fewer, all stay as they are.
 pub fn copy_bookings(
+    frame: u32,
+    line: u32,
+    slots: &[u32],
+    rates: &[u32],
+    to: &mut [u32],
+    count: usize,
+)
+    ensures to_exit { λ _. ⌜ now (to .exit)
+        ≡ copy-words count (booking-words frame line (now (slots .entry)) (now (rates .entry))) (now (to .entry)) ⌝ }
+{
+    if has_rate(rates, count) {
+        copy_worked_out(frame, line, slots, rates, to, count);
+    } else {
+        copy_words(slots, to, count);
+    }
+}
+
+// That, where there is a rate or a run has fewer words.
+fn copy_worked_out(
     frame: u32,
     line: u32,
     slots: &[u32],

@@ -11,15 +11,17 @@ use prog.Routine.{Routine}
 use prog.Wp.{Heap}
 use ghost.Atoms.{Atoms}
 use contract.Monad.{Fun, fact-mono}
+use Rattle.wsgs.specs.Bookings.{book-of}
 use Rattle.wsgs.specs.Questions.{effect}
 use Rattle.wsgs.specs.Answers.{direct-runs-of, pipelined-runs-of, start-outcome, tick-outcome, result-of, by-value}
-use Rattle.wsgs.specs.Switch.{direct, pipelined, start, book, book-rate, release, arrive, tick, apply, of-direct, of-pipelined, of-book, of-queues}
+use Rattle.wsgs.specs.Switch.{direct, pipelined, start, book, book-rate, release, release-rate, arrive, tick, apply, of-direct, of-pipelined, of-book, of-queues}
 use Rattle.wsgs.proofs.Calls
 use Rattle.starts.proofs.start_direct as starts-direct
 use Rattle.starts.proofs.start_pipelined as starts-pipelined
 use Rattle.book.proofs.book as book-book
 use Rattle.book.proofs.book_rate as book-rate-book
 use Rattle.book.proofs.release as book-release
+use Rattle.book.proofs.release_rate as book-release-rate
 use Rattle.book.proofs.arrive as book-arrive
 use Rattle.direct.proofs.tick as direct-tick
 use Rattle.pipelined.proofs.tick as pipelined-tick
@@ -30,69 +32,74 @@ use Rattle.clock.proofs.step_pipelined as clock-step-pipelined
 use Rattle.calls.specs.Says.{Says, switch-of}
 
 module _ {M : Type 1} (𝓤 : URA M) (H : Heap 𝓤) (A : Atoms 𝓤) (mem : Memory → SProp 𝓤) (run : Routine → Fun 𝓤) where
-  -- `starts::start_direct`, `starts::start_pipelined`: ports, frame, clock, and the runs
+  -- `starts::start_direct`, `starts::start_pipelined`: ports, frame, line, clock, and the runs
   pub start-direct : Says 𝓤 starts-direct.ended (starts-direct.clauses 𝓤 H A mem run) (λ κs a r e. (copy flight : List ℕ)
-      → let s = switch-of (a .1 .1 .0) (a .1 .1 .1 .0 .now) (a .1 .1 .1 .1 .0 .now) (a .1 .1 .1 .1 .1 .0 .now) copy flight in
-      of-direct s (start-outcome (effect r (direct-runs-of (e .1 .1 .1 .0 .now) (e .1 .1 .1 .1 .0 .now) (e .1 .1 .1 .1 .1 .0 .now)))) ≡ apply (start direct (a .0) (a .1 .0)) s)
-  start-direct κs a g r e = fact-mono 𝓤 _ _ (λ h copy flight. Calls.start-direct _ _ _ _ h)
+      → let s = switch-of (a .1 .1 .1 .0) (a .1 .1 .1 .1 .0 .now) (a .1 .1 .1 .1 .1 .0 .now) (a .1 .1 .1 .1 .1 .1 .0 .now) (a .1 .1 .1 .1 .1 .1 .1 .0 .now) copy flight in
+      of-direct s (start-outcome (effect r (direct-runs-of (e .1 .1 .1 .1 .0 .now) (e .1 .1 .1 .1 .1 .0 .now) (e .1 .1 .1 .1 .1 .1 .0 .now) (e .1 .1 .1 .1 .1 .1 .1 .0 .now)))) ≡ apply (start direct (a .0) (a .1 .0) (a .1 .1 .0)) s)
+  start-direct κs a g r e = fact-mono 𝓤 _ _ (λ h copy flight. Calls.start-direct _ _ _ _ _ h)
 
   pub start-pipelined : Says 𝓤 starts-pipelined.ended (starts-pipelined.clauses 𝓤 H A mem run) (λ κs a r e.
-      let s = switch-of (a .1 .1 .0) (a .1 .1 .1 .0 .now) (a .1 .1 .1 .1 .0 .now) (a .1 .1 .1 .1 .1 .0 .now) (a .1 .1 .1 .1 .1 .1 .0 .now) (a .1 .1 .1 .1 .1 .1 .1 .0 .now) in
-      of-pipelined (start-outcome (effect r (pipelined-runs-of (e .1 .1 .1 .0 .now) (e .1 .1 .1 .1 .0 .now) (e .1 .1 .1 .1 .1 .0 .now) (e .1 .1 .1 .1 .1 .1 .0 .now) (e .1 .1 .1 .1 .1 .1 .1 .0 .now)))) ≡ apply (start pipelined (a .0) (a .1 .0)) s)
-  start-pipelined κs a g r e = fact-mono 𝓤 _ _ (λ h. Calls.start-pipelined _ _ _ _ h)
+      let s = switch-of (a .1 .1 .1 .0) (a .1 .1 .1 .1 .0 .now) (a .1 .1 .1 .1 .1 .0 .now) (a .1 .1 .1 .1 .1 .1 .0 .now) (a .1 .1 .1 .1 .1 .1 .1 .0 .now) (a .1 .1 .1 .1 .1 .1 .1 .1 .0 .now) (a .1 .1 .1 .1 .1 .1 .1 .1 .1 .0 .now) in
+      of-pipelined (start-outcome (effect r (pipelined-runs-of (e .1 .1 .1 .1 .0 .now) (e .1 .1 .1 .1 .1 .0 .now) (e .1 .1 .1 .1 .1 .1 .0 .now) (e .1 .1 .1 .1 .1 .1 .1 .0 .now) (e .1 .1 .1 .1 .1 .1 .1 .1 .0 .now) (e .1 .1 .1 .1 .1 .1 .1 .1 .1 .0 .now)))) ≡ apply (start pipelined (a .0) (a .1 .0) (a .1 .1 .0)) s)
+  start-pipelined κs a g r e = fact-mono 𝓤 _ _ (λ h. Calls.start-pipelined _ _ _ _ _ h)
 
-  -- `book::book`, `book::book_rate`, `book::release`: clock, bookings, input, output, and the amount
+  -- `book::book`, `book::book_rate`, `book::release`, `book::release_rate`: clock, slots, rates, input, output, and the amount or rate
   pub books : Says 𝓤 book-book.ended (book-book.clauses 𝓤 H A mem run) (λ κs a r e. (credits queues copy flight : List ℕ)
-      → let s = switch-of (a .0) (a .1 .0 .now) credits queues copy flight in
-      of-book s (effect r (e .1 .0 .now)) ≡ apply (book (a .1 .1 .0 .0) (a .1 .1 .1 .0 .0) (a .1 .1 .1 .1 .0 .0)) s)
+      → let s = switch-of (a .0) (a .1 .0 .now) (a .1 .1 .0 .now) credits queues copy flight in
+      of-book s (effect r (book-of (e .1 .0 .now) (a .1 .1 .0 .now))) ≡ apply (book (a .1 .1 .1 .0 .0) (a .1 .1 .1 .1 .0 .0) (a .1 .1 .1 .1 .1 .0 .0)) s)
   books κs a g r e = fact-mono 𝓤 _ _ (λ h credits queues copy flight. Calls.books _ _ _ _ _ h)
 
   pub books-rate : Says 𝓤 book-rate-book.ended (book-rate-book.clauses 𝓤 H A mem run) (λ κs a r e. (credits queues copy flight : List ℕ)
-      → let s = switch-of (a .0) (a .1 .0 .now) credits queues copy flight in
-      of-book s (effect r (e .1 .0 .now)) ≡ apply (book-rate (a .1 .1 .0 .0) (a .1 .1 .1 .0 .0) (a .1 .1 .1 .1 .0) (a .1 .1 .1 .1 .1 .0)) s)
-  books-rate κs a g r e = fact-mono 𝓤 _ _ (λ h credits queues copy flight. Calls.books-rate _ _ _ _ _ _ h)
+      → let s = switch-of (a .0) (a .1 .0 .now) (a .1 .1 .0 .now) credits queues copy flight in
+      of-book s (effect r (book-of (a .1 .0 .now) (e .1 .1 .0 .now))) ≡ apply (book-rate (a .1 .1 .1 .0 .0) (a .1 .1 .1 .1 .0 .0) (a .1 .1 .1 .1 .1 .0)) s)
+  books-rate κs a g r e = fact-mono 𝓤 _ _ (λ h credits queues copy flight. Calls.books-rate _ _ _ _ _ h)
 
   pub releases : Says 𝓤 book-release.ended (book-release.clauses 𝓤 H A mem run) (λ κs a r e. (credits queues copy flight : List ℕ)
-      → let s = switch-of (a .0) (a .1 .0 .now) credits queues copy flight in
-      of-book s (effect r (e .1 .0 .now)) ≡ apply (release (a .1 .1 .0 .0) (a .1 .1 .1 .0 .0) (a .1 .1 .1 .1 .0 .0)) s)
+      → let s = switch-of (a .0) (a .1 .0 .now) (a .1 .1 .0 .now) credits queues copy flight in
+      of-book s (effect r (book-of (e .1 .0 .now) (a .1 .1 .0 .now))) ≡ apply (release (a .1 .1 .1 .0 .0) (a .1 .1 .1 .1 .0 .0) (a .1 .1 .1 .1 .1 .0 .0)) s)
   releases κs a g r e = fact-mono 𝓤 _ _ (λ h credits queues copy flight. Calls.releases _ _ _ _ _ h)
 
-  -- `book::arrive`: clock, queues, input, output, packets
-  pub arrives : Says 𝓤 book-arrive.ended (book-arrive.clauses 𝓤 H A mem run) (λ κs a r e. (bookings credits copy flight : List ℕ)
-      → let s = switch-of (a .0) bookings credits (a .1 .0 .now) copy flight in
-      of-queues s (effect r (e .1 .0 .now)) ≡ apply (arrive (a .1 .1 .0 .0) (a .1 .1 .1 .0 .0) (a .1 .1 .1 .1 .0)) s)
-  arrives κs a g r e = fact-mono 𝓤 _ _ (λ h bookings credits copy flight. Calls.arrives _ _ _ _ _ h)
+  pub releases-rate : Says 𝓤 book-release-rate.ended (book-release-rate.clauses 𝓤 H A mem run) (λ κs a r e. (credits queues copy flight : List ℕ)
+      → let s = switch-of (a .0) (a .1 .0 .now) (a .1 .1 .0 .now) credits queues copy flight in
+      of-book s (effect r (book-of (a .1 .0 .now) (e .1 .1 .0 .now))) ≡ apply (release-rate (a .1 .1 .1 .0 .0) (a .1 .1 .1 .1 .0 .0) (a .1 .1 .1 .1 .1 .0)) s)
+  releases-rate κs a g r e = fact-mono 𝓤 _ _ (λ h credits queues copy flight. Calls.releases-rate _ _ _ _ _ h)
 
-  -- `direct::tick`: clock, bookings, credits, queues
+  -- `book::arrive`: clock, queues, input, output, packets
+  pub arrives : Says 𝓤 book-arrive.ended (book-arrive.clauses 𝓤 H A mem run) (λ κs a r e. (slots rates credits copy flight : List ℕ)
+      → let s = switch-of (a .0) slots rates credits (a .1 .0 .now) copy flight in
+      of-queues s (effect r (e .1 .0 .now)) ≡ apply (arrive (a .1 .1 .0 .0) (a .1 .1 .1 .0 .0) (a .1 .1 .1 .1 .0)) s)
+  arrives κs a g r e = fact-mono 𝓤 _ _ (λ h slots rates credits copy flight. Calls.arrives _ _ _ _ _ h)
+
+  -- `direct::tick`: clock, slots, rates, credits, queues
   pub tick-direct : Says 𝓤 direct-tick.ended (direct-tick.clauses 𝓤 H A mem run) (λ κs a r e. (copy flight : List ℕ)
-      → let s = switch-of (a .0) (a .1 .0 .now) (a .1 .1 .0 .now) (a .1 .1 .1 .0 .now) copy flight in
-      of-direct s (tick-outcome (effect r (direct-runs-of (a .1 .0 .now) (e .1 .1 .0 .now) (e .1 .1 .1 .0 .now)))) ≡ apply (tick direct) s)
+      → let s = switch-of (a .0) (a .1 .0 .now) (a .1 .1 .0 .now) (a .1 .1 .1 .0 .now) (a .1 .1 .1 .1 .0 .now) copy flight in
+      of-direct s (tick-outcome (effect r (direct-runs-of (a .1 .0 .now) (a .1 .1 .0 .now) (e .1 .1 .1 .0 .now) (e .1 .1 .1 .1 .0 .now)))) ≡ apply (tick direct) s)
   tick-direct κs a g r e = fact-mono 𝓤 _ _ (λ h copy flight. Calls.tick-direct _ _ h)
 
-  -- `pipelined::tick`: clock, bookings, credits, queues, frame copy, rows in flight
+  -- `pipelined::tick`: clock, slots, rates, credits, queues, frame copy, rows in flight
   pub tick-pipelined : Says 𝓤 pipelined-tick.ended (pipelined-tick.clauses 𝓤 H A mem run) (λ κs a r e.
-      let s = switch-of (a .0) (a .1 .0 .now) (a .1 .1 .0 .now) (a .1 .1 .1 .0 .now) (a .1 .1 .1 .1 .0 .now) (a .1 .1 .1 .1 .1 .0 .now) in
-      of-pipelined (tick-outcome (effect r (pipelined-runs-of (a .1 .0 .now) (e .1 .1 .0 .now) (e .1 .1 .1 .0 .now) (e .1 .1 .1 .1 .0 .now) (e .1 .1 .1 .1 .1 .0 .now)))) ≡ apply (tick pipelined) s)
+      let s = switch-of (a .0) (a .1 .0 .now) (a .1 .1 .0 .now) (a .1 .1 .1 .0 .now) (a .1 .1 .1 .1 .0 .now) (a .1 .1 .1 .1 .1 .0 .now) (a .1 .1 .1 .1 .1 .1 .0 .now) in
+      of-pipelined (tick-outcome (effect r (pipelined-runs-of (a .1 .0 .now) (a .1 .1 .0 .now) (e .1 .1 .1 .0 .now) (e .1 .1 .1 .1 .0 .now) (e .1 .1 .1 .1 .1 .0 .now) (e .1 .1 .1 .1 .1 .1 .0 .now)))) ≡ apply (tick pipelined) s)
   tick-pipelined κs a g r e = fact-mono 𝓤 _ _ (λ h. Calls.tick-pipelined _ _ h)
 
   -- `clock::step_direct`, `clock::step_pipelined`: the same
   pub step-direct : Says 𝓤 clock-step-direct.ended (clock-step-direct.clauses 𝓤 H A mem run) (λ κs a r e. (copy flight : List ℕ)
-      → let s = switch-of (a .0) (a .1 .0 .now) (a .1 .1 .0 .now) (a .1 .1 .1 .0 .now) copy flight in
-      of-direct s (tick-outcome (effect r (direct-runs-of (a .1 .0 .now) (e .1 .1 .0 .now) (e .1 .1 .1 .0 .now)))) ≡ apply (tick direct) s)
+      → let s = switch-of (a .0) (a .1 .0 .now) (a .1 .1 .0 .now) (a .1 .1 .1 .0 .now) (a .1 .1 .1 .1 .0 .now) copy flight in
+      of-direct s (tick-outcome (effect r (direct-runs-of (a .1 .0 .now) (a .1 .1 .0 .now) (e .1 .1 .1 .0 .now) (e .1 .1 .1 .1 .0 .now)))) ≡ apply (tick direct) s)
   step-direct κs a g r e = fact-mono 𝓤 _ _ (λ h copy flight. Calls.tick-direct _ _ h)
 
   pub step-pipelined : Says 𝓤 clock-step-pipelined.ended (clock-step-pipelined.clauses 𝓤 H A mem run) (λ κs a r e.
-      let s = switch-of (a .0) (a .1 .0 .now) (a .1 .1 .0 .now) (a .1 .1 .1 .0 .now) (a .1 .1 .1 .1 .0 .now) (a .1 .1 .1 .1 .1 .0 .now) in
-      of-pipelined (tick-outcome (effect r (pipelined-runs-of (a .1 .0 .now) (e .1 .1 .0 .now) (e .1 .1 .1 .0 .now) (e .1 .1 .1 .1 .0 .now) (e .1 .1 .1 .1 .1 .0 .now)))) ≡ apply (tick pipelined) s)
+      let s = switch-of (a .0) (a .1 .0 .now) (a .1 .1 .0 .now) (a .1 .1 .1 .0 .now) (a .1 .1 .1 .1 .0 .now) (a .1 .1 .1 .1 .1 .0 .now) (a .1 .1 .1 .1 .1 .1 .0 .now) in
+      of-pipelined (tick-outcome (effect r (pipelined-runs-of (a .1 .0 .now) (a .1 .1 .0 .now) (e .1 .1 .1 .0 .now) (e .1 .1 .1 .1 .0 .now) (e .1 .1 .1 .1 .1 .0 .now) (e .1 .1 .1 .1 .1 .1 .0 .now)))) ≡ apply (tick pipelined) s)
   step-pipelined κs a g r e = fact-mono 𝓤 _ _ (λ h. Calls.tick-pipelined _ _ h)
 
   -- `clock::tick_direct`, `clock::tick_pipelined`: the clock is lent, and seen at exit like the runs
   pub tick-direct-in-place : Says 𝓤 clock-tick-direct.ended (clock-tick-direct.clauses 𝓤 H A mem run) (λ κs a r e. (copy flight : List ℕ)
-      → let s = switch-of (a .0 .now) (a .1 .0 .now) (a .1 .1 .0 .now) (a .1 .1 .1 .0 .now) copy flight in
-      of-direct s (tick-outcome (effect (result-of (e .0 .now) r) (direct-runs-of (a .1 .0 .now) (e .1 .1 .0 .now) (e .1 .1 .1 .0 .now)))) ≡ apply (tick direct) s)
+      → let s = switch-of (a .0 .now) (a .1 .0 .now) (a .1 .1 .0 .now) (a .1 .1 .1 .0 .now) (a .1 .1 .1 .1 .0 .now) copy flight in
+      of-direct s (tick-outcome (effect (result-of (e .0 .now) r) (direct-runs-of (a .1 .0 .now) (a .1 .1 .0 .now) (e .1 .1 .1 .0 .now) (e .1 .1 .1 .1 .0 .now)))) ≡ apply (tick direct) s)
   tick-direct-in-place κs a g r e = fact-mono 𝓤 _ _ (λ h copy flight. Calls.tick-direct _ _ (ap by-value h))
 
   pub tick-pipelined-in-place : Says 𝓤 clock-tick-pipelined.ended (clock-tick-pipelined.clauses 𝓤 H A mem run) (λ κs a r e.
-      let s = switch-of (a .0 .now) (a .1 .0 .now) (a .1 .1 .0 .now) (a .1 .1 .1 .0 .now) (a .1 .1 .1 .1 .0 .now) (a .1 .1 .1 .1 .1 .0 .now) in
-      of-pipelined (tick-outcome (effect (result-of (e .0 .now) r) (pipelined-runs-of (a .1 .0 .now) (e .1 .1 .0 .now) (e .1 .1 .1 .0 .now) (e .1 .1 .1 .1 .0 .now) (e .1 .1 .1 .1 .1 .0 .now)))) ≡ apply (tick pipelined) s)
+      let s = switch-of (a .0 .now) (a .1 .0 .now) (a .1 .1 .0 .now) (a .1 .1 .1 .0 .now) (a .1 .1 .1 .1 .0 .now) (a .1 .1 .1 .1 .1 .0 .now) (a .1 .1 .1 .1 .1 .1 .0 .now) in
+      of-pipelined (tick-outcome (effect (result-of (e .0 .now) r) (pipelined-runs-of (a .1 .0 .now) (a .1 .1 .0 .now) (e .1 .1 .1 .0 .now) (e .1 .1 .1 .1 .0 .now) (e .1 .1 .1 .1 .1 .0 .now) (e .1 .1 .1 .1 .1 .1 .0 .now)))) ≡ apply (tick pipelined) s)
   tick-pipelined-in-place κs a g r e = fact-mono 𝓤 _ _ (λ h. Calls.tick-pipelined _ _ (ap by-value h))

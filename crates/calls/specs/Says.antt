@@ -10,6 +10,7 @@ use Prim.Native.Nat.{ℕ}
 use Rattle.wsgs.specs.declared.Clock.{Clock}
 use Rattle.wsgs.specs.declared.StartResult.{StartResult}
 use Rattle.wsgs.specs.declared.TickResult.{TickResult}
+use Rattle.wsgs.specs.Bookings.{book-of}
 use Rattle.wsgs.specs.Questions.{Effect, effect}
 use Rattle.wsgs.specs.Switch.{Switch}
 use Rattle.kivdrag_c.specs.Clocks.{clock-in-words}
@@ -24,8 +25,8 @@ Says 𝓤 T c φ =
     → ent 𝓤 (c κs a .ensures g r e) (fact 𝓤 (φ κs a r e))
 
 -- the switch that a clock and runs make
-abbrev pub switch-of : Clock → (bookings credits queues copy flight : List ℕ) → Switch
-switch-of k a c q p f = record { clock = k; bookings = a; credits = c; queues = q; copy = p; flight = f }
+abbrev pub switch-of : Clock → (slots rates credits queues copy flight : List ℕ) → Switch
+switch-of k s r c q p f = record { clock = k; book = book-of s r; credits = c; queues = q; copy = p; flight = f }
 
 -- what C has after a start and after a tick, with the clock that its words hold
 abbrev pub start-told : {Runs : Type 0} → CStart Runs → Effect StartResult Runs

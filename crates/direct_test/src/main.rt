@@ -1,5 +1,5 @@
 // Ticks of the direct form at the edges of the rules. Each case prints one line: the refusal, the slot, the pairs as input>output/pass, the word
-// of pass one, and the credits and queues afterwards (of more than eight words their sum). `stdout` was worked out by hand.
+// of pass one, and the credits and queues afterwards (of more than eight words their sum). `stdout` was worked out by hand from the rules.
 ghost use Prim.Native.Nat.{_<_};
 use direct::tick;
 use wsgs::Clock;
@@ -67,18 +67,26 @@ fn say_run(name: &[u8], run: &[u32]) {
     }
 }
 
+// A clock.
+fn at(ports: u32, frame: u32, slot: u32, line: u32) -> Clock {
+    Clock {
+        ports,
+        frame,
+        slot,
+        line,
+    }
+}
+
 // One tick and its line.
 fn case(
     name: &[u8],
-    ports: u32,
-    frame: u32,
-    slot: u32,
-    bookings: &[u32],
+    clock: Clock,
+    slots: &[u32],
+    rates: &[u32],
     credits: &mut [u32],
     queues: &mut [u32],
 ) {
-    let clock = Clock { ports, frame, slot };
-    let result = tick(clock, bookings, credits, queues);
+    let result = tick(clock, slots, rates, credits, queues);
     say(name);
     say_result(result);
     say_run(b", credits", credits);
@@ -87,34 +95,29 @@ fn case(
 }
 
 // The slots from 1 on, each with its line.
-fn slots(
+fn ticks(
     name: &[u8],
-    ports: u32,
-    frame: u32,
+    clock: Clock,
     count: u32,
-    bookings: &[u32],
+    slots: &[u32],
+    rates: &[u32],
     credits: &mut [u32],
     queues: &mut [u32],
 ) {
     for slot in 0..count {
-        case(name, ports, frame, slot, bookings, credits, queues);
+        let reached = at(clock.ports, clock.frame, slot, clock.line);
+        case(name, reached, slots, rates, credits, queues);
     }
 }
 
 // One port, booked once, with two packets.
 fn one_port(name: &[u8], ports: u32, frame: u32, slot: u32) {
-    let bookings = [1u32];
+    let slots = [1u32];
+    let rates = [0u32];
     let mut credits = [0u32];
     let mut queues = [2u32];
-    case(
-        name,
-        ports,
-        frame,
-        slot,
-        &bookings,
-        &mut credits,
-        &mut queues,
-    );
+    let clock = at(ports, frame, slot, 0);
+    case(name, clock, &slots, &rates, &mut credits, &mut queues);
 }
 
 // The limits of ports, frame and clock, and the order of the questions.
@@ -139,29 +142,35 @@ fn short_runs() {
     let mut few_credits = [1u32; 3];
     let mut queues = [1u32; 4];
     let mut few_queues = [1u32; 3];
+    let clock = at(2, 3, 0, 0);
     case(
-        b"bookings too short",
-        2,
-        3,
-        0,
+        b"slots too short",
+        clock,
+        &short,
+        &long,
+        &mut credits,
+        &mut queues,
+    );
+    case(
+        b"rates too short",
+        clock,
+        &long,
         &short,
         &mut credits,
         &mut queues,
     );
     case(
         b"credits too short",
-        2,
-        3,
-        0,
+        clock,
+        &long,
         &long,
         &mut few_credits,
         &mut queues,
     );
     case(
         b"queues too short",
-        2,
-        3,
-        0,
+        clock,
+        &long,
         &long,
         &mut credits,
         &mut few_queues,
@@ -170,15 +179,15 @@ fn short_runs() {
 
 // One word more than is used.
 fn word_beyond() {
-    let bookings = [1u32, 55];
+    let slots = [1u32, 55];
+    let rates = [0u32, 44];
     let mut credits = [0u32, 66];
     let mut queues = [1u32, 77];
     case(
         b"one word beyond",
-        1,
-        5,
-        0,
-        &bookings,
+        at(1, 5, 0, 1),
+        &slots,
+        &rates,
         &mut credits,
         &mut queues,
     );
@@ -186,47 +195,106 @@ fn word_beyond() {
 
 // Frames of one slot: each begins with the bookings.
 fn one_slot_frames() {
-    let bookings = [1u32];
+    let slots = [1u32];
+    let rates = [0u32];
     let mut credits = [9u32];
     let mut queues = [3u32];
-    slots(b"frame of 1", 1, 1, 4, &bookings, &mut credits, &mut queues);
-}
-
-// Two ports, three pairs booked once in a frame of three slots, and five packets for each.
-fn frame_of_three() {
-    let bookings = [1u32, 1, 1, 0];
-    let mut credits = [0u32; 4];
-    let mut queues = [5u32, 5, 5, 0];
-    slots(b"frame of 3", 2, 3, 4, &bookings, &mut credits, &mut queues);
-}
-
-// Words that no call left there: credits without bookings, in the middle of a frame.
-fn credits_unbooked() {
-    let bookings = [0u32; 4];
-    let mut credits = [9u32, 0, 4000000000, 0];
-    let mut queues = [1u32; 4];
-    case(
-        b"credits without bookings",
-        2,
-        10,
-        5,
-        &bookings,
+    ticks(
+        b"frame of 1",
+        at(1, 1, 0, 0),
+        4,
+        &slots,
+        &rates,
         &mut credits,
         &mut queues,
     );
 }
 
-// The largest words everywhere.
+// Two ports, three pairs booked once in a frame of three slots, and five packets for each.
+fn frame_of_three() {
+    let slots = [1u32, 1, 1, 0];
+    let rates = [0u32; 4];
+    let mut credits = [0u32; 4];
+    let mut queues = [5u32, 5, 5, 0];
+    ticks(
+        b"frame of 3",
+        at(2, 3, 0, 0),
+        4,
+        &slots,
+        &rates,
+        &mut credits,
+        &mut queues,
+    );
+}
+
+// The same frame on lines of 1000: pair (1, 1) has three streams of 200, which take two slots, and pair (2, 2) a slot and a stream of 333.
+fn frame_by_rates() {
+    let slots = [0u32, 0, 0, 1];
+    let rates = [600u32, 0, 0, 333];
+    let mut credits = [9u32; 4];
+    let mut queues = [3u32, 1, 0, 5];
+    ticks(
+        b"frame of 3 by rates",
+        at(2, 3, 0, 1000),
+        4,
+        &slots,
+        &rates,
+        &mut credits,
+        &mut queues,
+    );
+}
+
+// The credits that a frame begins with, of one pair in frames of three slots, without a packet to spend them on.
+fn one_rate(name: &[u8], line: u32, slots: u32, rate: u32) {
+    let slots = [slots];
+    let rates = [rate];
+    let mut credits = [9u32];
+    let mut queues = [0u32];
+    let clock = at(1, 3, 0, line);
+    case(name, clock, &slots, &rates, &mut credits, &mut queues);
+}
+
+// Rates just within a slot and just above it, lines whose rate no start accepts or leaves rates without meaning, and bookings up to the largest
+// number and past it.
+fn loads() {
+    one_rate(b"rate 333 of 1000", 1000, 0, 333);
+    one_rate(b"rate 334 of 1000", 1000, 0, 334);
+    one_rate(b"two slots and rate 667 of 1000", 1000, 2, 667);
+    one_rate(b"rate 1 of 100000000", 100000000, 0, 1);
+    one_rate(b"two slots and rate 400 of 0", 0, 2, 400);
+    one_rate(b"two slots, half of 200000000", 200000000, 2, 100000000);
+    one_rate(b"the largest rates", 4294967295, 0, 4294967295);
+    one_rate(b"one below the bound", 1, 4294967291, 1);
+    one_rate(b"at the bound", 1, 4294967292, 1);
+    one_rate(b"one above the bound", 1, 4294967293, 1);
+    one_rate(b"far above the bound", 1, 4294967295, 4294967295);
+}
+
+// Words that no call left there: credits without bookings, in the middle of a frame.
+fn credits_unbooked() {
+    let none = [0u32; 4];
+    let mut credits = [9u32, 0, 4000000000, 0];
+    let mut queues = [1u32; 4];
+    case(
+        b"credits without bookings",
+        at(2, 10, 5, 0),
+        &none,
+        &none,
+        &mut credits,
+        &mut queues,
+    );
+}
+
+// The largest words everywhere, in the middle of a frame, where they are not read.
 fn largest_words() {
-    let bookings = [4294967295u32; 4];
+    let largest = [4294967295u32; 4];
     let mut credits = [4294967295u32; 4];
     let mut queues = [4294967295u32; 4];
     case(
         b"the largest words",
-        2,
-        10,
-        5,
-        &bookings,
+        at(2, 10, 5, 4294967295),
+        &largest,
+        &largest,
         &mut credits,
         &mut queues,
     );
@@ -234,26 +302,27 @@ fn largest_words() {
 
 // Credits that an old frame left, where a new one begins.
 fn credits_left() {
-    let bookings = [0u32; 4];
+    let none = [0u32; 4];
     let mut credits = [7u32; 4];
     let mut queues = [1u32, 0, 0, 1];
     case(
         b"credits of an old frame",
-        2,
-        10,
-        10,
-        &bookings,
+        at(2, 10, 10, 1000),
+        &none,
+        &none,
         &mut credits,
         &mut queues,
     );
 }
 
-// 32 ports, every pair queued, and every pair or none booked.
-fn full_switch(name: &[u8], booked: u32) {
-    let bookings = [booked; 1024];
+// 32 ports, every pair queued, and every pair booked by slots or by rate, or none.
+fn full_switch(name: &[u8], booked: u32, rate: u32) {
+    let slots = [booked; 1024];
+    let rates = [rate; 1024];
     let mut credits = [3u32; 1024];
     let mut queues = [1u32; 1024];
-    case(name, 32, 4, 4, &bookings, &mut credits, &mut queues);
+    let clock = at(32, 4, 4, 1000);
+    case(name, clock, &slots, &rates, &mut credits, &mut queues);
 }
 
 fn main() {
@@ -262,9 +331,12 @@ fn main() {
     word_beyond();
     one_slot_frames();
     frame_of_three();
+    frame_by_rates();
+    loads();
     credits_unbooked();
     largest_words();
     credits_left();
-    full_switch(b"32 ports, all booked", 1);
-    full_switch(b"32 ports, none booked", 0);
+    full_switch(b"32 ports, all booked", 1, 0);
+    full_switch(b"32 ports, none booked", 0, 0);
+    full_switch(b"32 ports, all booked by rate", 0, 250);
 }

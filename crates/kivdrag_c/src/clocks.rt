@@ -1,22 +1,23 @@
-// A clock as C lends it: three words for the number of ports, the length of a frame and the last slot run.
+// A clock as C lends it: four words for the number of ports, the length of a frame, the last slot run and the rate of a line.
 ghost use mathlib.Core.Path.{_≡_};
 ghost use Rattle.kivdrag_c.specs.Clocks.{clock-in-words, clock-words};
 use wsgs::Clock;
 
 // The clock that words hold.
-pub fn clock_in(words: &[u32; 3]) -> Clock
+pub fn clock_in(words: &[u32; 4]) -> Clock
     ensures result { λ r. ⌜ r ≡ clock-in-words (now (words .entry)) ⌝ }
 {
     Clock {
         ports: words[0],
         frame: words[1],
         slot: words[2],
+        line: words[3],
     }
 }
 
 // Writes a clock into its words.
-pub fn put_clock(words: &mut [u32; 3], clock: Clock)
+pub fn put_clock(words: &mut [u32; 4], clock: Clock)
     ensures words_exit { λ _. ⌜ now (words .exit) ≡ clock-words clock ⌝ }
 {
-    *words = [clock.ports, clock.frame, clock.slot];
+    *words = [clock.ports, clock.frame, clock.slot, clock.line];
 }

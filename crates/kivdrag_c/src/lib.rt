@@ -1,10 +1,11 @@
-// The calls of a switch as C has them (include/kivdrag.h). Each is the proved call of its name, on a clock that is lent as three words.
+// The calls of a switch as C has them (include/kivdrag.h). Each is the proved call of its name, on a clock that is lent as four words.
 ghost use mathlib.Core.Path.{_≡_};
 ghost use Rattle.wsgs.specs.Questions.{effect};
+ghost use Rattle.wsgs.specs.Bookings.{book-of};
 ghost use Rattle.wsgs.specs.Answers.{direct-runs-of, pipelined-runs-of};
 ghost use Rattle.wsgs.specs.Direct;
 ghost use Rattle.wsgs.specs.Pipelined;
-ghost use Rattle.wsgs.specs.Book.{book-effect, rate-effect, release-effect, arrive-effect};
+ghost use Rattle.wsgs.specs.Book.{book-effect, rate-effect, release-effect, release-rate-effect, arrive-effect};
 ghost use Rattle.kivdrag_c.specs.Clocks.{clock-in-words};
 ghost use Rattle.kivdrag_c.specs.Results.{c-start, c-start-of, c-tick, c-tick-of};
 
@@ -23,17 +24,20 @@ use wsgs::Output;
 pub extern "C" fn kivdrag_start_direct(
     ports: u64,
     frame: u64,
-    clock: &mut [u32; 3],
-    bookings: &mut [u32],
+    line: u64,
+    clock: &mut [u32; 4],
+    slots: &mut [u32],
+    rates: &mut [u32],
     credits: &mut [u32],
     queues: &mut [u32],
 ) -> u32
     ensures outcome { λ r. ⌜ c-start r (now (clock .exit))
-        (direct-runs-of (now (bookings .exit)) (now (credits .exit)) (now (queues .exit)))
-        ≡ c-start-of (Direct.start ports frame (clock-in-words (now (clock .entry)))
-        (direct-runs-of (now (bookings .entry)) (now (credits .entry)) (now (queues .entry)))) ⌝ }
+        (direct-runs-of (now (slots .exit)) (now (rates .exit)) (now (credits .exit)) (now (queues .exit)))
+        ≡ c-start-of (Direct.start ports frame line (clock-in-words (now (clock .entry)))
+        (direct-runs-of (now (slots .entry)) (now (rates .entry)) (now (credits .entry)) (now (queues .entry)))) ⌝ }
 {
-    let result = starts::start_direct(ports, frame, clock_in(clock), bookings, credits, queues);
+    let before = clock_in(clock);
+    let result = starts::start_direct(ports, frame, line, before, slots, rates, credits, queues);
     put_clock(clock, result.clock);
     result.refusal
 }
@@ -43,24 +47,30 @@ pub extern "C" fn kivdrag_start_direct(
 pub extern "C" fn kivdrag_start_pipelined(
     ports: u64,
     frame: u64,
-    clock: &mut [u32; 3],
-    bookings: &mut [u32],
+    line: u64,
+    clock: &mut [u32; 4],
+    slots: &mut [u32],
+    rates: &mut [u32],
     credits: &mut [u32],
     queues: &mut [u32],
     copy: &mut [u32],
     flight: &mut [u32],
 ) -> u32
     ensures outcome { λ r. ⌜ c-start r (now (clock .exit))
-        (pipelined-runs-of (now (bookings .exit)) (now (credits .exit)) (now (queues .exit)) (now (copy .exit)) (now (flight .exit)))
-        ≡ c-start-of (Pipelined.start ports frame (clock-in-words (now (clock .entry)))
-        (pipelined-runs-of (now (bookings .entry)) (now (credits .entry)) (now (queues .entry))
+        (pipelined-runs-of (now (slots .exit)) (now (rates .exit)) (now (credits .exit)) (now (queues .exit))
+        (now (copy .exit)) (now (flight .exit)))
+        ≡ c-start-of (Pipelined.start ports frame line (clock-in-words (now (clock .entry)))
+        (pipelined-runs-of (now (slots .entry)) (now (rates .entry)) (now (credits .entry)) (now (queues .entry))
         (now (copy .entry)) (now (flight .entry)))) ⌝ }
 {
+    let before = clock_in(clock);
     let result = starts::start_pipelined(
         ports,
         frame,
-        clock_in(clock),
-        bookings,
+        line,
+        before,
+        slots,
+        rates,
         credits,
         queues,
         copy,
@@ -73,58 +83,81 @@ pub extern "C" fn kivdrag_start_pipelined(
 // Books slots of each frame for a pair.
 #[no_mangle]
 pub extern "C" fn kivdrag_book(
-    clock: &[u32; 3],
-    bookings: &mut [u32],
+    clock: &[u32; 4],
+    slots: &mut [u32],
+    rates: &[u32],
     input: u64,
     output: u64,
-    slots: u64,
+    amount: u64,
 ) -> u32
-    ensures outcome { λ r. ⌜ effect r (now (bookings .exit))
-        ≡ book-effect (clock-in-words (now (clock .entry))) (now (bookings .entry)) input output slots ⌝ }
+    ensures outcome { λ r. ⌜ effect r (book-of (now (slots .exit)) (now (rates .entry)))
+        ≡ book-effect (clock-in-words (now (clock .entry)))
+        (book-of (now (slots .entry)) (now (rates .entry))) input output amount ⌝ }
 {
     let clock = clock_in(clock);
-    let slots = BookedSlots(slots);
-    book::book(clock, bookings, Input(input), Output(output), slots)
+    let amount = BookedSlots(amount);
+    book::book(clock, slots, rates, Input(input), Output(output), amount)
 }
 
-// Books the slots that a rate needs on a line, both in kbit/s.
+// Books a rate for a pair, in kbit/s.
 #[no_mangle]
 pub extern "C" fn kivdrag_book_rate(
-    clock: &[u32; 3],
-    bookings: &mut [u32],
+    clock: &[u32; 4],
+    slots: &[u32],
+    rates: &mut [u32],
     input: u64,
     output: u64,
-    line: u64,
     rate: u64,
 ) -> u32
-    ensures outcome { λ r. ⌜ effect r (now (bookings .exit))
-        ≡ rate-effect (clock-in-words (now (clock .entry))) (now (bookings .entry)) input output line rate ⌝ }
+    ensures outcome { λ r. ⌜ effect r (book-of (now (slots .entry)) (now (rates .exit)))
+        ≡ rate-effect (clock-in-words (now (clock .entry)))
+        (book-of (now (slots .entry)) (now (rates .entry))) input output rate ⌝ }
 {
     let clock = clock_in(clock);
-    book::book_rate(clock, bookings, Input(input), Output(output), line, rate)
+    book::book_rate(clock, slots, rates, Input(input), Output(output), rate)
 }
 
-// Takes booked slots off a pair again.
+// Takes slots that were booked by slots off a pair again.
 #[no_mangle]
 pub extern "C" fn kivdrag_release(
-    clock: &[u32; 3],
-    bookings: &mut [u32],
+    clock: &[u32; 4],
+    slots: &mut [u32],
+    rates: &[u32],
     input: u64,
     output: u64,
-    slots: u64,
+    amount: u64,
 ) -> u32
-    ensures outcome { λ r. ⌜ effect r (now (bookings .exit))
-        ≡ release-effect (clock-in-words (now (clock .entry))) (now (bookings .entry)) input output slots ⌝ }
+    ensures outcome { λ r. ⌜ effect r (book-of (now (slots .exit)) (now (rates .entry)))
+        ≡ release-effect (clock-in-words (now (clock .entry)))
+        (book-of (now (slots .entry)) (now (rates .entry))) input output amount ⌝ }
 {
     let clock = clock_in(clock);
-    let slots = BookedSlots(slots);
-    book::release(clock, bookings, Input(input), Output(output), slots)
+    let amount = BookedSlots(amount);
+    book::release(clock, slots, rates, Input(input), Output(output), amount)
+}
+
+// Takes a rate off a pair again, in kbit/s.
+#[no_mangle]
+pub extern "C" fn kivdrag_release_rate(
+    clock: &[u32; 4],
+    slots: &[u32],
+    rates: &mut [u32],
+    input: u64,
+    output: u64,
+    rate: u64,
+) -> u32
+    ensures outcome { λ r. ⌜ effect r (book-of (now (slots .entry)) (now (rates .exit)))
+        ≡ release-rate-effect (clock-in-words (now (clock .entry)))
+        (book-of (now (slots .entry)) (now (rates .entry))) input output rate ⌝ }
+{
+    let clock = clock_in(clock);
+    book::release_rate(clock, slots, rates, Input(input), Output(output), rate)
 }
 
 // Adds packets that arrived to a pair's queue.
 #[no_mangle]
 pub extern "C" fn kivdrag_arrive(
-    clock: &[u32; 3],
+    clock: &[u32; 4],
     queues: &mut [u32],
     input: u64,
     output: u64,
@@ -140,27 +173,30 @@ pub extern "C" fn kivdrag_arrive(
 // Runs the next slot of a direct switch.
 #[no_mangle]
 pub extern "C" fn kivdrag_tick_direct(
-    clock: &mut [u32; 3],
-    bookings: &[u32],
+    clock: &mut [u32; 4],
+    slots: &[u32],
+    rates: &[u32],
     credits: &mut [u32],
     queues: &mut [u32],
     outputs: &mut [u8; 32],
     first_pass: &mut u32,
 ) -> u32
     ensures outcome { λ r. ⌜ c-tick r (now (clock .exit)) (now (outputs .exit)) (now («first_pass» .exit))
-        (direct-runs-of (now (bookings .entry)) (now (credits .exit)) (now (queues .exit)))
+        (direct-runs-of (now (slots .entry)) (now (rates .entry)) (now (credits .exit)) (now (queues .exit)))
         ≡ c-tick-of (Direct.tick (clock-in-words (now (clock .entry)))
-        (direct-runs-of (now (bookings .entry)) (now (credits .entry)) (now (queues .entry)))) ⌝ }
+        (direct-runs-of (now (slots .entry)) (now (rates .entry)) (now (credits .entry)) (now (queues .entry)))) ⌝ }
 {
-    let result = clock::step_direct(clock_in(clock), bookings, credits, queues);
+    let before = clock_in(clock);
+    let result = clock::step_direct(before, slots, rates, credits, queues);
     put_result(result, clock, outputs, first_pass)
 }
 
 // Runs the next tick of a pipelined switch: every input has its turns for slots ahead, and the pairs of the next slot are handed out.
 #[no_mangle]
 pub extern "C" fn kivdrag_tick_pipelined(
-    clock: &mut [u32; 3],
-    bookings: &[u32],
+    clock: &mut [u32; 4],
+    slots: &[u32],
+    rates: &[u32],
     credits: &mut [u32],
     queues: &mut [u32],
     copy: &mut [u32],
@@ -169,11 +205,13 @@ pub extern "C" fn kivdrag_tick_pipelined(
     first_pass: &mut u32,
 ) -> u32
     ensures outcome { λ r. ⌜ c-tick r (now (clock .exit)) (now (outputs .exit)) (now («first_pass» .exit))
-        (pipelined-runs-of (now (bookings .entry)) (now (credits .exit)) (now (queues .exit)) (now (copy .exit)) (now (flight .exit)))
+        (pipelined-runs-of (now (slots .entry)) (now (rates .entry)) (now (credits .exit)) (now (queues .exit))
+        (now (copy .exit)) (now (flight .exit)))
         ≡ c-tick-of (Pipelined.tick (clock-in-words (now (clock .entry)))
-        (pipelined-runs-of (now (bookings .entry)) (now (credits .entry)) (now (queues .entry))
+        (pipelined-runs-of (now (slots .entry)) (now (rates .entry)) (now (credits .entry)) (now (queues .entry))
         (now (copy .entry)) (now (flight .entry)))) ⌝ }
 {
-    let result = clock::step_pipelined(clock_in(clock), bookings, credits, queues, copy, flight);
+    let before = clock_in(clock);
+    let result = clock::step_pipelined(before, slots, rates, credits, queues, copy, flight);
     put_result(result, clock, outputs, first_pass)
 }

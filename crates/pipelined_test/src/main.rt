@@ -1,6 +1,6 @@
 // Ticks of the pipelined form at the edges of the rules. Each case prints one line: the refusal, the last slot run, the pairs handed out as
 // input>output/pass, the word of pass one, and of each run afterwards the words that are not 0, as place=word with places from 0 (of more than
-// 20 words their sum). `stdout` was worked out by hand.
+// 20 words their sum). `stdout` was worked out by hand from the rules.
 ghost use Prim.Native.Nat.{_≤_, _<_};
 use pipelined::tick;
 use wsgs::Clock;
@@ -82,22 +82,30 @@ fn say_run(name: &[u8], run: &[u32]) {
     }
 }
 
+// A clock.
+fn at(ports: u32, frame: u32, slot: u32, line: u32) -> Clock {
+    Clock {
+        ports,
+        frame,
+        slot,
+        line,
+    }
+}
+
 // One tick and its line.
 fn case(
     name: &[u8],
-    ports: u32,
-    frame: u32,
-    slot: u32,
-    bookings: &[u32],
+    clock: Clock,
+    slots: &[u32],
+    rates: &[u32],
     credits: &mut [u32],
     queues: &mut [u32],
     copy: &mut [u32],
     flight: &mut [u32],
 ) {
-    let clock = Clock { ports, frame, slot };
-    let result = tick(clock, bookings, credits, queues, copy, flight);
+    let result = tick(clock, slots, rates, credits, queues, copy, flight);
     say(name);
-    say_number(b", after slot ", slot as u64);
+    say_number(b", after slot ", clock.slot as u64);
     say_result(result);
     say_run(b", credits", credits);
     say_run(b", queues", queues);
@@ -106,31 +114,21 @@ fn case(
     say(b"\n");
 }
 
-// Ticks of one switch, after the slots from one number up to another.
+// Ticks of one switch, after the slots from the clock's up to another.
 fn cases(
     name: &[u8],
-    ports: u32,
-    frame: u32,
-    from: u32,
+    clock: Clock,
     to: u32,
-    bookings: &[u32],
+    slots: &[u32],
+    rates: &[u32],
     credits: &mut [u32],
     queues: &mut [u32],
     copy: &mut [u32],
     flight: &mut [u32],
 ) {
-    for slot in from..to {
-        case(
-            name,
-            ports,
-            frame,
-            slot,
-            bookings,
-            credits,
-            queues,
-            copy,
-            flight,
-        );
+    for slot in clock.slot..to {
+        let reached = at(clock.ports, clock.frame, slot, clock.line);
+        case(name, reached, slots, rates, credits, queues, copy, flight);
     }
 }
 
@@ -143,10 +141,9 @@ fn time_5() {
     let mut flight = [0u32; 18];
     cases(
         b"3 ports",
-        3,
-        100,
-        4,
+        at(3, 100, 4, 0),
         10,
+        &none,
         &none,
         &mut credits,
         &mut queues,
@@ -157,18 +154,40 @@ fn time_5() {
 
 // The first times of a switch whose frames are as long as it has ports: input 2 waits for time 2, slot 3 knows only pass two.
 fn frame_of_ports() {
-    let bookings = [1u32, 0, 0, 1];
+    let slots = [1u32, 0, 0, 1];
+    let rates = [0u32; 4];
     let mut credits = [0u32; 4];
     let mut queues = [3u32, 0, 0, 3];
     let mut copy = [0u32; 4];
     let mut flight = [0u32; 8];
     cases(
         b"2 ports, frame of 2",
-        2,
-        2,
-        0,
+        at(2, 2, 0, 0),
         4,
-        &bookings,
+        &slots,
+        &rates,
+        &mut credits,
+        &mut queues,
+        &mut copy,
+        &mut flight,
+    );
+}
+
+// Frames of three slots on lines of 1000: pair (1, 1) has three streams of 200, which take two slots, and pair (2, 2) a slot and a stream of
+// 333. Time 3 reads them for the frame that begins at slot 7.
+fn frame_by_rates() {
+    let slots = [0u32, 0, 0, 1];
+    let rates = [600u32, 0, 0, 333];
+    let mut credits = [0u32; 4];
+    let mut queues = [3u32, 0, 0, 3];
+    let mut copy = [0u32; 4];
+    let mut flight = [0u32; 8];
+    cases(
+        b"2 ports by rates",
+        at(2, 3, 0, 1000),
+        6,
+        &slots,
+        &rates,
         &mut credits,
         &mut queues,
         &mut copy,
@@ -178,18 +197,18 @@ fn frame_of_ports() {
 
 // One port and frames of one slot: each slot loads.
 fn one_port() {
-    let bookings = [1u32];
+    let slots = [1u32];
+    let rates = [0u32];
     let mut credits = [0u32];
     let mut queues = [3u32];
     let mut copy = [0u32];
     let mut flight = [0u32; 2];
     cases(
         b"1 port",
-        1,
-        1,
-        0,
+        at(1, 1, 0, 0),
         2,
-        &bookings,
+        &slots,
+        &rates,
         &mut credits,
         &mut queues,
         &mut copy,
@@ -197,19 +216,47 @@ fn one_port() {
     );
 }
 
+// A booking that is copied and loaded, of one port with frames of one slot and one packet.
+fn one_load(name: &[u8], line: u32, slots: u32, rate: u32) {
+    let slots = [slots];
+    let rates = [rate];
+    let mut credits = [0u32];
+    let mut queues = [1u32];
+    let mut copy = [0u32];
+    let mut flight = [0u32; 2];
+    case(
+        name,
+        at(1, 1, 0, line),
+        &slots,
+        &rates,
+        &mut credits,
+        &mut queues,
+        &mut copy,
+        &mut flight,
+    );
+}
+
+// A line without a rate, on which rates count nothing; one whose rate no start accepts; and bookings at the largest number and past it.
+fn loads() {
+    one_load(b"two slots and rate 400 of 0", 0, 2, 400);
+    one_load(b"rate 100000001 of 200000000", 200000000, 0, 100000001);
+    one_load(b"at the bound", 1, 4294967294, 1);
+    one_load(b"above the bound", 1, 4294967295, 4294967295);
+}
+
 // 32 ports, every pair booked and queued. At time 1 only input 1 has turns.
 fn input_1() {
     let ones = [1u32; 1024];
+    let none = [0u32; 1024];
     let mut credits = [0u32; 1024];
     let mut queues = [1u32; 1024];
     let mut copy = [0u32; 1024];
     let mut flight = [0u32; 2048];
     case(
         b"32 ports",
-        32,
-        32,
-        0,
+        at(32, 32, 0, 0),
         &ones,
+        &none,
         &mut credits,
         &mut queues,
         &mut copy,
@@ -226,9 +273,8 @@ fn all_inputs() {
     let mut flight = [0u32; 2048];
     case(
         b"32 ports",
-        32,
-        32,
-        39,
+        at(32, 32, 39, 1),
+        &ones,
         &ones,
         &mut credits,
         &mut queues,
@@ -241,16 +287,16 @@ fn all_inputs() {
 fn moved_booking() {
     let before = [1u32, 0, 0, 0];
     let after = [0u32, 0, 1, 0];
+    let none = [0u32; 4];
     let mut credits = [0u32; 4];
     let mut queues = [0u32; 4];
     let mut copy = [0u32; 4];
     let mut flight = [0u32; 8];
     case(
         b"input 1 loads",
-        2,
-        4,
-        0,
+        at(2, 4, 0, 0),
         &before,
+        &none,
         &mut credits,
         &mut queues,
         &mut copy,
@@ -258,10 +304,9 @@ fn moved_booking() {
     );
     case(
         b"input 2 loads",
-        2,
-        4,
-        1,
+        at(2, 4, 1, 0),
         &after,
+        &none,
         &mut credits,
         &mut queues,
         &mut copy,
@@ -277,9 +322,8 @@ fn rows(name: &[u8], flight: &mut [u32]) {
     let mut copy = [0u32; 4];
     case(
         name,
-        2,
-        50,
-        8,
+        at(2, 50, 8, 0),
+        &none,
         &none,
         &mut credits,
         &mut queues,
@@ -307,9 +351,8 @@ fn credit_stays() {
     let mut flight = [0u32, 101];
     case(
         b"a credit stays",
-        1,
-        50,
-        10,
+        at(1, 50, 10, 0),
+        &none,
         &none,
         &mut credits,
         &mut queues,
@@ -320,18 +363,18 @@ fn credit_stays() {
 
 // The last slot that runs, and the clock that has run it.
 fn last_slot() {
-    let bookings = [1u32];
+    let slots = [1u32];
+    let rates = [0u32];
     let mut credits = [0u32];
     let mut queues = [2u32];
     let mut copy = [0u32];
     let mut flight = [0u32; 2];
     cases(
         b"1 port",
-        1,
-        7,
-        3999999999,
+        at(1, 7, 3999999999, 0),
         4000000001,
-        &bookings,
+        &slots,
+        &rates,
         &mut credits,
         &mut queues,
         &mut copy,
@@ -341,17 +384,16 @@ fn last_slot() {
 
 // A switch with the words of one port, all 0.
 fn one_word(name: &[u8], ports: u32, frame: u32, slot: u32) {
-    let bookings = [0u32; 1];
+    let none = [0u32; 1];
     let mut credits = [0u32; 1];
     let mut queues = [0u32; 1];
     let mut copy = [0u32; 1];
     let mut flight = [0u32; 2];
     case(
         name,
-        ports,
-        frame,
-        slot,
-        &bookings,
+        at(ports, frame, slot, 0),
+        &none,
+        &none,
         &mut credits,
         &mut queues,
         &mut copy,
@@ -376,17 +418,16 @@ fn short_run(name: &[u8], copied: usize, flown: usize)
     requires copied { ⌜ copied ≤ 4 ⌝ }
     requires flown { ⌜ flown ≤ 8 ⌝ }
 {
-    let bookings = [0u32; 4];
+    let none = [0u32; 4];
     let mut credits = [0u32; 4];
     let mut queues = [0u32; 4];
     let mut copy = [0u32; 4];
     let mut flight = [0u32; 8];
     case(
         name,
-        2,
-        3,
-        0,
-        &bookings,
+        at(2, 3, 0, 0),
+        &none,
+        &none,
         &mut credits,
         &mut queues,
         &mut copy[..copied],
@@ -394,23 +435,24 @@ fn short_run(name: &[u8], copied: usize, flown: usize)
     );
 }
 
-// The same of the bookings, the credits and the queues.
-fn short_matrix(name: &[u8], booked: usize, credited: usize, queued: usize)
+// The same of the slots, the rates, the credits and the queues.
+fn short_matrix(name: &[u8], booked: usize, rated: usize, credited: usize, queued: usize)
     requires booked { ⌜ booked ≤ 4 ⌝ }
+    requires rated { ⌜ rated ≤ 4 ⌝ }
     requires credited { ⌜ credited ≤ 4 ⌝ }
     requires queued { ⌜ queued ≤ 4 ⌝ }
 {
-    let bookings = [0u32; 4];
+    let slots = [0u32; 4];
+    let rates = [0u32; 4];
     let mut credits = [0u32; 4];
     let mut queues = [0u32; 4];
     let mut copy = [0u32; 4];
     let mut flight = [0u32; 8];
     case(
         name,
-        2,
-        3,
-        0,
-        &bookings[..booked],
+        at(2, 3, 0, 0),
+        &slots[..booked],
+        &rates[..rated],
         &mut credits[..credited],
         &mut queues[..queued],
         &mut copy,
@@ -420,9 +462,10 @@ fn short_matrix(name: &[u8], booked: usize, credited: usize, queued: usize)
 
 // Each run in turn short by one word, and none.
 fn short_runs() {
-    short_matrix(b"bookings too short", 3, 4, 4);
-    short_matrix(b"credits too short", 4, 3, 4);
-    short_matrix(b"queues too short", 4, 4, 3);
+    short_matrix(b"slots too short", 3, 4, 4, 4);
+    short_matrix(b"rates too short", 4, 3, 4, 4);
+    short_matrix(b"credits too short", 4, 4, 3, 4);
+    short_matrix(b"queues too short", 4, 4, 4, 3);
     short_run(b"copy too short", 3, 8);
     short_run(b"rows too short", 4, 7);
     short_run(b"long enough", 4, 8);
@@ -430,17 +473,17 @@ fn short_runs() {
 
 // One word more than is used.
 fn word_beyond() {
-    let bookings = [1u32, 55];
+    let slots = [1u32, 55];
+    let rates = [0u32, 44];
     let mut credits = [0u32, 66];
     let mut queues = [2u32, 77];
     let mut copy = [0u32, 88];
     let mut flight = [0u32, 0, 99];
     case(
         b"one word beyond",
-        1,
-        1,
-        0,
-        &bookings,
+        at(1, 1, 0, 1),
+        &slots,
+        &rates,
         &mut credits,
         &mut queues,
         &mut copy,
@@ -451,7 +494,9 @@ fn word_beyond() {
 fn main() {
     time_5();
     frame_of_ports();
+    frame_by_rates();
     one_port();
+    loads();
     input_1();
     all_inputs();
     moved_booking();

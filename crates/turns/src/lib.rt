@@ -13,6 +13,7 @@ ghost use Rattle.words.specs.Runs.{copy-words};
 ghost use Rattle.turns.specs.Masks.{powers, is-open, ready-mask};
 ghost use Rattle.turns.specs.Requests.{Turn, first-output, first-waiting, waiting-output, second-output};
 ghost use Rattle.turns.specs.Charges.{charged};
+use bookings::has_rate;
 use charges::spend_credit;
 use charges::take_packet;
 use credits::load_first;
@@ -72,9 +73,28 @@ pub fn load_credits(booked: &[u32], credits: &mut [u32], count: usize)
     }
 }
 
-// The credits at the first count places become those for the bookings there, worked out from slots and rates; where a run has fewer, all stay as
-// they are.
+// The credits at the first count places become those for the bookings there, worked out from slots and rates; without a rate these are the slots.
+// Where a run has fewer, all stay as they are.
 pub fn load_bookings(
+    frame: u32,
+    line: u32,
+    slots: &[u32],
+    rates: &[u32],
+    credits: &mut [u32],
+    count: usize,
+)
+    ensures credits_exit { λ _. ⌜ now (credits .exit)
+        ≡ copy-words count (booking-words frame line (now (slots .entry)) (now (rates .entry))) (now (credits .entry)) ⌝ }
+{
+    if has_rate(rates, count) {
+        load_worked_out(frame, line, slots, rates, credits, count);
+    } else {
+        load_credits(slots, credits, count);
+    }
+}
+
+// That, where there is a rate or a run has fewer words.
+fn load_worked_out(
     frame: u32,
     line: u32,
     slots: &[u32],

@@ -1,29 +1,48 @@
--- `bookings::copy_bookings` meets its contract: all runs are long enough and the bookings copied, or nothing changes. Assumes nothing.
-use mathlib.Core.Path.{_∙_}
+-- `bookings::copy_bookings` meets its contract: without a rate the bookings are the slots. Assumes nothing.
+use mathlib.Core.Path.{sym, _∙_}
 use native.Mathlib.Omega.{arith}
+use Rattle.bookings.proofs.Laws.{unrated-copy}
 use borrow.Author.Needs.{needs}
-use Rattle.bookings.proofs.Laws.{bookings-fit, slots-short, rates-short, target-short}
 use Rattle.bookings.proofs.copy_bookings.Statement.{statement}
 use Rattle.bookings.proofs.copy_bookings.Tie as tie
 
-copy-first-requires : tie.Need-copy-first-requires
-copy-first-requires c κs = search needs
+has-rate-requires : tie.Need-has-rate-requires
+has-rate-requires c κs = search needs
+
+copy-worked-out-requires : tie.Need-copy-worked-out-requires
+copy-worked-out-requires c κs = search needs
+
+copy-words-requires : tie.Need-copy-words-requires
+copy-words-requires c κs = search needs
 
 same-length : tie.Need-same-length
 same-length c = search needs
 
 returns : tie.Need-returns
-returns c = c .before .before .copy-first .ensures ∙ bookings-fit _ _ _ _ _ _ (omega arith) (omega arith) (omega arith)
+returns c = search needs
+
+same-length-2 : tie.Need-same-length-2
+same-length-2 c = search needs
 
 returns-2 : tie.Need-returns-2
-returns-2 c = target-short _ _ _ _ _ _ (omega arith)
-
-returns-3 : tie.Need-returns-3
-returns-3 c = rates-short _ _ _ _ _ _ (omega arith)
-
-returns-4 : tie.Need-returns-4
-returns-4 c = slots-short _ _ _ _ _ _ (omega arith)
+returns-2 c =
+    let w = c .before .before in
+    let e = w .before .before in
+    let h = e .before in
+    let s = h .before .before .before in
+    let a = s .before .args in
+    w .copy-words .ensures
+    ∙ unrated-copy (a .frame) (a .line) (a .slots .now) (a .rates .now) (a .to .now) (a .count) (sym (h .has-rate .ensures) ∙ e .if1 .left)
+    (λ k. omega (arith, s .shared-slice-known .given k))
 
 pub copy-bookings-spec : {M : Type 1} → statement M
 copy-bookings-spec =
-    tie.close (tie.spec copy-first-requires same-length returns returns-2 returns-3 returns-4)
+    tie.close
+    (tie.spec
+    has-rate-requires
+    copy-worked-out-requires
+    copy-words-requires
+    same-length
+    returns
+    same-length-2
+    returns-2)

@@ -3,7 +3,8 @@ use mathlib.Core.Path.{sym, ap₂, _∙_}
 use Prim.Native.Nat.{_+_, _-_}
 use native.Mathlib.Omega.{arith}
 use borrow.Author.Needs.{needs}
-use Rattle.bookings.proofs.Laws.{sum-product, long-frame, rise-is, rises}
+use Rattle.wsgs.proofs.Laws.Bookings.{booking-mono}
+use Rattle.bookings.proofs.Laws.{sum-product, long-frame, rise-is}
 use Rattle.bookings.proofs.rise.Statement.{statement}
 use Rattle.bookings.proofs.rise.Tie as tie
 
@@ -25,8 +26,7 @@ booking-requires c κs = search needs
 sub-t9 : tie.Need-sub-t9
 sub-t9 c =
     let b = c .before .before in
-    let a = b .before .before .before .args in
-    omega (arith, b .booking .ensures .0, b .before .booked .ensures .0, rises (a .frame) (a .line) (a .slots .0) (a .rate) (a .more))
+    rw (b .booking .ensures .0, b .before .booked .ensures .0) (booking-mono _ _ _ _ _ _ (omega arith) (omega arith))
 
 returns-2 : tie.Need-returns-2
 returns-2 c =

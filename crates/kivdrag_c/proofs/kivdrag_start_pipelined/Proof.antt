@@ -29,10 +29,13 @@ same-length-4 c = search needs
 same-length-5 : tie.Need-same-length-5
 same-length-5 c = search needs
 
+same-length-6 : tie.Need-same-length-6
+same-length-6 c = search needs
+
 returns : tie.Need-returns
 returns c =
-    let s = c .before .before .before .before .before .before .before .before .before .before .before .before in
-    let e = rw (s .before .before .before .before .before .before .clock-in .ensures) at (s .start-pipelined .ensures) in
+    let s = c .before .before .before .before .before .before .before .before .before .before .before .before .before .before in
+    let e = rw (s .before .before .before .before .before .before .before .clock-in .ensures) at (s .start-pipelined .ensures) in
     start-written e (c .put-clock .ensures)
 
 pub kivdrag-start-pipelined-spec : {M : Type 1} → statement M
@@ -47,4 +50,5 @@ kivdrag-start-pipelined-spec =
     same-length-3
     same-length-4
     same-length-5
+    same-length-6
     returns)

@@ -1,9 +1,8 @@
 -- `pipelined::renew_copy` meets its contract: all runs are long enough, so the copy is whole. Assumes nothing.
-use mathlib.Core.Path.{_∙_}
+use mathlib.Core.Path.{sym, _∙_}
 use native.Mathlib.Omega.{arith}
 use borrow.Author.Needs.{needs}
-use Rattle.wsgs.proofs.Laws.Bookings.{booking-words-length}
-use Rattle.words.proofs.Laws.{copy-fits}
+use Rattle.bookings.proofs.Laws.{bookings-fit}
 use Rattle.pipelined.proofs.PipelinedTick.{copies, stands}
 use Rattle.pipelined.proofs.renew_copy.Statement.{statement}
 use Rattle.pipelined.proofs.renew_copy.Tie as tie
@@ -24,9 +23,8 @@ returns : tie.Need-returns
 returns c = λ time place cr q f.
     let w = c .before .before in
     let t = w .before .before .before in
-    let a = t .before .before .before .before .args in
-    let long = booking-words-length (a .clock .frame) (a .clock .line) (a .slots .now) (a .rates .now) in
-    copies _ _ _ time _ _ place _ (omega (arith, t .if1 .taken)) (w .copy-bookings .ensures ∙ copy-fits _ _ _ (omega (arith, long)) (omega arith))
+    copies _ _ _ time _ _ place _ (omega (arith, t .if1 .taken))
+    (w .copy-bookings .ensures ∙ sym (bookings-fit _ _ _ _ _ _ (omega arith) (omega arith) (omega arith)))
 
 returns-2 : tie.Need-returns-2
 returns-2 c = λ time place cr q f. stands _ _ _ time _ _ place (c .if1 .left)

@@ -7,15 +7,18 @@ use Rattle.pipelined_test.proofs.cases.Statement.{statement}
 use Rattle.pipelined_test.proofs.cases.Tie as tie
 
 abbrev Inv-loop : tie.InvT-loop
-Inv-loop name ports frame from to bookings credits₀ queues₀ copy₀ flight₀ slot₀ credits queues copy flight slot =
+Inv-loop name clock to slots rates credits₀ queues₀ copy₀ flight₀ slot₀ credits queues copy flight slot =
     (length credits ≡ length credits₀) × (length queues ≡ length queues₀) × (length copy ≡ length copy₀) × (length flight ≡ length flight₀)
 
 abbrev μ-loop : tie.MeasureT-loop
-μ-loop name ports frame from to bookings credits₀ queues₀ copy₀ flight₀ slot₀ credits queues copy flight slot =
+μ-loop name clock to slots rates credits₀ queues₀ copy₀ flight₀ slot₀ credits queues copy flight slot =
     to - slot
 
 loop-holds : tie.Need-loop-holds Inv-loop μ-loop
 loop-holds c = (refl, refl, refl, refl)
+
+at-requires : tie.Need-at-requires Inv-loop μ-loop
+at-requires c κs = search needs
 
 case-requires : tie.Need-case-requires Inv-loop μ-loop
 case-requires c κs = search needs
@@ -29,8 +32,8 @@ loop-less c = search needs
 loop-again : tie.Need-loop-again Inv-loop μ-loop
 loop-again c =
     let k = c .before .before .before .before .before .before .before .before in
-    let l = k .before .before .before .before .before .before .loop .inv in
-    let kept = k .case .kept .1 .1 .1 .1 .1 in
+    let l = k .before .before .before .before .before .before .before .loop .inv in
+    let kept = k .case .kept .1 .1 .1 .1 in
     (kept .0 ∙ l .0, kept .1 .0 ∙ l .1, kept .1 .1 .0 ∙ l .2, kept .1 .1 .1 .0 ∙ l .3)
 
 same-length : tie.Need-same-length Inv-loop μ-loop
@@ -55,6 +58,7 @@ cases-spec =
     Inv-loop
     μ-loop
     loop-holds
+    at-requires
     case-requires
     add-slot
     loop-less

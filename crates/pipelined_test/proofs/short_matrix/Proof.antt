@@ -5,29 +5,38 @@ use borrow.Author.Needs.{needs}
 use Rattle.pipelined_test.proofs.short_matrix.Statement.{statement}
 use Rattle.pipelined_test.proofs.short_matrix.Tie as tie
 
-array-share-prefix-bookings : tie.Need-array-share-prefix-bookings
-array-share-prefix-bookings c = search needs
+at-requires : tie.Need-at-requires
+at-requires c κs = search needs
+
+array-share-prefix-slots : tie.Need-array-share-prefix-slots
+array-share-prefix-slots c = search needs
 
 slice-aggregate-case : tie.Need-slice-aggregate-case
 slice-aggregate-case c = simp length-take (omega arith)
 
-array-borrow-prefix-credits : tie.Need-array-borrow-prefix-credits
-array-borrow-prefix-credits c = search needs
+array-share-prefix-rates : tie.Need-array-share-prefix-rates
+array-share-prefix-rates c = search needs
 
 slice-aggregate-case-2 : tie.Need-slice-aggregate-case-2
 slice-aggregate-case-2 c = simp length-take (omega arith)
 
-array-borrow-prefix-queues : tie.Need-array-borrow-prefix-queues
-array-borrow-prefix-queues c = search needs
+array-borrow-prefix-credits : tie.Need-array-borrow-prefix-credits
+array-borrow-prefix-credits c = search needs
 
 slice-aggregate-case-3 : tie.Need-slice-aggregate-case-3
 slice-aggregate-case-3 c = simp length-take (omega arith)
 
+array-borrow-prefix-queues : tie.Need-array-borrow-prefix-queues
+array-borrow-prefix-queues c = search needs
+
 slice-aggregate-case-4 : tie.Need-slice-aggregate-case-4
-slice-aggregate-case-4 c = search needs
+slice-aggregate-case-4 c = simp length-take (omega arith)
 
 slice-aggregate-case-5 : tie.Need-slice-aggregate-case-5
 slice-aggregate-case-5 c = search needs
+
+slice-aggregate-case-6 : tie.Need-slice-aggregate-case-6
+slice-aggregate-case-6 c = search needs
 
 case-requires : tie.Need-case-requires
 case-requires c κs = search needs
@@ -39,13 +48,16 @@ pub short-matrix-spec : {M : Type 1} → statement M
 short-matrix-spec =
     tie.close
     (tie.spec
-    array-share-prefix-bookings
+    at-requires
+    array-share-prefix-slots
     slice-aggregate-case
-    array-borrow-prefix-credits
+    array-share-prefix-rates
     slice-aggregate-case-2
-    array-borrow-prefix-queues
+    array-borrow-prefix-credits
     slice-aggregate-case-3
+    array-borrow-prefix-queues
     slice-aggregate-case-4
     slice-aggregate-case-5
+    slice-aggregate-case-6
     case-requires
     returns)

@@ -5,6 +5,9 @@ use borrow.Author.Needs.{needs}
 use Rattle.pipelined_test.proofs.short_run.Statement.{statement}
 use Rattle.pipelined_test.proofs.short_run.Tie as tie
 
+at-requires : tie.Need-at-requires
+at-requires c κs = search needs
+
 slice-aggregate-case : tie.Need-slice-aggregate-case
 slice-aggregate-case c = search needs
 
@@ -14,17 +17,20 @@ slice-aggregate-case-2 c = search needs
 slice-aggregate-case-3 : tie.Need-slice-aggregate-case-3
 slice-aggregate-case-3 c = search needs
 
+slice-aggregate-case-4 : tie.Need-slice-aggregate-case-4
+slice-aggregate-case-4 c = search needs
+
 array-borrow-prefix-copy : tie.Need-array-borrow-prefix-copy
 array-borrow-prefix-copy c = search needs
 
-slice-aggregate-case-4 : tie.Need-slice-aggregate-case-4
-slice-aggregate-case-4 c = simp length-take (omega arith)
+slice-aggregate-case-5 : tie.Need-slice-aggregate-case-5
+slice-aggregate-case-5 c = simp length-take (omega arith)
 
 array-borrow-prefix-flight : tie.Need-array-borrow-prefix-flight
 array-borrow-prefix-flight c = search needs
 
-slice-aggregate-case-5 : tie.Need-slice-aggregate-case-5
-slice-aggregate-case-5 c = simp length-take (omega arith)
+slice-aggregate-case-6 : tie.Need-slice-aggregate-case-6
+slice-aggregate-case-6 c = simp length-take (omega arith)
 
 case-requires : tie.Need-case-requires
 case-requires c κs = search needs
@@ -36,12 +42,14 @@ pub short-run-spec : {M : Type 1} → statement M
 short-run-spec =
     tie.close
     (tie.spec
+    at-requires
     slice-aggregate-case
     slice-aggregate-case-2
     slice-aggregate-case-3
-    array-borrow-prefix-copy
     slice-aggregate-case-4
-    array-borrow-prefix-flight
+    array-borrow-prefix-copy
     slice-aggregate-case-5
+    array-borrow-prefix-flight
+    slice-aggregate-case-6
     case-requires
     returns)

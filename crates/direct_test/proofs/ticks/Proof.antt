@@ -1,20 +1,23 @@
--- `slots` is safe: the runs keep their lengths. Assumes nothing.
+-- `ticks` is safe: the runs keep their lengths. Assumes nothing.
 use Prim.Native.Nat.{_-_, _≤_}
 use mathlib.Core.Path.{_≡_}
 use borrow.Author.Needs.{needs}
 use lib.ListN.{length}
-use Rattle.direct_test.proofs.slots.Statement.{statement}
-use Rattle.direct_test.proofs.slots.Tie as tie
+use Rattle.direct_test.proofs.ticks.Statement.{statement}
+use Rattle.direct_test.proofs.ticks.Tie as tie
 
 abbrev Inv-loop : tie.InvT-loop
-Inv-loop name ports frame count bookings credits₀ queues₀ slot₀ credits queues slot =
+Inv-loop name clock count slots rates credits₀ queues₀ slot₀ credits queues slot =
     (slot ≤ count) × (length credits ≡ length credits₀) × (length queues ≡ length queues₀)
 
 abbrev μ-loop : tie.MeasureT-loop
-μ-loop name ports frame count bookings credits₀ queues₀ slot₀ credits queues slot = count - slot
+μ-loop name clock count slots rates credits₀ queues₀ slot₀ credits queues slot = count - slot
 
 loop-holds : tie.Need-loop-holds Inv-loop μ-loop
 loop-holds c = search needs
+
+at-requires : tie.Need-at-requires Inv-loop μ-loop
+at-requires c κs = search needs
 
 case-requires : tie.Need-case-requires Inv-loop μ-loop
 case-requires c κs = search needs
@@ -37,13 +40,14 @@ same-length-2 c = search needs
 returns : tie.Need-returns Inv-loop μ-loop
 returns c = search needs
 
-pub slots-spec : {M : Type 1} → statement M
-slots-spec =
+pub ticks-spec : {M : Type 1} → statement M
+ticks-spec =
     tie.close
     (tie.spec
     Inv-loop
     μ-loop
     loop-holds
+    at-requires
     case-requires
     add-slot
     loop-less
