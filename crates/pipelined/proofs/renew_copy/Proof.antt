@@ -23,7 +23,8 @@ returns : tie.Need-returns
 returns c = λ time place cr q f.
     let w = c .before .before in
     let t = w .before .before .before in
-    copies _ _ _ time _ _ place _ (omega (arith, t .if1 .taken))
+    let line = t .before .before .before .before .args .clock .line in
+    copies _ _ line time _ _ place _ (omega (arith, t .if1 .taken))
     (w .copy-bookings .ensures ∙ sym (bookings-fit _ _ _ _ _ _ (omega arith) (omega arith) (omega arith)))
 
 returns-2 : tie.Need-returns-2
