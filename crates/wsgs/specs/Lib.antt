@@ -7,6 +7,7 @@ pub mod Frames
 pub mod Steps
 pub mod Questions
 pub mod Book
+pub mod Headroom
 pub mod Direct
 pub mod Pipelined
 pub mod Answers

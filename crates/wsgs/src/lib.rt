@@ -38,6 +38,12 @@ pub struct StartResult {
     pub clock: Clock,
 }
 
+// What headroom gives back: the refusal, 0 for none, and the number, 0 beside a refusal.
+pub struct HeadroomResult {
+    pub refusal: u32,
+    pub headroom: i64,
+}
+
 // What a tick gives back: the refusal, 0 for none; the clock afterwards; the output of each input from 1 on, 0 for none; and a word whose bit
 // i - 1 tells that input i was served by pass one.
 pub struct TickResult {
