@@ -14,16 +14,18 @@ use lib.ListN.{getD, List·getD-eq-default}
 use lib.Pow.{pow-mono}
 use Rattle.wsgs.specs.declared.Clock.{Clock}
 use Rattle.wsgs.specs.declared.StartResult.{StartResult}
+use Rattle.wsgs.specs.declared.HeadroomResult.{HeadroomResult}
 use Rattle.wsgs.specs.declared.TickResult.{TickResult}
 use Rattle.wsgs.specs.Basics.{pick, bit, between, Port}
 use Rattle.wsgs.specs.Steps.{Matching, empty-matching, nine-steps, listed, outputs-of, pass-word-of}
 use Rattle.wsgs.specs.Questions.{Outcome, Effect, refused, clock-can-advance}
 use Rattle.wsgs.specs.Bookings.{Book}
 use Rattle.wsgs.specs.Book.{book-effect, rate-effect, release-effect, release-rate-effect, arrive-effect}
+use Rattle.wsgs.specs.Headroom.{headroom-result}
 use Rattle.wsgs.specs.Direct
 use Rattle.wsgs.specs.Pipelined
 use Rattle.wsgs.specs.Answers.{start-effect, tick-effect, start-outcome, tick-outcome, matching-of}
-use Rattle.wsgs.specs.Switch.{Switch, direct, pipelined, start, book, book-rate, release, release-rate, arrive, tick, apply, direct-runs, pipelined-runs, of-direct, of-pipelined, of-book, of-queues}
+use Rattle.wsgs.specs.Switch.{Switch, direct, pipelined, start, book, book-rate, release, release-rate, headroom, arrive, tick, apply, direct-runs, pipelined-runs, of-direct, of-pipelined, of-asking, of-book, of-queues}
 use Rattle.wsgs.specs.Switch as Switches
 use Rattle.wsgs.proofs.Laws.Tests.{between-port}
 use Rattle.wsgs.proofs.Laws.Listed.{listed-length, listed-at}
@@ -163,7 +165,7 @@ module _ (s : Switch) where
   unfolding apply
   start-pipelined n f b e h = ap of-pipelined (ap start-outcome h ∙ pipelined-start-back n f b (s .clock) (pipelined-runs s))
 
-  -- `book::book`, `book::book_rate`, `book::release`, `book::release_rate`, `book::arrive`
+  -- `book::book`, `book::book_rate`, `book::release`, `book::release_rate`
   pub books : (i j d : ℕ) (e : Effect ℕ Book) → e ≡ book-effect (s .clock) (s .book) i j d → of-book s e ≡ apply (book i j d) s
   unfolding apply
   books i j d e h = ap (of-book s) h
@@ -181,6 +183,13 @@ module _ (s : Switch) where
   unfolding apply
   releases-rate i j r e h = ap (of-book s) h
 
+  -- `book::headroom`
+  pub asks-headroom : (i j : ℕ) (e : HeadroomResult) → e ≡ headroom-result (s .clock) (s .book) i j
+      → of-asking s (e .refusal) ≡ apply (headroom i j) s
+  unfolding apply headroom-result
+  asks-headroom i j e h = ap (λ r. of-asking s (r .refusal)) h
+
+  -- `book::arrive`
   pub arrives : (i j d : ℕ) (e : Effect ℕ (List ℕ)) → e ≡ arrive-effect (s .clock) (s .queues) i j d → of-queues s e ≡ apply (arrive i j d) s
   unfolding apply
   arrives i j d e h = ap (of-queues s) h
