@@ -15,7 +15,7 @@
  *
  * There are two forms, and a switch is of one of them from its start on. The direct form schedules each slot in the
  * tick that runs it. The pipelined form spreads the turns for a slot over the 2N ticks before it, one of each pass
- * for each input in each tick. Bookings, releases and arrivals are the same calls for both.
+ * for each input in each tick. Bookings, releases, headroom and arrivals are the same calls for both.
  *
  * BOOKINGS. A pair books by slots or by rate, and may do both. The line rate B, what a line carries when all its slots
  * are used, is given at the start; it and all rates are in kbit/s. A pair's booking, in slots of each frame, is
@@ -50,12 +50,13 @@
  *
  * What the caller must see to, as no call can ask for it: every pointer is to memory that is there in its whole
  * length and is aligned for its type, and none is a null pointer, not even where a length is 0; no two arguments of a
- * call overlap, clock, outputs and first_pass included; and no other thread uses the same memory during a call.
+ * call overlap, clock, headroom, outputs and first_pass included; and no other thread uses the same memory during a
+ * call.
  * Nothing else has to be checked before a call: every number may have any value.
  *
  * REFUSALS. Every call returns 0 if it is accepted, and otherwise the number of the first of these questions, among
  * those that the call has, whose answer is no. After a refused call every lent word has the value that it had before
- * (a start or a tick may have stored it anew); only the answer of a tick is set, to all zeros.
+ * (a start or a tick may have stored it anew); only the answer of a tick is set, to all zeros, and a headroom, to 0.
  */
 #ifndef KIVDRAG_H
 #define KIVDRAG_H
@@ -173,6 +174,21 @@ uint32_t kivdrag_release(const uint32_t clock[4], uint32_t *slots, size_t slots_
 uint32_t kivdrag_release_rate(const uint32_t clock[4], const uint32_t *slots, size_t slots_length,
                               uint32_t *rates, size_t rates_length,
                               uint64_t input, uint64_t output, uint64_t rate);
+
+/*
+ * Answers how far a pair is from the limit of the paper's inequality (2), row + column - a <= F: row is the sum of the
+ * input's bookings, column that of the output's, and a the pair's own booking, which is in both and counts once.
+ *
+ * input and output are 1 to N. slots and rates have N * N words or more.
+ * Sets *headroom to F - (row + column - a), exactly, whatever the words hold, and writes nothing else. Above 0 it is
+ * the number of slots that row + column - a is below F; at 0 they are equal; below 0 the inequality does not hold of
+ * the pair. On a book that accepted calls have made it is below 0 only for pairs whose booking is 0: with F = 3,
+ * row 2, column 2 and a = 0 it is -1. Where the call is refused, *headroom is set to 0.
+ * Refusals: 1, 2 (the clock's ports or frame), 4 (a run is too short), 5 (input or output).
+ */
+uint32_t kivdrag_headroom(const uint32_t clock[4], const uint32_t *slots, size_t slots_length,
+                          const uint32_t *rates, size_t rates_length,
+                          uint64_t input, uint64_t output, int64_t *headroom);
 
 /*
  * Adds packets that arrived at an input for an output to the pair's queue.

@@ -40,6 +40,8 @@ typedef uint32_t StartPipelined(uint64_t, uint64_t, uint64_t, uint32_t *, uint32
                                 uint32_t *, size_t, uint32_t *, size_t, uint32_t *, size_t, uint32_t *, size_t);
 typedef uint32_t OnSlots(const uint32_t *, uint32_t *, size_t, const uint32_t *, size_t, uint64_t, uint64_t, uint64_t);
 typedef uint32_t OnRates(const uint32_t *, const uint32_t *, size_t, uint32_t *, size_t, uint64_t, uint64_t, uint64_t);
+typedef uint32_t Headroom(const uint32_t *, const uint32_t *, size_t, const uint32_t *, size_t, uint64_t, uint64_t,
+                          int64_t *);
 typedef uint32_t OnQueues(const uint32_t *, uint32_t *, size_t, uint64_t, uint64_t, uint64_t);
 typedef uint32_t TickDirect(uint32_t *, const uint32_t *, size_t, const uint32_t *, size_t, uint32_t *, size_t,
                             uint32_t *, size_t, uint8_t *, uint32_t *);
@@ -52,6 +54,7 @@ static OnSlots *const p_book = kivdrag_book;
 static OnRates *const p_book_rate = kivdrag_book_rate;
 static OnSlots *const p_release = kivdrag_release;
 static OnRates *const p_release_rate = kivdrag_release_rate;
+static Headroom *const p_headroom = kivdrag_headroom;
 static OnQueues *const p_arrive = kivdrag_arrive;
 static TickDirect *const p_tick_direct = kivdrag_tick_direct;
 static TickPipelined *const p_tick_pipelined = kivdrag_tick_pipelined;
@@ -64,6 +67,7 @@ typedef enum {
     BOOK_RATE,
     RELEASE,
     RELEASE_RATE,
+    HEADROOM,
     ARRIVE,
     TICK_DIRECT,
     TICK_PIPELINED,
@@ -87,6 +91,7 @@ static const struct {
     {"kivdrag_book_rate", ON_PAIR | BIT(KIVDRAG_REFUSED_INPUT) | BIT(KIVDRAG_REFUSED_OUTPUT)},
     {"kivdrag_release", ON_PAIR | BIT(KIVDRAG_REFUSED_RELEASE)},
     {"kivdrag_release_rate", ON_PAIR | BIT(KIVDRAG_REFUSED_RELEASE)},
+    {"kivdrag_headroom", ON_SWITCH | BIT(KIVDRAG_REFUSED_PAIR)},
     {"kivdrag_arrive", ON_PAIR | BIT(KIVDRAG_REFUSED_QUEUE)},
     {"kivdrag_tick_direct", ON_SWITCH | BIT(KIVDRAG_REFUSED_CLOCK)},
     {"kivdrag_tick_pipelined", ON_SWITCH | BIT(KIVDRAG_REFUSED_PIPELINE) | BIT(KIVDRAG_REFUSED_CLOCK)},
@@ -109,6 +114,7 @@ typedef struct {
     uint32_t flight[KIVDRAG_FLIGHT_WORDS(MOST) + BEYOND];
     uint8_t outputs[KIVDRAG_PORTS_MAX];
     uint32_t first_pass;
+    int64_t headroom;
 } Memory;
 
 static Memory is, should;
@@ -140,6 +146,9 @@ static uint32_t by_position(Function called, const Numbers *n) {
     case RELEASE_RATE:
         return p_release_rate(is.clock, is.slots, lengths.slots, is.rates, lengths.rates,
                               n->input, n->output, n->rate);
+    case HEADROOM:
+        return p_headroom(is.clock, is.slots, lengths.slots, is.rates, lengths.rates, n->input, n->output,
+                          &is.headroom);
     case ARRIVE:
         return p_arrive(is.clock, is.queues, lengths.queues, n->input, n->output, n->packets);
     case TICK_DIRECT:
@@ -178,6 +187,7 @@ static uint32_t by_name(Function called, const Numbers *n) {
     uint32_t *lent[] = {is.slots, is.rates, is.credits, is.queues, is.copy, is.flight, &is.first_pass};
     uint32_t **slots = &lent[0], **rates = &lent[1], **credits = &lent[2], **queues = &lent[3];
     uint32_t **copy = &lent[4], **flight = &lent[5], **first_pass = &lent[6];
+    int64_t *lent_headroom = &is.headroom, **headroom = &lent_headroom;
     clock[4] = is.clock;
     outputs[32] = is.outputs;
 
@@ -185,6 +195,7 @@ static uint32_t by_name(Function called, const Numbers *n) {
 #define uint8_t
 #define uint32_t
 #define uint64_t
+#define int64_t
 #define size_t
 #define const
 #define kivdrag_start_direct(...) if (called == START_DIRECT) refusal = kivdrag_start_direct(__VA_ARGS__)
@@ -193,6 +204,7 @@ static uint32_t by_name(Function called, const Numbers *n) {
 #define kivdrag_book_rate(...) if (called == BOOK_RATE) refusal = kivdrag_book_rate(__VA_ARGS__)
 #define kivdrag_release(...) if (called == RELEASE) refusal = kivdrag_release(__VA_ARGS__)
 #define kivdrag_release_rate(...) if (called == RELEASE_RATE) refusal = kivdrag_release_rate(__VA_ARGS__)
+#define kivdrag_headroom(...) if (called == HEADROOM) refusal = kivdrag_headroom(__VA_ARGS__)
 #define kivdrag_arrive(...) if (called == ARRIVE) refusal = kivdrag_arrive(__VA_ARGS__)
 #define kivdrag_tick_direct(...) if (called == TICK_DIRECT) refusal = kivdrag_tick_direct(__VA_ARGS__)
 #define kivdrag_tick_pipelined(...) if (called == TICK_PIPELINED) refusal = kivdrag_tick_pipelined(__VA_ARGS__)
@@ -200,6 +212,7 @@ static uint32_t by_name(Function called, const Numbers *n) {
 #undef uint8_t
 #undef uint32_t
 #undef uint64_t
+#undef int64_t
 #undef size_t
 #undef const
 
@@ -213,13 +226,12 @@ static const char *made = "by position";
 static unsigned met[FUNCTIONS];
 static unsigned long calls;
 
-static void differs(int line, const char *call, const char *what, size_t place, unsigned long value,
-                    unsigned long wanted) {
+static void differs(int line, const char *call, const char *what, size_t place, long long value, long long wanted) {
     printf("tests/header_test.c:%d: %s, arguments %s: %s", line, call, made, what);
     if (place != SIZE_MAX) {
         printf("[%lu]", (unsigned long)place);
     }
-    printf(" is %lu, should be %lu\n", value, wanted);
+    printf(" is %lld, should be %lld\n", value, wanted);
     exit(1);
 }
 
@@ -289,6 +301,10 @@ static Call release_rate(uint64_t input, uint64_t output, uint64_t rate) {
     return c;
 }
 
+static Call headroom(uint64_t input, uint64_t output) {
+    return call_of(HEADROOM, input, output);
+}
+
 static Call arrive(uint64_t input, uint64_t output, uint64_t packets) {
     Call c = call_of(ARRIVE, input, output);
     c.numbers.packets = packets;
@@ -303,8 +319,18 @@ static Call tick_pipelined(void) {
     return call_of(TICK_PIPELINED, UINT64_MAX, UINT64_MAX);
 }
 
-/* Makes a call: its answer is as given, and every word is as it should be. A refused tick answers with zeros. */
+/* What is in *headroom before a call that sets it. */
+#define UNSET (-0x5A5A5A5A5A5A5A5B)
+
+/* Makes a call: its answer is as given, and every word is as it should be. A refused tick answers with zeros, and a
+   refused headroom is 0. */
 static void check(int line, const char *call, uint32_t wanted, Call c) {
+    if (c.function == HEADROOM) {
+        is.headroom = UNSET;
+        if (wanted != KIVDRAG_ACCEPTED) {
+            should.headroom = 0;
+        }
+    }
     if (wanted != KIVDRAG_ACCEPTED && (c.function == TICK_DIRECT || c.function == TICK_PIPELINED)) {
         memset(should.outputs, 0, sizeof should.outputs);
         should.first_pass = 0;
@@ -327,6 +353,9 @@ static void check(int line, const char *call, uint32_t wanted, Call c) {
     }
     if (is.first_pass != should.first_pass) {
         differs(line, call, "*first_pass", SIZE_MAX, is.first_pass, should.first_pass);
+    }
+    if (is.headroom != should.headroom) {
+        differs(line, call, "*headroom", SIZE_MAX, is.headroom, should.headroom);
     }
     met[c.function] |= BIT(refusal);
     calls++;
@@ -393,6 +422,7 @@ static void fresh(size_t ports) {
     FILL(flight, 6000000);
     memset(is.outputs, 0xA5, sizeof is.outputs);
     is.first_pass = 0xA5A5A5A5;
+    is.headroom = UNSET;
     should = is;
     lengths.slots = KIVDRAG_PAIR_WORDS(ports) + 1;
     lengths.rates = KIVDRAG_PAIR_WORDS(ports) + 2;
@@ -499,7 +529,7 @@ static void started(uint32_t ports, uint32_t frame, uint32_t line, int pipelined
     }
 }
 
-/* accepted bookings, releases and arrivals, and the word that each changes */
+/* accepted bookings, releases and arrivals, and the word that each changes; and a headroom */
 static void check_book(uint32_t i, uint32_t j, uint32_t amount) {
     should.slots[at(i, j)] += amount;
     CHECK(KIVDRAG_ACCEPTED, book(i, j, amount));
@@ -524,6 +554,13 @@ static void check_arrive(uint32_t i, uint32_t j, uint32_t packets) {
     should.queues[at(i, j)] += packets;
     CHECK(KIVDRAG_ACCEPTED, arrive(i, j, packets));
 }
+
+static void check_headroom(int line, const char *call, Call c, int64_t wanted) {
+    should.headroom = wanted;
+    check(line, call, KIVDRAG_ACCEPTED, c);
+}
+
+#define CHECK_HEADROOM(wanted, i, j) check_headroom(__LINE__, "headroom(" #i ", " #j ")", headroom(i, j), (wanted))
 
 /* On a switch of 3 ports, frames of 7 slots, of which a line can sell 4, and lines of 7,000: a slot carries 1,000. */
 static void bookings_by_slots(int pipelined) {
@@ -657,6 +694,65 @@ static void line_rates(int pipelined) {
     SET(clock[KIVDRAG_CLOCK_LINE], TOP_LINE);
     check_release_rate(1, 1, TOP_LINE);
     check_book_rate(1, 1, 1);
+}
+
+/* Headroom, with frames of 3 slots and lines of 1,000: F - (row + column - a). */
+static void headrooms(int pipelined) {
+    started(3, 3, 1000, pipelined);
+    CHECK_HEADROOM(3, 1, 1);
+    CHECK_HEADROOM(3, 3, 2);
+    check_book(1, 2, 2);
+    CHECK_HEADROOM(1, 1, 2); /* row 2, column 2, a 2: the pair's own booking counts once */
+    CHECK_HEADROOM(1, 1, 1); /* row 2, column 0 */
+    CHECK_HEADROOM(1, 3, 2); /* row 0, column 2 */
+    CHECK_HEADROOM(3, 2, 1);
+    check_book_rate(2, 1, 333); /* 1 slot */
+    CHECK_HEADROOM(0, 1, 1);    /* row 2, column 1 */
+    CHECK_HEADROOM(0, 2, 2);    /* row 1, column 2 */
+    CHECK_HEADROOM(2, 2, 1);
+    check_book_rate(2, 1, 1); /* 2 slots */
+    CHECK_HEADROOM(-1, 1, 1); /* row 2, column 2, a 0 */
+    CHECK_HEADROOM(-1, 2, 2);
+    CHECK_HEADROOM(1, 2, 1);
+    CHECK_HEADROOM(1, 2, 3);
+    CHECK_HEADROOM(1, 3, 1);
+    CHECK_HEADROOM(3, 3, 3);
+    check_release_rate(2, 1, 1);
+    CHECK_HEADROOM(0, 1, 1);
+    check_release(1, 2, 1);
+    check_book(1, 1, 1);
+    CHECK_HEADROOM(0, 1, 1); /* row 2, column 2, a 1 */
+    check_release(1, 2, 1);
+    CHECK_HEADROOM(1, 1, 1); /* row 1, column 2, a 1 */
+    CHECK_HEADROOM(2, 1, 2);
+
+    /* of several refusals the first is given */
+    CHECK_CLOCK(headroom(1, 1));
+    lengths.slots = lengths.rates = 8;
+    CHECK_CLOCK(headroom(0, 4));
+    CHECK(KIVDRAG_REFUSED_RUNS, headroom(0, 4));
+    lengths.slots = lengths.rates = 9;
+    CHECK_HEADROOM(1, 1, 1);
+    CHECK_SHORT(slots, 9, headroom(1, 1));
+    CHECK_SHORT(rates, 9, headroom(1, 1));
+    CHECK_SHORT(slots, 9, headroom(0, 1));
+    CHECK_SHORT(rates, 9, headroom(1, 4));
+    CHECK(KIVDRAG_REFUSED_PAIR, headroom(0, 1));
+    CHECK(KIVDRAG_REFUSED_PAIR, headroom(4, 1));
+    CHECK(KIVDRAG_REFUSED_PAIR, headroom(1, 0));
+    CHECK(KIVDRAG_REFUSED_PAIR, headroom(1, 4));
+    CHECK(KIVDRAG_REFUSED_PAIR, headroom(((uint64_t)1 << 32) + 1, 1));
+    CHECK(KIVDRAG_REFUSED_PAIR, headroom(1, UINT64_MAX));
+
+    /* nothing else is asked: not the last slot run, the line rate, nor a frame below the ports */
+    SET(clock[KIVDRAG_CLOCK_SLOT], UINT32_MAX);
+    CHECK_HEADROOM(1, 1, 1);
+    SET(clock[KIVDRAG_CLOCK_LINE], UINT32_MAX);
+    CHECK_HEADROOM(1, 1, 1); /* the rate is 1 slot still */
+    SET(clock[KIVDRAG_CLOCK_LINE], 0);
+    CHECK_HEADROOM(2, 1, 1); /* and now none */
+    SET(clock[KIVDRAG_CLOCK_FRAME], 2);
+    CHECK_HEADROOM(1, 1, 1);
 }
 
 static void arrivals(int pipelined) {
@@ -878,6 +974,35 @@ static void most_ports(void) {
     CHECK(KIVDRAG_ACCEPTED, tick_pipelined());
 }
 
+/* Headrooms of 32 ports and of words such as no calls leave, up to a row and a column of 32 times the largest word. */
+static void most_headroom(void) {
+    started(32, 10000, TOP_LINE, 0);
+    CHECK_HEADROOM(10000, 32, 32);
+    SET(slots[at(32, 32)], UINT32_MAX);
+    CHECK_HEADROOM(10000 - (int64_t)UINT32_MAX, 32, 32);
+    CHECK_HEADROOM(10000 - (int64_t)UINT32_MAX, 32, 1);
+    CHECK_HEADROOM(10000, 31, 31);
+    SET(slots[at(1, 1)], UINT32_MAX);
+    CHECK_HEADROOM(10000 - 2 * (int64_t)UINT32_MAX, 32, 1);
+    SET(rates[at(32, 32)], UINT32_MAX); /* a booking counts as the largest word at most */
+    CHECK_HEADROOM(10000 - (int64_t)UINT32_MAX, 32, 32);
+
+    for (size_t p = 0; p < KIVDRAG_PAIR_WORDS(32); p++) {
+        SET(slots[p], UINT32_MAX);
+        SET(rates[p], UINT32_MAX);
+    }
+    CHECK_HEADROOM(10000 - 63 * (int64_t)UINT32_MAX, 1, 1);
+    CHECK_HEADROOM(10000 - 63 * (int64_t)UINT32_MAX, 17, 5);
+    CHECK_HEADROOM(10000 - 63 * (int64_t)UINT32_MAX, 32, 32);
+    SET(clock[KIVDRAG_CLOCK_FRAME], 1);
+    CHECK_HEADROOM(1 - 63 * (int64_t)UINT32_MAX, 32, 32);
+    SET(slots[at(32, 32)], 0);
+    SET(rates[at(32, 32)], 0);
+    CHECK_HEADROOM(1 - 62 * (int64_t)UINT32_MAX, 32, 32);
+    CHECK_HEADROOM(1 - 62 * (int64_t)UINT32_MAX, 32, 1);
+    CHECK_HEADROOM(1 - 63 * (int64_t)UINT32_MAX, 1, 1);
+}
+
 /*
  * WHAT A CALL TAKES AS CONST is not written, not even with the value that it has: here it stands in memory that cannot
  * be written, so that a store ends the program. Two ports, frames of 3 slots, of which a line can sell 2, and lines of
@@ -905,6 +1030,9 @@ static void calls_on_const(void) {
     EXPECT(KIVDRAG_REFUSED_INPUT, p_book_rate(const_clock, const_slots, 4, rates, 4, 1, 1, 1));
     EXPECT(KIVDRAG_ACCEPTED, p_release_rate(const_clock, const_slots, 4, rates, 4, 1, 1, 333));
     EXPECT(KIVDRAG_REFUSED_RELEASE, p_release_rate(const_clock, const_slots, 4, rates, 4, 1, 2, 1));
+    int64_t headroom = UNSET;
+    EXPECT(KIVDRAG_ACCEPTED, p_headroom(const_clock, const_slots, 4, const_rates, 4, 1, 1, &headroom));
+    EXPECT(KIVDRAG_REFUSED_PAIR, p_headroom(const_clock, const_slots, 4, const_rates, 4, 0, 1, &headroom));
     EXPECT(KIVDRAG_ACCEPTED, p_arrive(const_clock, queues, 4, 1, 1, 1));
     EXPECT(KIVDRAG_REFUSED_AMOUNT, p_arrive(const_clock, queues, 4, 1, 1, 0));
 }
@@ -938,12 +1066,14 @@ static void all(void) {
         bookings_by_rate(pipelined);
         small_streams(pipelined);
         line_rates(pipelined);
+        headrooms(pipelined);
         arrivals(pipelined);
     }
     direct_ticks();
     large_bookings();
     pipelined_ticks();
     most_ports();
+    most_headroom();
     for (int f = 0; f < FUNCTIONS; f++) {
         if (met[f] != listed[f].answers) {
             differs(__LINE__, listed[f].name, "the set of answers met, as bits,", SIZE_MAX, met[f], listed[f].answers);
