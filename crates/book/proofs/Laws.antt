@@ -1,6 +1,8 @@
--- Laws of places, sums, amounts, pairs in reach and calls.
+-- Laws of places, sums, differences, amounts, pairs in reach and calls.
 pub mod Places
 pub mod Sums
+pub mod Differences
 pub mod Reach
+pub mod Headrooms
 pub mod Amounts
 pub mod Calls

@@ -1,10 +1,12 @@
-// The book and the arrivals of a switch: booking by slots and by rate, release of either, and arrival.
+// The book and the arrivals of a switch: booking by slots and by rate, release of either, headroom, and arrival.
 ghost use mathlib.Core.Path.{_≡_};
 ghost use Rattle.wsgs.specs.Questions.{effect};
 ghost use Rattle.wsgs.specs.Bookings.{book-of};
+ghost use Rattle.wsgs.specs.Headroom.{headroom-result};
 ghost use Rattle.wsgs.specs.Book.{book-effect, rate-effect, release-effect, release-rate-effect, arrive-effect};
 
 mod admission;
+mod headrooms;
 mod pairs;
 mod queues;
 mod rates;
@@ -13,6 +15,7 @@ mod sums;
 use admission::admit_rate;
 use admission::admit_slots;
 use admission::withdraw;
+use headrooms::pair_headroom;
 use questions::holds_book;
 use questions::holds_pairs;
 use questions::is_between;
@@ -21,6 +24,7 @@ use queues::enqueue;
 use rates::rate_in_range;
 use wsgs::BookedSlots;
 use wsgs::Clock;
+use wsgs::HeadroomResult;
 use wsgs::Input;
 use wsgs::MAX_ARRIVAL;
 use wsgs::Output;
@@ -115,6 +119,32 @@ pub fn release_rate(
         return 6;
     }
     withdraw(clock.ports as u64, rates, input, output, rate)
+}
+
+// How far a pair is from inequality (2) of the paper: F less the bookings of its row and its column, its own counted once.
+pub fn headroom(
+    clock: Clock,
+    slots: &[u32],
+    rates: &[u32],
+    input: Input,
+    output: Output,
+) -> HeadroomResult
+    ensures result { λ r. ⌜ r
+        ≡ headroom-result clock (book-of (now (slots .entry)) (now (rates .entry))) (input .0) (output .0) ⌝ }
+{
+    let enough = holds_book(clock.ports as u64, slots, rates);
+    let refusal = pair_refusal(clock, enough, input, output);
+    if refusal != 0 {
+        return HeadroomResult {
+            refusal: refusal,
+            headroom: 0,
+        };
+    }
+    let number = pair_headroom(clock, slots, rates, input, output);
+    HeadroomResult {
+        refusal: 0,
+        headroom: number,
+    }
 }
 
 // Adds packets that arrived to a pair's queue.

@@ -13,7 +13,13 @@ use wsgs::Input;
 use wsgs::Output;
 
 // What a pair has booked.
-fn booked(clock: Clock, slots: &[u32], rates: &[u32], input: Input, output: Output) -> BookedSlots
+pub fn booked(
+    clock: Clock,
+    slots: &[u32],
+    rates: &[u32],
+    input: Input,
+    output: Output,
+) -> BookedSlots
     requires book_fits { ⌜ BookFits (clock .ports) (book-of (now slots) (now rates)) ⌝ }
     requires input_in_range { ⌜ Port (clock .ports) (input .0) ⌝ }
     requires output_in_range { ⌜ Port (clock .ports) (output .0) ⌝ }
