@@ -3,7 +3,7 @@
 
 use crate::{rules, Random};
 use second::ledger::Ledger;
-use second::{Answer, Form, Switch, Words};
+use second::{Answer, Form, Run, Switch, Words};
 
 pub mod exported {
     extern "C" {
@@ -28,6 +28,10 @@ pub mod exported {
         pub fn kivdrag_release_rate(
             clock: *const u32, slots: *const u32, slots_len: usize, rates: *mut u32, rates_len: usize, input: u64, output: u64, rate: u64,
         ) -> u32;
+        pub fn kivdrag_headroom(
+            clock: *const u32, slots: *const u32, slots_len: usize, rates: *const u32, rates_len: usize, input: u64, output: u64,
+            headroom: *mut i64,
+        ) -> u32;
         pub fn kivdrag_arrive(clock: *const u32, queues: *mut u32, queues_len: usize, input: u64, output: u64, packets: u64) -> u32;
         pub fn kivdrag_tick_direct(
             clock: *mut u32, slots: *const u32, slots_len: usize, rates: *const u32, rates_len: usize, credits: *mut u32, credits_len: usize,
@@ -46,6 +50,23 @@ use exported::*;
 /// The numbers that a caller brings, in the call's order; 0 for those that it has not.
 pub type Arguments = [u64; 3];
 
+/// What a call gives back: the refusal, a tick's pairs and passes, and a headroom; 0 for what it has not.
+#[derive(Clone, Copy, Debug, PartialEq, Eq)]
+pub struct Reply {
+    pub answer: Answer,
+    pub headroom: i64,
+}
+
+impl Reply {
+    pub fn refusal(&self) -> u32 {
+        self.answer.refusal
+    }
+
+    pub fn refused(refusal: u32) -> Reply {
+        Reply { answer: Answer::refused(refusal), headroom: 0 }
+    }
+}
+
 pub struct Call {
     pub name: &'static str,
     /// the form that it belongs to, none for a call of both
@@ -58,8 +79,8 @@ pub struct Call {
     pub any: fn(&mut Random, &Switch) -> Arguments,
     /// its arguments in a list, in which much arrives (films) or little
     pub listed: fn(&mut Random, &Switch, bool) -> Arguments,
-    pub by_library: fn(&mut Switch, Form, Arguments) -> Answer,
-    pub by_second: fn(&mut Switch, Form, Arguments) -> Answer,
+    pub by_library: fn(&mut Switch, Form, Arguments) -> Reply,
+    pub by_second: fn(&mut Switch, Form, Arguments) -> Reply,
     /// what it makes of the ledgers, one for each accepted start
     pub noted: fn(&mut Vec<Ledger>, Form, Answer, Arguments),
 }
@@ -68,7 +89,7 @@ pub struct Call {
 pub const MOST_LISTED: u64 = 9;
 
 /// Of the calls of a form its start is the first.
-pub static CALLS: [Call; 9] = [
+pub static CALLS: [Call; 10] = [
     Call {
         name: "start_direct",
         form: Some(Form::Direct),
@@ -190,6 +211,36 @@ pub static CALLS: [Call; 9] = [
         noted: |l, _, a, [i, j, rate]| latest(l).release_rate(a.refusal, i, j, rate),
     },
     Call {
+        name: "headroom",
+        form: None,
+        questions: &[1, 2, 4, 5],
+        weights: [6, 40],
+        any: |r, s| {
+            let run = r.of(&[Run::Slots, Run::Rates]);
+            let (i, j) = any_pair(r, s, s.words.run(run));
+            [i, j, 0]
+        },
+        // a pair that holds something, or the input of one with the output of another; seldom one that the switch has not
+        listed: |r, s, _| {
+            let (i, own) = pair(r, s, &s.words.slots);
+            let (_, other) = pair(r, s, &s.words.rates);
+            let (j, far) = (r.of(&[own, other]), r.of(&[0, s.n() + 1]));
+            if r.one_in(20) { r.of(&[[i, far, 0], [far, j, 0]]) } else { [i, j, 0] }
+        },
+        by_library: |s, _, [i, j, _]| {
+            let mut headroom = 0xA5A5_A5A5_A5A5_A5A5_u64 as i64;
+            let reply = lent(s, |clock, w| unsafe {
+                kivdrag_headroom(clock, w.slots.as_ptr(), w.slots.len(), w.rates.as_ptr(), w.rates.len(), i, j, &mut headroom)
+            });
+            Reply { headroom, ..reply }
+        },
+        by_second: |s, _, [i, j, _]| {
+            let (refusal, headroom) = s.headroom(i, j);
+            Reply { headroom, ..number(refusal) }
+        },
+        noted: |_, _, _, _| (),
+    },
+    Call {
         name: "arrive",
         form: None,
         questions: &[1, 2, 4, 5, 6, 11],
@@ -219,7 +270,7 @@ pub static CALLS: [Call; 9] = [
                 )
             })
         },
-        by_second: |s, _, _| s.tick_direct(),
+        by_second: |s, _, _| Reply { answer: s.tick_direct(), headroom: 0 },
         noted: |l, _, a, _| latest(l).tick(a),
     },
     Call {
@@ -237,18 +288,18 @@ pub static CALLS: [Call; 9] = [
                 )
             })
         },
-        by_second: |s, _, _| s.tick_pipelined(),
+        by_second: |s, _, _| Reply { answer: s.tick_pipelined(), headroom: 0 },
         noted: |l, _, a, _| latest(l).tick(a),
     },
 ];
 
-/// The answer of a call that gives a number alone.
-fn number(refusal: u32) -> Answer {
-    Answer { refusal, ..Answer::nobody() }
+/// The reply of a call that gives a number alone.
+fn number(refusal: u32) -> Reply {
+    Reply { answer: Answer { refusal, ..Answer::nobody() }, headroom: 0 }
 }
 
 /// A call of the library on a switch: its clock is lent as words and read back, even where the library is not to write it.
-fn lent(s: &mut Switch, call: impl FnOnce(*mut u32, &mut Words) -> u32) -> Answer {
+fn lent(s: &mut Switch, call: impl FnOnce(*mut u32, &mut Words) -> u32) -> Reply {
     let mut clock = [s.clock.ports, s.clock.frame, s.clock.last, s.clock.line];
     let refusal = call(clock.as_mut_ptr(), &mut s.words);
     [s.clock.ports, s.clock.frame, s.clock.last, s.clock.line] = clock;
@@ -256,10 +307,10 @@ fn lent(s: &mut Switch, call: impl FnOnce(*mut u32, &mut Words) -> u32) -> Answe
 }
 
 /// The same where a matching and a pass word are answered; what they held before must not matter.
-fn lent_with_answer(s: &mut Switch, call: impl FnOnce(*mut u32, &mut Words, *mut u8, *mut u32) -> u32) -> Answer {
+fn lent_with_answer(s: &mut Switch, call: impl FnOnce(*mut u32, &mut Words, *mut u8, *mut u32) -> u32) -> Reply {
     let (mut outputs, mut first) = ([0xA5; 32], 0xA5A5_A5A5);
-    let answer = lent(s, |clock, w| call(clock, w, outputs.as_mut_ptr(), &mut first));
-    Answer { outputs, first, ..answer }
+    let refusal = lent(s, |clock, w| call(clock, w, outputs.as_mut_ptr(), &mut first)).refusal();
+    Reply { answer: Answer { refusal, outputs, first }, headroom: 0 }
 }
 
 /// An accepted start begins a ledger.

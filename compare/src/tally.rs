@@ -1,9 +1,9 @@
 //! What happened at the calls of a test, and how often: a test that compares much and meets little says nothing.
 
-use crate::calls::Call;
+use crate::calls::{Arguments, Call, Reply};
 use second::book::{Book, MOST};
 use second::switch::MAX_LINE_RATE;
-use second::{Answer, Form, Switch};
+use second::{Form, Switch};
 use std::collections::BTreeMap;
 
 #[derive(Clone, Copy, Debug, PartialEq, Eq, PartialOrd, Ord)]
@@ -16,6 +16,29 @@ pub enum Event {
     ReadRates(Line),
     /// it read a booking that is above what a word holds
     ReadAboveWord,
+    /// it told a headroom of this kind, of a pair with a booking or of one without
+    Told { booked: bool, headroom: Headroom },
+}
+
+#[derive(Clone, Copy, Debug, PartialEq, Eq, PartialOrd, Ord)]
+pub enum Headroom {
+    /// row and column are 32 times the largest word
+    Lowest,
+    /// below what 32 bits and a sign hold
+    FarBelowZero,
+    BelowZero,
+    Zero,
+    AboveZero,
+}
+
+fn kind_of(headroom: i64, frame: u64) -> Headroom {
+    match headroom {
+        h if h == frame as i64 - 63 * MOST as i64 => Headroom::Lowest,
+        h if h < -(1 << 32) => Headroom::FarBelowZero,
+        h if h < 0 => Headroom::BelowZero,
+        0 => Headroom::Zero,
+        _ => Headroom::AboveZero,
+    }
 }
 
 #[derive(Clone, Copy, Debug, PartialEq, Eq, PartialOrd, Ord)]
@@ -56,11 +79,14 @@ impl Tally {
         self.0.get(&(name, event)).copied().unwrap_or(0)
     }
 
-    /// A call, with the switch that it found and the switch that it left.
-    pub fn note(&mut self, call: &Call, form: Form, before: &Switch, after: &Switch, answer: Answer) {
-        self.add(call, Event::Gave(answer.refusal));
-        if answer.refusal != 0 {
+    /// A call, with its arguments, the switch that it found, the switch that it left, and its reply.
+    pub fn note(&mut self, call: &Call, form: Form, [i, j, _]: Arguments, before: &Switch, after: &Switch, reply: Reply) {
+        self.add(call, Event::Gave(reply.refusal()));
+        if reply.refusal() != 0 {
             return;
+        }
+        if call.name == "headroom" {
+            self.add(call, Event::Told { booked: bookings(before).pair(i, j) > 0, headroom: kind_of(reply.headroom, before.f()) });
         }
         if call.form.is_none() && before.words.rates != after.words.rates && bookings(before) == bookings(after) {
             self.add(call, Event::NoBookingChanged);

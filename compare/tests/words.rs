@@ -1,11 +1,12 @@
 //! The proved library beside the second program: after every call the result, the clock and every lent word are compared, refused calls too.
 //! KIVDRAG_SEED, KIVDRAG_CALLS and KIVDRAG_LISTS set another seed and other counts.
 
-use compare::calls::{Arguments, Call, CALLS, MOST_LISTED};
-use compare::tally::{Event, Line, Tally};
+use compare::calls::{Arguments, Call, Reply, CALLS, MOST_LISTED};
+use compare::tally::{Event, Headroom, Line, Tally};
 use compare::{rules, setting, Random};
+use second::ledger::Ledger;
 use second::switch::{used, EVERY_RUN};
-use second::{Answer, Clock, Form, Run, Switch, Words};
+use second::{Clock, Form, Run, Switch, Words};
 
 const FORMS: [Form; 2] = [Form::Direct, Form::Pipelined];
 
@@ -22,19 +23,24 @@ fn drawn(r: &mut Random, form: Form, weight: fn(&Call) -> u64) -> &'static Call 
         .expect("at is at most the sum")
 }
 
+/// The call of this name.
+fn named(name: &str) -> &'static Call {
+    CALLS.iter().find(|call| call.name == name).expect("a call of this name")
+}
+
 /// One call on both; they must agree on all of it.
-fn both(call: &Call, form: Form, arguments: Arguments, s: &mut Switch, tally: &mut Tally) -> Answer {
+fn both(call: &Call, form: Form, arguments: Arguments, s: &mut Switch, tally: &mut Tally) -> Reply {
     let (before, mut other) = (s.clone(), s.clone());
-    let answer = (call.by_library)(s, form, arguments);
+    let reply = (call.by_library)(s, form, arguments);
     let expected = (call.by_second)(&mut other, form, arguments);
     let said = || format!("{} {form:?} {arguments:?} on {before:?}", call.name);
-    assert_eq!(answer, expected, "{}", said());
+    assert_eq!(reply, expected, "{}", said());
     assert_eq!(*s, other, "{}", said());
-    if answer.refusal != 0 {
-        assert_eq!((&*s, answer), (&before, Answer::refused(answer.refusal)), "refused: {}", said());
+    if reply.refusal() != 0 {
+        assert_eq!((&*s, reply), (&before, Reply::refused(reply.refusal())), "refused: {}", said());
     }
-    tally.note(call, form, &before, s, answer);
-    answer
+    tally.note(call, form, arguments, &before, s, reply);
+    reply
 }
 
 /// Words of every kind: none, few, many, and those around what a word in flight may hold.
@@ -91,12 +97,16 @@ fn near_limits(r: &mut Random, clock: &Clock, run: Run, length: usize) -> Vec<u3
 fn any_switch(r: &mut Random) -> Switch {
     let mut s = Switch { rules: rules(), clock: any_clock(r), words: Words::default() };
     let n = s.n().min(40);
-    let limits = r.one_in(2);
+    let kind = r.within(1, 20);
     for run in EVERY_RUN {
         let words = most_used(n, run);
-        let length = if r.one_in(40) { words.saturating_sub(1) } else { words + r.of(&[0, 0, 1, 5]) };
-        let of_book = matches!(run, Run::Slots | Run::Rates);
-        *s.words.run_mut(run) = if limits && of_book { near_limits(r, &s.clock, run, length) } else { any_run(r, n, length) };
+        let short = words.saturating_sub(1);
+        let length = if r.one_in(40) { r.of(&[short, short, short / 2, 0]) } else { words + r.of(&[0, 0, 1, 5]) };
+        *s.words.run_mut(run) = match (run, kind) {
+            (Run::Slots | Run::Rates, 1..=10) => near_limits(r, &s.clock, run, length),
+            (Run::Slots | Run::Rates, 11) => vec![u32::MAX; length],
+            _ => any_run(r, n, length),
+        };
     }
     s
 }
@@ -126,7 +136,12 @@ fn any_words_and_any_clock() {
     }
 }
 
-/// Every call gave every number that it has, and often; rates changed without their bookings, and were read with line rates of every kind.
+fn told(booked: bool, headroom: Headroom) -> Event {
+    Event::Told { booked, headroom }
+}
+
+/// Every call gave every number that it has, and often; rates changed without their bookings, and were read with line rates of every kind; and
+/// headrooms were of every kind, the lowest of all too.
 fn enough_is_met(tally: &Tally) {
     for call in &CALLS {
         [0].iter().chain(call.questions).for_each(|&number| tally.at_least_one_in(100, call.name, Event::Gave(number)));
@@ -140,6 +155,12 @@ fn enough_is_met(tally: &Tally) {
         }
         tally.at_least_one_in(3_000, name, Event::ReadAboveWord);
     }
+    for booked in [true, false] {
+        for headroom in [Headroom::FarBelowZero, Headroom::BelowZero, Headroom::Zero, Headroom::AboveZero] {
+            tally.at_least_one_in(2_000, "headroom", told(booked, headroom));
+        }
+    }
+    tally.at_least_one_in(3_000, "headroom", told(true, Headroom::Lowest));
 }
 
 /// A switch of one pair before its first slot.
@@ -153,13 +174,16 @@ fn one_pair(frame: u32, line: u32, slots: u32, rate: u32) -> Switch {
     s
 }
 
-/// Every call on the book with every amount that is in range and one on either side, and both readings of the book.
+/// Every call on the book with every amount that is in range and one on either side, the headrooms, and both readings of the book.
 fn every_amount(s: &Switch, tally: &mut Tally) {
     for (name, most) in [("book", s.clock.frame), ("release", s.clock.frame), ("book_rate", s.clock.line), ("release_rate", s.clock.line)] {
-        let call = CALLS.iter().find(|call| call.name == name).expect("a call of this name");
+        let call = named(name);
         for amount in 0..=most as u64 + 1 {
             both(call, Form::Direct, [1, 1, amount], &mut s.clone(), tally);
         }
+    }
+    for pair in [[1, 1, 0], [0, 1, 0], [1, 2, 0]] {
+        both(named("headroom"), Form::Direct, pair, &mut s.clone(), tally);
     }
     for form in FORMS {
         let tick = CALLS.iter().find(|call| call.form == Some(form) && call.name.starts_with("tick")).expect("the form's tick");
@@ -183,14 +207,26 @@ fn every_small_book() {
     for name in ["book_rate", "release_rate"] {
         tally.at_least_one_in(50, name, Event::NoBookingChanged);
     }
+    for headroom in [Headroom::BelowZero, Headroom::Zero, Headroom::AboveZero] {
+        tally.at_least_one_in(50, "headroom", told(true, headroom));
+    }
+}
+
+/// A headroom in a list of calls, which is at least 0 where the ledger has a booking of the pair; tells whether it has.
+fn headroom_in_list(form: Form, arguments: Arguments, s: &mut Switch, ledgers: &[Ledger], tally: &mut Tally) -> bool {
+    let reply = both(named("headroom"), form, arguments, s, tally);
+    let ([i, j, _], ledger) = (arguments, ledgers.last().expect("a list opens with an accepted start"));
+    let booked = reply.refusal() == 0 && ledger.booked(s.at(i, j), 0, s.f() as usize) > 0;
+    assert!(!booked || reply.headroom >= 0, "({i}, {j}) is booked, with a headroom of {}, on {s:?}", reply.headroom);
+    booked
 }
 
 #[test]
-fn long_lists_keep_demand_3() {
+fn long_lists_keep_demand_3_and_headroom() {
     let mut r = Random::new(setting("KIVDRAG_SEED", 1) ^ 0x5EED);
     let lists = setting("KIVDRAG_LISTS", 400);
     let mut tally = Tally::default();
-    let (mut claims, mut binding) = (0usize, 0usize);
+    let (mut claims, mut binding, mut booked) = (0usize, 0usize, 0u64);
     for _ in 0..lists {
         let form = r.of(&FORMS);
         let mut s = any_switch(&mut r);
@@ -202,9 +238,16 @@ fn long_lists_keep_demand_3() {
         let mut call = CALLS.iter().find(|call| call.form == Some(form)).expect("the form's start");
         for _ in 0..=r.within(20, 400) {
             let arguments = (call.listed)(&mut r, &s, films);
-            let answer = both(call, form, arguments, &mut s, &mut tally);
-            (call.noted)(&mut ledgers, form, answer, arguments);
+            if call.name == "headroom" {
+                booked += headroom_in_list(form, arguments, &mut s, &ledgers, &mut tally) as u64;
+            } else {
+                let reply = both(call, form, arguments, &mut s, &mut tally);
+                (call.noted)(&mut ledgers, form, reply.answer, arguments);
+            }
             call = drawn(&mut r, form, |call| call.weights[1]);
+        }
+        for (i, j) in s.pairs() {
+            booked += headroom_in_list(form, [i, j, 0], &mut s, &ledgers, &mut tally) as u64;
         }
         for claim in ledgers.iter().flat_map(|ledger| ledger.claims()) {
             assert!(claim.holds(), "{claim:?} {form:?}");
@@ -212,10 +255,23 @@ fn long_lists_keep_demand_3() {
             binding += claim.binds() as usize;
         }
     }
-    println!("{lists} lists, {claims} claims, {binding} bind; how often each call met what: {tally:?}");
+    println!("{lists} lists, {claims} claims, {binding} bind, {booked} headrooms of booked pairs; how often each call met what: {tally:?}");
     assert!(binding * 100 > claims, "few claims say anything: {binding} of {claims}");
+    assert_eq!(booked, tally.count("headroom", told(true, Headroom::Zero)) + tally.count("headroom", told(true, Headroom::AboveZero)));
     if lists >= 100 {
         rates_are_met(&tally);
+        headrooms_are_met(&tally);
+    }
+}
+
+/// Headrooms of both signs and of zero, as far as a list can lead to them, and the refusal of a pair.
+fn headrooms_are_met(tally: &Tally) {
+    [0, 5].into_iter().for_each(|number| tally.at_least_one_in(100, "headroom", Event::Gave(number)));
+    for headroom in [Headroom::Zero, Headroom::AboveZero] {
+        tally.at_least_one_in(400, "headroom", told(true, headroom));
+    }
+    for headroom in [Headroom::BelowZero, Headroom::Zero, Headroom::AboveZero] {
+        tally.at_least_one_in(400, "headroom", told(false, headroom));
     }
 }
 
