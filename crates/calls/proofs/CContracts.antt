@@ -11,8 +11,9 @@ use ghost.Atoms.{Atoms}
 use contract.Monad.{Fun, fact-mono}
 use Rattle.wsgs.specs.Bookings.{book-of}
 use Rattle.wsgs.specs.Questions.{effect}
+use Rattle.wsgs.specs.Headroom.{headroom-result}
 use Rattle.wsgs.specs.Answers.{direct-runs-of, pipelined-runs-of, start-outcome, tick-outcome}
-use Rattle.wsgs.specs.Switch.{direct, pipelined, start, book, book-rate, release, release-rate, arrive, tick, apply, of-direct, of-pipelined, of-book, of-queues}
+use Rattle.wsgs.specs.Switch.{direct, pipelined, start, book, book-rate, release, release-rate, headroom, arrive, tick, apply, of-direct, of-pipelined, of-book, of-asking, of-queues}
 use Rattle.wsgs.proofs.Calls
 use Rattle.kivdrag_c.specs.Clocks.{clock-in-words}
 use Rattle.kivdrag_c.specs.Results.{c-start, c-tick}
@@ -22,6 +23,7 @@ use Rattle.kivdrag_c.proofs.kivdrag_book as c-book
 use Rattle.kivdrag_c.proofs.kivdrag_book_rate as c-book-rate
 use Rattle.kivdrag_c.proofs.kivdrag_release as c-release
 use Rattle.kivdrag_c.proofs.kivdrag_release_rate as c-release-rate
+use Rattle.kivdrag_c.proofs.kivdrag_headroom as c-headroom
 use Rattle.kivdrag_c.proofs.kivdrag_arrive as c-arrive
 use Rattle.kivdrag_c.proofs.kivdrag_tick_direct as c-tick-direct
 use Rattle.kivdrag_c.proofs.kivdrag_tick_pipelined as c-tick-pipelined
@@ -59,6 +61,13 @@ module _ {M : Type 1} (𝓤 : URA M) (H : Heap 𝓤) (A : Atoms 𝓤) (mem : Mem
       → let s = switch-of (clock-in-words (a .0 .now)) (a .1 .0 .now) (a .1 .1 .0 .now) credits queues copy flight in
       of-book s (effect r (book-of (a .1 .0 .now) (e .1 .1 .0 .now))) ≡ apply (release-rate (a .1 .1 .1 .0) (a .1 .1 .1 .1 .0) (a .1 .1 .1 .1 .1 .0)) s)
   releases-rate κs a g r e = fact-mono 𝓤 _ _ (λ h credits queues copy flight. Calls.releases-rate _ _ _ _ _ h)
+
+  -- `kivdrag_headroom`: clock, slots, rates, input, output, and the word for the number
+  pub asks-headroom : Says 𝓤 c-headroom.ended (c-headroom.clauses 𝓤 H A mem run) (λ κs a r e. (credits queues copy flight : List ℕ)
+      → let s = switch-of (clock-in-words (a .0 .now)) (a .1 .0 .now) (a .1 .1 .0 .now) credits queues copy flight in
+      (of-asking s r ≡ apply (headroom (a .1 .1 .1 .0) (a .1 .1 .1 .1 .0)) s)
+      × (e .1 .1 .1 .1 .1 .0 .now ≡ headroom-result (s .clock) (s .book) (a .1 .1 .1 .0) (a .1 .1 .1 .1 .0) .headroom))
+  asks-headroom κs a g r e = fact-mono 𝓤 _ _ (λ h credits queues copy flight. (Calls.asks-headroom _ _ _ _ h, ap (λ x. x .headroom) h))
 
   -- `kivdrag_arrive`: clock, queues, input, output, packets
   pub arrives : Says 𝓤 c-arrive.ended (c-arrive.clauses 𝓤 H A mem run) (λ κs a r e. (slots rates credits copy flight : List ℕ)

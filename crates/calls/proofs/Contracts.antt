@@ -13,8 +13,9 @@ use ghost.Atoms.{Atoms}
 use contract.Monad.{Fun, fact-mono}
 use Rattle.wsgs.specs.Bookings.{book-of}
 use Rattle.wsgs.specs.Questions.{effect}
+use Rattle.wsgs.specs.Headroom.{headroom-result}
 use Rattle.wsgs.specs.Answers.{direct-runs-of, pipelined-runs-of, start-outcome, tick-outcome, result-of, by-value}
-use Rattle.wsgs.specs.Switch.{direct, pipelined, start, book, book-rate, release, release-rate, arrive, tick, apply, of-direct, of-pipelined, of-book, of-queues}
+use Rattle.wsgs.specs.Switch.{direct, pipelined, start, book, book-rate, release, release-rate, headroom, arrive, tick, apply, of-direct, of-pipelined, of-book, of-asking, of-queues}
 use Rattle.wsgs.proofs.Calls
 use Rattle.starts.proofs.start_direct as starts-direct
 use Rattle.starts.proofs.start_pipelined as starts-pipelined
@@ -22,6 +23,7 @@ use Rattle.book.proofs.book as book-book
 use Rattle.book.proofs.book_rate as book-rate-book
 use Rattle.book.proofs.release as book-release
 use Rattle.book.proofs.release_rate as book-release-rate
+use Rattle.book.proofs.headroom as book-headroom
 use Rattle.book.proofs.arrive as book-arrive
 use Rattle.direct.proofs.tick as direct-tick
 use Rattle.pipelined.proofs.tick as pipelined-tick
@@ -63,6 +65,13 @@ module _ {M : Type 1} (𝓤 : URA M) (H : Heap 𝓤) (A : Atoms 𝓤) (mem : Mem
       → let s = switch-of (a .0) (a .1 .0 .now) (a .1 .1 .0 .now) credits queues copy flight in
       of-book s (effect r (book-of (a .1 .0 .now) (e .1 .1 .0 .now))) ≡ apply (release-rate (a .1 .1 .1 .0 .0) (a .1 .1 .1 .1 .0 .0) (a .1 .1 .1 .1 .1 .0)) s)
   releases-rate κs a g r e = fact-mono 𝓤 _ _ (λ h credits queues copy flight. Calls.releases-rate _ _ _ _ _ h)
+
+  -- `book::headroom`: clock, slots, rates, input, output; besides, its number is that of the switch
+  pub asks-headroom : Says 𝓤 book-headroom.ended (book-headroom.clauses 𝓤 H A mem run) (λ κs a r e. (credits queues copy flight : List ℕ)
+      → let s = switch-of (a .0) (a .1 .0 .now) (a .1 .1 .0 .now) credits queues copy flight in
+      (of-asking s (r .refusal) ≡ apply (headroom (a .1 .1 .1 .0 .0) (a .1 .1 .1 .1 .0 .0)) s)
+      × (r .headroom ≡ headroom-result (s .clock) (s .book) (a .1 .1 .1 .0 .0) (a .1 .1 .1 .1 .0 .0) .headroom))
+  asks-headroom κs a g r e = fact-mono 𝓤 _ _ (λ h credits queues copy flight. (Calls.asks-headroom _ _ _ _ h, ap (λ x. x .headroom) h))
 
   -- `book::arrive`: clock, queues, input, output, packets
   pub arrives : Says 𝓤 book-arrive.ended (book-arrive.clauses 𝓤 H A mem run) (λ κs a r e. (slots rates credits copy flight : List ℕ)

@@ -5,9 +5,10 @@ ghost use Rattle.wsgs.specs.Bookings.{book-of};
 ghost use Rattle.wsgs.specs.Answers.{direct-runs-of, pipelined-runs-of};
 ghost use Rattle.wsgs.specs.Direct;
 ghost use Rattle.wsgs.specs.Pipelined;
+ghost use Rattle.wsgs.specs.Headroom.{headroom-result};
 ghost use Rattle.wsgs.specs.Book.{book-effect, rate-effect, release-effect, release-rate-effect, arrive-effect};
 ghost use Rattle.kivdrag_c.specs.Clocks.{clock-in-words};
-ghost use Rattle.kivdrag_c.specs.Results.{c-start, c-start-of, c-tick, c-tick-of};
+ghost use Rattle.kivdrag_c.specs.Results.{c-start, c-start-of, c-headroom, c-tick, c-tick-of};
 
 mod clocks;
 mod results;
@@ -152,6 +153,27 @@ pub extern "C" fn kivdrag_release_rate(
 {
     let clock = clock_in(clock);
     book::release_rate(clock, slots, rates, Input(input), Output(output), rate)
+}
+
+// Tells how far a pair is from inequality (2) of the paper. The number is written beside a refusal too, as 0.
+#[no_mangle]
+pub extern "C" fn kivdrag_headroom(
+    clock: &[u32; 4],
+    slots: &[u32],
+    rates: &[u32],
+    input: u64,
+    output: u64,
+    headroom: &mut i64,
+) -> u32
+    ensures outcome { λ r. ⌜ c-headroom r (now (headroom .exit))
+        ≡ headroom-result (clock-in-words (now (clock .entry)))
+        (book-of (now (slots .entry)) (now (rates .entry))) input output ⌝ }
+{
+    let clock = clock_in(clock);
+    let result = book::headroom(clock, slots, rates, Input(input), Output(output));
+    let number = result.headroom;
+    *headroom = number;
+    result.refusal
 }
 
 // Adds packets that arrived to a pair's queue.
