@@ -1,10 +1,11 @@
-//! ledgers LEVEL SEED: writes a random list of calls on one switch, and what the second program's ledger says of it at that level.
+//! ledgers LEVEL SEED: writes a random list of calls on one switch, and what the second program and its ledger say of it at that level.
 //!
 //! The list opens with an accepted start; its starts and ticks are direct for an even seed, pipelined for an odd one. The lines are:
 //!
 //! - `clock N F SLOT LINE` and `run NAME WORD ..`: the switch that the list finds, of any words, in runs for three ports;
 //! - `call REFUSAL CALL`: the calls in turn, written as crates/wsgs/specs/Switch.antt has them;
-//! - `claim I J FIRST A M B SERVED`: every pair in every frame since the last accepted start.
+//! - `claim I J FIRST A M B SERVED`: every pair in every frame since the last accepted start;
+//! - `headroom I J REFUSAL NUMBER`: every pair after the last call, and two that the switch has not.
 
 use second::ledger::Ledger;
 use second::switch::{used, EVERY_RUN, MAX_FRAME, MAX_LINE_RATE, MAX_PACKETS, MAX_PORTS, MAX_QUEUE};
@@ -48,6 +49,7 @@ enum Call {
     BookRate { input: u64, output: u64, rate: u64 },
     Release { input: u64, output: u64, slots: u64 },
     ReleaseRate { input: u64, output: u64, rate: u64 },
+    Headroom { input: u64, output: u64 },
     Arrive { input: u64, output: u64, packets: u64 },
     Tick { form: Form },
 }
@@ -67,6 +69,7 @@ impl fmt::Display for Call {
             Call::BookRate { input, output, rate } => write!(to, "book-rate {input} {output} {rate}"),
             Call::Release { input, output, slots } => write!(to, "release {input} {output} {slots}"),
             Call::ReleaseRate { input, output, rate } => write!(to, "release-rate {input} {output} {rate}"),
+            Call::Headroom { input, output } => write!(to, "headroom {input} {output}"),
             Call::Arrive { input, output, packets } => write!(to, "arrive {input} {output} {packets}"),
             Call::Tick { form } => write!(to, "tick {}", name(form)),
         }
@@ -94,6 +97,7 @@ impl List {
             Call::BookRate { input, output, rate } => number(s.book_rate(form, input, output, 0, rate)),
             Call::Release { input, output, slots } => number(s.release(input, output, slots)),
             Call::ReleaseRate { input, output, rate } => number(s.release_rate(input, output, rate)),
+            Call::Headroom { input, output } => number(s.headroom(input, output).0),
             Call::Arrive { input, output, packets } => number(s.arrive(input, output, packets)),
             Call::Tick { form: Form::Direct } => s.tick_direct(),
             Call::Tick { form: Form::Pipelined } => s.tick_pipelined(),
@@ -107,6 +111,7 @@ impl List {
             (Call::BookRate { input, output, rate }, Some(l)) => l.book_rate(no, input, output, 0, rate),
             (Call::Release { input, output, slots }, Some(l)) => l.release(no, input, output, slots),
             (Call::ReleaseRate { input, output, rate }, Some(l)) => l.release_rate(no, input, output, rate),
+            (Call::Headroom { .. }, _) => (),
             (Call::Arrive { input, output, packets }, Some(l)) => l.arrive(no, input, output, packets),
             (Call::Tick { .. }, Some(l)) => l.tick(answer),
         }
@@ -180,6 +185,11 @@ impl List {
         self.put(Call::ReleaseRate { input, output, rate });
     }
 
+    fn headroom(&mut self) {
+        let (input, output) = (self.port(), self.port());
+        self.put(Call::Headroom { input, output });
+    }
+
     /// At most so many packets, and at least half of them.
     fn arrive(&mut self, most: u64) {
         let (input, output, packets) = (self.port(), self.port(), self.random.within(most / 2, most));
@@ -194,7 +204,7 @@ impl List {
         let far = r.of(&[0, n + 1, (1 << 32) + 1]);
         let (i, j) = r.of(&[(input, far), (far, output)]);
         let short = if form == Form::Pipelined { n - 1 } else { 0 };
-        let call = match r.within(0, 13) {
+        let call = match r.within(0, 14) {
             0 => Call::Start { form, ports: r.of(&[0, MAX_PORTS + 1]), frame: f, line },
             1 => Call::Start { form, ports: n, frame: r.of(&[0, short, short, MAX_FRAME + 1]), line },
             2 => Call::Start { form, ports: r.within(MOST_PORTS + 1, MAX_PORTS), frame: MAX_PORTS, line },
@@ -208,6 +218,7 @@ impl List {
             10 => Call::ReleaseRate { input: i, output: j, rate: 1 },
             11 => Call::ReleaseRate { input, output, rate: r.of(&[0, line + 1]) },
             12 => Call::Arrive { input: i, output: j, packets: 1 },
+            13 => Call::Headroom { input: i, output: j },
             _ => Call::Arrive { input, output, packets: r.of(&[0, MAX_PACKETS + 1, MAX_PACKETS + 1]) },
         };
         self.put(call);
@@ -243,13 +254,14 @@ impl List {
         }
         let mut run = 0;
         while run < ticks {
-            match self.random.within(1, 26) {
+            match self.random.within(1, 28) {
                 1 => self.book(),
                 2 => self.book_rate(),
                 3 => self.release(),
-                4 | 5 => self.release_rate(),
-                6 | 7 => self.out_of_range(),
-                8..=11 => self.arrive(most),
+                4..=6 => self.release_rate(),
+                7 | 8 => self.out_of_range(),
+                9..=12 => self.arrive(most),
+                13 => self.headroom(),
                 _ => {
                     self.put(Call::Tick { form: self.form });
                     run += 1;
@@ -294,10 +306,15 @@ fn main() {
     }
     let ticks = list.random.within(10, 24);
     list.part(ticks);
+    let not_there = [(list.switch.n() + 1, 1), (1, list.random.of(&[0, (1 << 32) + 1]))];
     for (call, refusal) in list.calls {
         println!("call {refusal} {call}");
     }
     for c in list.ledger.expect("a list opens with an accepted start").claims() {
         println!("claim {} {} {} {} {} {} {}", c.input, c.output, c.first, c.booked, c.others, c.waited, c.served);
+    }
+    for (input, output) in list.switch.pairs().into_iter().chain(not_there) {
+        let (refusal, number) = list.switch.headroom(input, output);
+        println!("headroom {input} {output} {refusal} {number}");
     }
 }

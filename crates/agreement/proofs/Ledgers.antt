@@ -1,18 +1,20 @@
--- The definition of the ledger says what the second program's ledger says, after random lists of calls. A theorem that is refused tells the
--- list, and where the checker prints what it computed, the number of the first claim that differs. Written by tools/ledgers: do not edit.
--- Assumes nothing.
+-- After random lists of calls the definition of the ledger says what the second program's ledger says, and the definition of headroom gives the
+-- numbers that the second program gives. A theorem that is refused tells the list, and where the checker prints what it computed, the number of
+-- the first claim or headroom that differs. Written by tools/ledgers: do not edit. Assumes nothing.
 use mathlib.Core.Path.{_≡_, refl}
 use mathlib.Core.List.{List, [], _∷_}
+use lib.IntN.{pos, negsuc}
 use Rattle.wsgs.specs.Clocks.{clock-of}
 use Rattle.wsgs.specs.Basics.{sum, some-of, least}
 use Rattle.wsgs.specs.Words.{word}
 use Rattle.wsgs.specs.Bookings.{book-of, booking, bookings, row-sum, column-sum}
 use Rattle.wsgs.specs.Frames.{into-frame}
 use Rattle.wsgs.specs.Book.{book-words, rate-words, release-words, release-rate-words, arrive-words}
+use Rattle.wsgs.specs.Headroom.{headroom-over, pair-headroom, headroom-refusal, headroom-result}
 use Rattle.wsgs.specs.Direct
 use Rattle.wsgs.specs.Pipelined
-use Rattle.wsgs.specs.Switch.{direct, pipelined, start, book, book-rate, release, release-rate, arrive, tick, apply, entries}
-use Rattle.agreement.specs.Ledgers.{claim, Case, first-wrong}
+use Rattle.wsgs.specs.Switch.{direct, pipelined, start, book, book-rate, release, release-rate, headroom, arrive, tick, apply, entries, final}
+use Rattle.agreement.specs.Ledgers.{claim, told, Case, first-wrong, first-wrong-headroom}
 
 abbrev list-1 : Case
 list-1 =
@@ -45,60 +47,80 @@ list-1 =
           ∷ arrive 2 1 61
           ∷ arrive 2 2 69
           ∷ arrive 2 1 64
-          ∷ arrive 1 1 78
           ∷ tick pipelined
-          ∷ book-rate 2 1 8
-          ∷ arrive 2 1 48
+          ∷ release-rate 2 1 1
           ∷ tick pipelined
+          ∷ arrive 2 2 54
           ∷ tick pipelined
-          ∷ book 2 2 1
+          ∷ arrive 2 2 85
           ∷ tick pipelined
+          ∷ arrive 2 1 67
           ∷ tick pipelined
+          ∷ arrive 2 2 0
+          ∷ arrive 2 1 84
+          ∷ book-rate 2 2 1
           ∷ tick pipelined
-          ∷ release 2 0 1
-          ∷ tick pipelined
-          ∷ arrive 1 2 70
-          ∷ tick pipelined
-          ∷ tick pipelined
-          ∷ tick pipelined
-          ∷ release-rate 1 2 1
-          ∷ tick pipelined
-          ∷ tick pipelined
-          ∷ arrive 2 2 56
-          ∷ tick pipelined
-          ∷ tick pipelined
+          ∷ arrive 2 1 56
+          ∷ start pipelined 2 1 7
           ∷ tick pipelined
           ∷ release-rate 2 2 1
-          ∷ book 1 1 2
+          ∷ release 1 1 1
           ∷ tick pipelined
-          ∷ release 2 1 4
+          ∷ book-rate 1 2 1
           ∷ tick pipelined
-          ∷ arrive 2 2 68
-          ∷ book 2 2 1
+          ∷ book-rate 2 2 1
+          ∷ release-rate 1 1 1
           ∷ tick pipelined
-          ∷ release-rate 2 1 8
+          ∷ arrive 2 2 60
+          ∷ book-rate 1 2 1
+          ∷ tick pipelined
+          ∷ release-rate 2 2 1
+          ∷ arrive 1 1 63
+          ∷ tick pipelined
+          ∷ tick pipelined
+          ∷ headroom 1 1
+          ∷ tick pipelined
+          ∷ tick pipelined
+          ∷ tick pipelined
+          ∷ tick pipelined
+          ∷ release-rate 1 2 2
+          ∷ release 2 3 1
+          ∷ tick pipelined
+          ∷ book-rate 2 1 1
           ∷ tick pipelined
           ∷ tick pipelined
           ∷ [];
       expected =
-          claim 1 1 1 0 0 3 0
-          ∷ claim 1 1 8 3 1 7 3
-          ∷ claim 1 1 15 3 1 7 3
+          claim 1 1 1 0 0 0 0
+          ∷ claim 1 1 8 3 1 0 0
+          ∷ claim 1 1 15 2 2 6 2
           ∷ claim 1 2 1 0 0 3 0
           ∷ claim 1 2 8 0 6 7 0
-          ∷ claim 1 2 15 0 6 7 0
+          ∷ claim 1 2 15 1 5 7 1
           ∷ claim 2 1 1 0 0 3 0
           ∷ claim 2 1 8 1 6 7 1
-          ∷ claim 2 1 15 1 6 7 1
+          ∷ claim 2 1 15 1 5 7 1
           ∷ claim 2 2 1 0 0 3 0
           ∷ claim 2 2 8 3 1 7 3
-          ∷ claim 2 2 15 3 1 7 3
+          ∷ claim 2 2 15 3 2 7 3
+          ∷ [];
+      headrooms =
+          told 1 1 0 (pos 2)
+          ∷ told 1 2 0 (pos 2)
+          ∷ told 2 1 0 (pos 1)
+          ∷ told 2 2 0 (pos 2)
+          ∷ told 3 1 5 (pos 0)
+          ∷ told 1 4294967297 5 (pos 0)
           ∷ [];
     }
 
 pub agrees-1 : first-wrong list-1 ≡ 0
-unfolding first-wrong entries apply Direct.start Direct.tick Pipelined.start Pipelined.tick book-words rate-words release-words release-rate-words arrive-words into-frame booking bookings row-sum column-sum sum least some-of word
+unfolding first-wrong entries apply Direct.start Direct.tick Pipelined.start Pipelined.tick book-words rate-words release-words release-rate-words headroom-refusal arrive-words into-frame booking bookings row-sum column-sum sum least some-of word
 agrees-1 = refl
+
+pub headroom-1 : first-wrong-headroom list-1 ≡ 0
+unfolding first-wrong-headroom final headroom-result pair-headroom headroom-over apply Direct.start Direct.tick Pipelined.start Pipelined.tick book-words rate-words release-words release-rate-words headroom-refusal arrive-words into-frame booking bookings row-sum column-sum sum least some-of word
+headroom-1 = refl
 
 abbrev list-2 : Case
 list-2 =
@@ -127,82 +149,92 @@ list-2 =
           ∷ arrive 1 2 50
           ∷ arrive 1 2 88
           ∷ tick direct
-          ∷ book 2 2 6
-          ∷ release-rate 3 2 67
-          ∷ release-rate 3 2 465
+          ∷ release-rate 1 3 67
+          ∷ tick direct
+          ∷ tick direct
+          ∷ tick direct
+          ∷ arrive 2 3 73
+          ∷ tick direct
+          ∷ release 1 3 1
           ∷ tick direct
           ∷ tick direct
           ∷ tick direct
           ∷ tick direct
           ∷ tick direct
-          ∷ book-rate 1 3 67
-          ∷ tick direct
-          ∷ arrive 3 3 82
-          ∷ release-rate 1 3 269
-          ∷ tick direct
-          ∷ release-rate 1 3 66
-          ∷ release-rate 3 2 200
           ∷ tick direct
           ∷ tick direct
-          ∷ arrive 1 3 78
-          ∷ release 2 4294967297 1
+          ∷ arrive 3 1 47
+          ∷ arrive 1 3 48
+          ∷ tick direct
+          ∷ release-rate 1 3 135
+          ∷ tick direct
+          ∷ headroom 3 1
           ∷ tick direct
           ∷ tick direct
           ∷ tick direct
-          ∷ tick direct
-          ∷ book 3 3 1
-          ∷ tick direct
-          ∷ tick direct
-          ∷ tick direct
-          ∷ release 4294967297 2 1
-          ∷ book-rate 1 1 66
-          ∷ arrive 3 3 84
           ∷ tick direct
           ∷ tick direct
           ∷ [];
       expected =
           claim 1 1 1 0 2 5 0
-          ∷ claim 1 1 6 0 2 5 0
-          ∷ claim 1 1 11 0 2 5 0
-          ∷ claim 1 1 16 0 2 4 0
+          ∷ claim 1 1 6 0 1 5 0
+          ∷ claim 1 1 11 0 1 5 0
+          ∷ claim 1 1 16 0 1 4 0
           ∷ claim 1 2 1 0 5 5 0
-          ∷ claim 1 2 6 0 5 5 0
+          ∷ claim 1 2 6 0 4 5 0
           ∷ claim 1 2 11 0 4 5 0
           ∷ claim 1 2 16 0 4 4 0
           ∷ claim 1 3 1 2 0 0 0
-          ∷ claim 1 3 6 2 0 0 0
-          ∷ claim 1 3 11 2 0 5 2
-          ∷ claim 1 3 16 2 1 4 2
+          ∷ claim 1 3 6 1 0 0 0
+          ∷ claim 1 3 11 1 0 3 1
+          ∷ claim 1 3 16 1 0 4 1
           ∷ claim 2 1 1 0 0 0 0
           ∷ claim 2 1 6 0 0 0 0
           ∷ claim 2 1 11 0 0 0 0
           ∷ claim 2 1 16 0 0 0 0
           ∷ claim 2 2 1 0 3 0 0
           ∷ claim 2 2 6 0 3 0 0
-          ∷ claim 2 2 11 0 2 0 0
-          ∷ claim 2 2 16 0 2 0 0
-          ∷ claim 2 3 1 0 2 0 0
-          ∷ claim 2 3 6 0 2 0 0
-          ∷ claim 2 3 11 0 2 0 0
-          ∷ claim 2 3 16 0 3 0 0
+          ∷ claim 2 2 11 0 3 0 0
+          ∷ claim 2 2 16 0 3 0 0
+          ∷ claim 2 3 1 0 2 1 0
+          ∷ claim 2 3 6 0 1 5 0
+          ∷ claim 2 3 11 0 1 5 0
+          ∷ claim 2 3 16 0 1 4 0
           ∷ claim 3 1 1 0 3 0 0
           ∷ claim 3 1 6 0 3 0 0
-          ∷ claim 3 1 11 0 2 0 0
-          ∷ claim 3 1 16 0 3 0 0
+          ∷ claim 3 1 11 0 3 3 0
+          ∷ claim 3 1 16 0 3 4 0
           ∷ claim 3 2 1 3 0 0 0
           ∷ claim 3 2 6 3 0 0 0
-          ∷ claim 3 2 11 2 0 0 0
-          ∷ claim 3 2 16 2 1 0 0
+          ∷ claim 3 2 11 3 0 0 0
+          ∷ claim 3 2 16 3 0 0 0
           ∷ claim 3 3 1 0 5 0 0
-          ∷ claim 3 3 6 0 5 3 0
-          ∷ claim 3 3 11 0 4 5 0
-          ∷ claim 3 3 16 1 4 4 1
+          ∷ claim 3 3 6 0 4 0 0
+          ∷ claim 3 3 11 0 4 0 0
+          ∷ claim 3 3 16 0 4 0 0
+          ∷ [];
+      headrooms =
+          told 1 1 0 (pos 4)
+          ∷ told 1 2 0 (pos 1)
+          ∷ told 1 3 0 (pos 4)
+          ∷ told 2 1 0 (pos 5)
+          ∷ told 2 2 0 (pos 2)
+          ∷ told 2 3 0 (pos 4)
+          ∷ told 3 1 0 (pos 2)
+          ∷ told 3 2 0 (pos 2)
+          ∷ told 3 3 0 (pos 1)
+          ∷ told 4 1 5 (pos 0)
+          ∷ told 1 4294967297 5 (pos 0)
           ∷ [];
     }
 
 pub agrees-2 : first-wrong list-2 ≡ 0
-unfolding first-wrong entries apply Direct.start Direct.tick Pipelined.start Pipelined.tick book-words rate-words release-words release-rate-words arrive-words into-frame booking bookings row-sum column-sum sum least some-of word
+unfolding first-wrong entries apply Direct.start Direct.tick Pipelined.start Pipelined.tick book-words rate-words release-words release-rate-words headroom-refusal arrive-words into-frame booking bookings row-sum column-sum sum least some-of word
 agrees-2 = refl
+
+pub headroom-2 : first-wrong-headroom list-2 ≡ 0
+unfolding first-wrong-headroom final headroom-result pair-headroom headroom-over apply Direct.start Direct.tick Pipelined.start Pipelined.tick book-words rate-words release-words release-rate-words headroom-refusal arrive-words into-frame booking bookings row-sum column-sum sum least some-of word
+headroom-2 = refl
 
 abbrev list-3 : Case
 list-3 =
@@ -232,149 +264,102 @@ list-3 =
           ∷ arrive 2 2 2
           ∷ arrive 1 1 3
           ∷ arrive 1 1 3
-          ∷ book-rate 2 2 4761904
           ∷ tick pipelined
-          ∷ book-rate 1 2 100000000
           ∷ tick pipelined
-          ∷ arrive 2 1 4
-          ∷ arrive 2 1 2
+          ∷ book-rate 1 1 4761904
           ∷ release 1 1 1
+          ∷ tick pipelined
+          ∷ tick pipelined
           ∷ arrive 1 2 2
-          ∷ tick pipelined
-          ∷ tick pipelined
-          ∷ tick pipelined
-          ∷ start pipelined 2 7 100000001
-          ∷ release-rate 1 2 28571426
-          ∷ arrive 2 1 5
-          ∷ tick pipelined
-          ∷ start pipelined 3 5 7
-          ∷ book-rate 1 3 1
-          ∷ book-rate 1 3 1
-          ∷ book-rate 1 3 1
-          ∷ book-rate 3 2 1
-          ∷ book 2 3 1
-          ∷ book-rate 1 3 1
-          ∷ book 1 1 1
-          ∷ book-rate 3 2 1
-          ∷ book-rate 3 2 1
-          ∷ book-rate 3 2 1
-          ∷ book-rate 3 2 1
-          ∷ book-rate 3 2 1
-          ∷ book-rate 3 2 1
-          ∷ arrive 1 1 3
-          ∷ arrive 3 1 5
-          ∷ arrive 3 3 3
-          ∷ arrive 2 1 4
-          ∷ arrive 1 2 2
-          ∷ arrive 2 2 4
-          ∷ arrive 2 2 4
           ∷ arrive 1 2 4
-          ∷ arrive 3 1 2
-          ∷ arrive 1 2 5
-          ∷ arrive 3 1 4
-          ∷ arrive 2 3 5
-          ∷ arrive 3 3 4
-          ∷ arrive 3 3 5
-          ∷ arrive 2 2 3
-          ∷ arrive 1 3 3
-          ∷ arrive 1 1 4
-          ∷ arrive 3 2 4
           ∷ tick pipelined
-          ∷ arrive 2 1 4
+          ∷ release-rate 1 2 9523809
           ∷ tick pipelined
-          ∷ book 2 2 1
+          ∷ start pipelined 1 1 100000000
+          ∷ book-rate 1 1 33333333
+          ∷ book-rate 1 1 100000000
+          ∷ arrive 1 1 88
+          ∷ arrive 1 1 66
+          ∷ release-rate 1 1 33333333
+          ∷ release-rate 1 1 1
+          ∷ tick pipelined
+          ∷ release-rate 1 1 1
+          ∷ arrive 1 1 57
+          ∷ tick pipelined
+          ∷ headroom 1 1
+          ∷ tick pipelined
+          ∷ arrive 1 1 82
+          ∷ book-rate 1 1 33333333
+          ∷ tick pipelined
+          ∷ headroom 1 1
+          ∷ release-rate 1 1 33333333
+          ∷ release-rate 1 1 1
+          ∷ arrive 1 1 50
+          ∷ arrive 1 1 54
+          ∷ book 1 1 1
+          ∷ arrive 1 1 65
+          ∷ tick pipelined
+          ∷ tick pipelined
+          ∷ book-rate 1 1 100000001
+          ∷ tick pipelined
+          ∷ book 1 1 1
+          ∷ release-rate 1 1 1
+          ∷ book-rate 1 1 100000000
+          ∷ tick pipelined
+          ∷ release-rate 4294967297 1 1
+          ∷ tick pipelined
+          ∷ tick pipelined
+          ∷ arrive 1 1 88
+          ∷ arrive 1 1 85
+          ∷ book-rate 1 1 66666666
+          ∷ tick pipelined
+          ∷ tick pipelined
+          ∷ release-rate 1 1 1
+          ∷ tick pipelined
+          ∷ release-rate 1 1 1
+          ∷ release-rate 1 1 1
           ∷ release-rate 1 1 1
           ∷ tick pipelined
           ∷ tick pipelined
+          ∷ start pipelined 1 1 100000001
+          ∷ arrive 1 1 53
           ∷ tick pipelined
-          ∷ arrive 2 2 4
-          ∷ arrive 3 1 4
-          ∷ tick pipelined
-          ∷ arrive 2 3 5
-          ∷ tick pipelined
-          ∷ tick pipelined
-          ∷ arrive 1 1 2
-          ∷ book-rate 3 2 1
-          ∷ tick pipelined
-          ∷ release-rate 3 2 4
-          ∷ release-rate 3 2 0
-          ∷ tick pipelined
-          ∷ arrive 2 1 4
-          ∷ arrive 2 2 4
-          ∷ arrive 2 3 4
-          ∷ tick pipelined
-          ∷ tick pipelined
-          ∷ tick pipelined
-          ∷ arrive 2 2 5
-          ∷ tick pipelined
-          ∷ tick pipelined
-          ∷ tick pipelined
-          ∷ tick pipelined
-          ∷ release-rate 2 4294967297 1
-          ∷ tick pipelined
-          ∷ tick pipelined
-          ∷ arrive 3 2 4
-          ∷ tick pipelined
-          ∷ tick pipelined
-          ∷ release 1 2 1
-          ∷ tick pipelined
-          ∷ arrive 2 2 2
-          ∷ tick pipelined
-          ∷ arrive 2 3 2
           ∷ tick pipelined
           ∷ [];
       expected =
           claim 1 1 1 0 0 0 0
-          ∷ claim 1 1 6 0 0 4 0
-          ∷ claim 1 1 11 0 3 4 0
-          ∷ claim 1 1 16 0 3 3 0
-          ∷ claim 1 1 21 0 3 0 0
-          ∷ claim 1 2 1 0 0 0 0
-          ∷ claim 1 2 6 0 0 4 0
-          ∷ claim 1 2 11 0 6 5 0
-          ∷ claim 1 2 16 0 3 5 0
-          ∷ claim 1 2 21 0 3 5 0
-          ∷ claim 1 3 1 0 0 0 0
-          ∷ claim 1 3 6 0 0 4 0
-          ∷ claim 1 3 11 3 0 3 3
-          ∷ claim 1 3 16 3 0 0 0
-          ∷ claim 1 3 21 3 0 0 0
-          ∷ claim 2 1 1 0 0 0 0
-          ∷ claim 2 1 6 0 0 4 0
-          ∷ claim 2 1 11 0 0 5 0
-          ∷ claim 2 1 16 0 0 5 0
-          ∷ claim 2 1 21 0 0 5 0
-          ∷ claim 2 2 1 0 0 0 0
-          ∷ claim 2 2 6 0 0 4 0
-          ∷ claim 2 2 11 0 3 5 0
-          ∷ claim 2 2 16 0 0 5 0
-          ∷ claim 2 2 21 0 0 5 0
-          ∷ claim 2 3 1 0 0 0 0
-          ∷ claim 2 3 6 0 0 4 0
-          ∷ claim 2 3 11 0 3 5 0
-          ∷ claim 2 3 16 0 3 5 0
-          ∷ claim 2 3 21 0 3 5 0
-          ∷ claim 3 1 1 0 0 0 0
-          ∷ claim 3 1 6 0 0 4 0
-          ∷ claim 3 1 11 0 3 5 0
-          ∷ claim 3 1 16 0 0 5 0
-          ∷ claim 3 1 21 0 0 5 0
-          ∷ claim 3 2 1 0 0 0 0
-          ∷ claim 3 2 6 0 0 4 0
-          ∷ claim 3 2 11 3 0 5 3
-          ∷ claim 3 2 16 0 0 5 0
-          ∷ claim 3 2 21 0 0 5 0
-          ∷ claim 3 3 1 0 0 0 0
-          ∷ claim 3 3 6 0 0 4 0
-          ∷ claim 3 3 11 0 6 5 0
-          ∷ claim 3 3 16 0 3 5 0
-          ∷ claim 3 3 21 0 3 1 0
+          ∷ claim 1 1 2 0 0 0 0
+          ∷ claim 1 1 3 0 0 1 0
+          ∷ claim 1 1 4 0 0 1 0
+          ∷ claim 1 1 5 0 0 1 0
+          ∷ claim 1 1 6 1 0 1 1
+          ∷ claim 1 1 7 1 0 1 1
+          ∷ claim 1 1 8 1 0 1 1
+          ∷ claim 1 1 9 1 0 1 1
+          ∷ claim 1 1 10 1 0 1 1
+          ∷ claim 1 1 11 1 0 1 1
+          ∷ claim 1 1 12 1 0 1 1
+          ∷ claim 1 1 13 1 0 1 1
+          ∷ claim 1 1 14 1 0 1 1
+          ∷ claim 1 1 15 1 0 1 1
+          ∷ claim 1 1 16 1 0 1 1
+          ∷ claim 1 1 17 1 0 1 1
+          ∷ claim 1 1 18 1 0 1 1
+          ∷ [];
+      headrooms =
+          told 1 1 0 (pos 0)
+          ∷ told 2 1 5 (pos 0)
+          ∷ told 1 4294967297 5 (pos 0)
           ∷ [];
     }
 
 pub agrees-3 : first-wrong list-3 ≡ 0
-unfolding first-wrong entries apply Direct.start Direct.tick Pipelined.start Pipelined.tick book-words rate-words release-words release-rate-words arrive-words into-frame booking bookings row-sum column-sum sum least some-of word
+unfolding first-wrong entries apply Direct.start Direct.tick Pipelined.start Pipelined.tick book-words rate-words release-words release-rate-words headroom-refusal arrive-words into-frame booking bookings row-sum column-sum sum least some-of word
 agrees-3 = refl
+
+pub headroom-3 : first-wrong-headroom list-3 ≡ 0
+unfolding first-wrong-headroom final headroom-result pair-headroom headroom-over apply Direct.start Direct.tick Pipelined.start Pipelined.tick book-words rate-words release-words release-rate-words headroom-refusal arrive-words into-frame booking bookings row-sum column-sum sum least some-of word
+headroom-3 = refl
 
 abbrev list-4 : Case
 list-4 =
@@ -423,31 +408,25 @@ list-4 =
           ∷ arrive 3 1 10
           ∷ arrive 3 1 10
           ∷ arrive 1 3 10
-          ∷ book-rate 2 2 33333333
+          ∷ arrive 2 2 6
           ∷ book 3 3 1
           ∷ tick direct
-          ∷ book-rate 2 2 16666666
+          ∷ tick direct
+          ∷ arrive 2 2 11
           ∷ tick direct
           ∷ tick direct
-          ∷ release 3 3 1
+          ∷ book-rate 3 4294967297 1
+          ∷ arrive 3 3 10
           ∷ tick direct
-          ∷ arrive 3 3 11
-          ∷ arrive 3 4 1
-          ∷ arrive 1 1 10
-          ∷ tick direct
-          ∷ arrive 2 3 10
+          ∷ release-rate 2 2 16666666
           ∷ tick direct
           ∷ tick direct
-          ∷ arrive 2 3 12
+          ∷ book-rate 3 3 49999999
           ∷ tick direct
           ∷ tick direct
-          ∷ book 1 0 1
-          ∷ book-rate 2 1 16666666
-          ∷ arrive 1 2 8
+          ∷ arrive 1 1 12
           ∷ tick direct
-          ∷ arrive 1 3 6
           ∷ tick direct
-          ∷ release-rate 2 2 33333333
           ∷ tick direct
           ∷ tick direct
           ∷ tick direct
@@ -457,7 +436,7 @@ list-4 =
           ∷ claim 1 1 3 0 0 2 0
           ∷ claim 1 1 5 0 0 2 0
           ∷ claim 1 1 7 0 0 2 0
-          ∷ claim 1 1 9 0 0 2 0
+          ∷ claim 1 1 9 0 0 1 0
           ∷ claim 1 1 11 0 0 2 0
           ∷ claim 1 1 13 0 0 2 0
           ∷ claim 1 2 1 0 1 2 0
@@ -469,11 +448,11 @@ list-4 =
           ∷ claim 1 2 13 0 1 2 0
           ∷ claim 1 3 1 0 1 2 0
           ∷ claim 1 3 3 0 1 2 0
-          ∷ claim 1 3 5 0 0 2 0
-          ∷ claim 1 3 7 0 0 2 0
-          ∷ claim 1 3 9 0 0 2 0
-          ∷ claim 1 3 11 0 0 2 0
-          ∷ claim 1 3 13 0 0 2 0
+          ∷ claim 1 3 5 0 1 2 0
+          ∷ claim 1 3 7 0 1 2 0
+          ∷ claim 1 3 9 0 1 2 0
+          ∷ claim 1 3 11 0 1 2 0
+          ∷ claim 1 3 13 0 1 2 0
           ∷ claim 2 1 1 0 1 2 0
           ∷ claim 2 1 3 0 1 2 0
           ∷ claim 2 1 5 0 1 2 0
@@ -487,41 +466,58 @@ list-4 =
           ∷ claim 2 2 7 1 0 2 1
           ∷ claim 2 2 9 1 0 2 1
           ∷ claim 2 2 11 1 0 2 1
-          ∷ claim 2 2 13 1 0 1 1
+          ∷ claim 2 2 13 1 0 2 1
           ∷ claim 2 3 1 0 2 2 0
           ∷ claim 2 3 3 0 2 2 0
-          ∷ claim 2 3 5 0 1 2 0
-          ∷ claim 2 3 7 0 1 2 0
-          ∷ claim 2 3 9 0 1 2 0
-          ∷ claim 2 3 11 0 1 2 0
-          ∷ claim 2 3 13 0 1 2 0
+          ∷ claim 2 3 5 0 2 2 0
+          ∷ claim 2 3 7 0 2 2 0
+          ∷ claim 2 3 9 0 2 2 0
+          ∷ claim 2 3 11 0 2 2 0
+          ∷ claim 2 3 13 0 2 2 0
           ∷ claim 3 1 1 0 1 2 0
           ∷ claim 3 1 3 0 1 2 0
-          ∷ claim 3 1 5 0 0 2 0
-          ∷ claim 3 1 7 0 0 2 0
-          ∷ claim 3 1 9 0 0 2 0
-          ∷ claim 3 1 11 0 0 2 0
-          ∷ claim 3 1 13 0 0 2 0
+          ∷ claim 3 1 5 0 1 2 0
+          ∷ claim 3 1 7 0 1 2 0
+          ∷ claim 3 1 9 0 1 2 0
+          ∷ claim 3 1 11 0 1 2 0
+          ∷ claim 3 1 13 0 1 2 0
           ∷ claim 3 2 1 0 2 2 0
           ∷ claim 3 2 3 0 2 2 0
-          ∷ claim 3 2 5 0 1 2 0
-          ∷ claim 3 2 7 0 1 2 0
-          ∷ claim 3 2 9 0 1 2 0
-          ∷ claim 3 2 11 0 1 2 0
-          ∷ claim 3 2 13 0 1 2 0
+          ∷ claim 3 2 5 0 2 2 0
+          ∷ claim 3 2 7 0 2 2 0
+          ∷ claim 3 2 9 0 2 2 0
+          ∷ claim 3 2 11 0 2 2 0
+          ∷ claim 3 2 13 0 2 2 0
           ∷ claim 3 3 1 1 0 2 1
           ∷ claim 3 3 3 1 0 2 1
-          ∷ claim 3 3 5 0 0 2 0
-          ∷ claim 3 3 7 0 0 2 0
-          ∷ claim 3 3 9 0 0 2 0
-          ∷ claim 3 3 11 0 0 2 0
-          ∷ claim 3 3 13 0 0 2 0
+          ∷ claim 3 3 5 1 0 2 1
+          ∷ claim 3 3 7 1 0 2 1
+          ∷ claim 3 3 9 1 0 2 1
+          ∷ claim 3 3 11 1 0 2 1
+          ∷ claim 3 3 13 1 0 2 1
+          ∷ [];
+      headrooms =
+          told 1 1 0 (pos 2)
+          ∷ told 1 2 0 (pos 1)
+          ∷ told 1 3 0 (pos 1)
+          ∷ told 2 1 0 (pos 1)
+          ∷ told 2 2 0 (pos 1)
+          ∷ told 2 3 0 (pos 0)
+          ∷ told 3 1 0 (pos 1)
+          ∷ told 3 2 0 (pos 0)
+          ∷ told 3 3 0 (pos 1)
+          ∷ told 4 1 5 (pos 0)
+          ∷ told 1 0 5 (pos 0)
           ∷ [];
     }
 
 pub agrees-4 : first-wrong list-4 ≡ 0
-unfolding first-wrong entries apply Direct.start Direct.tick Pipelined.start Pipelined.tick book-words rate-words release-words release-rate-words arrive-words into-frame booking bookings row-sum column-sum sum least some-of word
+unfolding first-wrong entries apply Direct.start Direct.tick Pipelined.start Pipelined.tick book-words rate-words release-words release-rate-words headroom-refusal arrive-words into-frame booking bookings row-sum column-sum sum least some-of word
 agrees-4 = refl
+
+pub headroom-4 : first-wrong-headroom list-4 ≡ 0
+unfolding first-wrong-headroom final headroom-result pair-headroom headroom-over apply Direct.start Direct.tick Pipelined.start Pipelined.tick book-words rate-words release-words release-rate-words headroom-refusal arrive-words into-frame booking bookings row-sum column-sum sum least some-of word
+headroom-4 = refl
 
 abbrev list-5 : Case
 list-5 =
@@ -541,61 +537,127 @@ list-5 =
           ∷ arrive 1 1 4
           ∷ tick pipelined
           ∷ tick pipelined
-          ∷ arrive 1 1 5
-          ∷ start pipelined 1 3 100000001
-          ∷ release-rate 1 1 1
           ∷ tick pipelined
           ∷ arrive 1 1 5
           ∷ tick pipelined
-          ∷ tick pipelined
-          ∷ arrive 1 1 3
-          ∷ book 1 1 1
-          ∷ start pipelined 1 3 100000001
-          ∷ tick pipelined
-          ∷ start pipelined 2 5 99999999
-          ∷ book-rate 2 2 6666666
-          ∷ book-rate 2 2 6666666
-          ∷ book-rate 1 1 20000000
-          ∷ arrive 2 1 3
-          ∷ arrive 1 2 5
-          ∷ arrive 2 1 4
+          ∷ book-rate 1 1 112
           ∷ tick pipelined
           ∷ tick pipelined
+          ∷ start pipelined 3 5 0
+          ∷ book-rate 2 1 1
+          ∷ book-rate 2 1 1
+          ∷ book-rate 3 2 1
+          ∷ book-rate 3 2 1
+          ∷ book-rate 3 2 1
+          ∷ book-rate 3 2 1
+          ∷ book-rate 1 2 1
+          ∷ book-rate 1 2 1
+          ∷ book-rate 1 2 1
+          ∷ book-rate 2 3 1
+          ∷ book-rate 2 3 1
+          ∷ book-rate 2 3 1
+          ∷ book-rate 3 3 1
+          ∷ book-rate 3 3 1
+          ∷ arrive 3 2 12
+          ∷ arrive 1 1 11
+          ∷ arrive 1 2 11
+          ∷ arrive 3 1 10
+          ∷ arrive 2 3 11
+          ∷ arrive 1 3 10
+          ∷ arrive 1 2 6
+          ∷ arrive 3 2 12
+          ∷ arrive 3 2 12
+          ∷ tick pipelined
+          ∷ release-rate 3 1 1
+          ∷ book-rate 2 3 1
           ∷ tick pipelined
           ∷ tick pipelined
-          ∷ release 2 1 1
           ∷ tick pipelined
-          ∷ book 1 2 3
-          ∷ tick pipelined
-          ∷ release-rate 1 1 6666666
-          ∷ tick pipelined
-          ∷ arrive 2 2 3
-          ∷ arrive 1 4294967297 1
-          ∷ release-rate 2 3 1
-          ∷ release-rate 2 2 13333332
+          ∷ start pipelined 0 5 0
           ∷ tick pipelined
           ∷ tick pipelined
+          ∷ release-rate 2 1 1
+          ∷ tick pipelined
+          ∷ tick pipelined
+          ∷ release-rate 3 2 1
+          ∷ tick pipelined
+          ∷ book-rate 1 2 1
+          ∷ arrive 3 3 7
+          ∷ tick pipelined
+          ∷ tick pipelined
+          ∷ arrive 2 1 9
+          ∷ arrive 2 2 11
+          ∷ tick pipelined
+          ∷ tick pipelined
+          ∷ tick pipelined
+          ∷ arrive 1 1 8
+          ∷ tick pipelined
+          ∷ tick pipelined
+          ∷ book 2 1 3
+          ∷ tick pipelined
+          ∷ arrive 2 2 10
           ∷ tick pipelined
           ∷ [];
       expected =
           claim 1 1 1 0 0 0 0
-          ∷ claim 1 1 6 2 0 0 0
-          ∷ claim 1 1 11 1 0 0 0
-          ∷ claim 1 2 1 0 0 1 0
-          ∷ claim 1 2 6 0 3 4 0
-          ∷ claim 1 2 11 0 2 0 0
-          ∷ claim 2 1 1 0 0 1 0
-          ∷ claim 2 1 6 0 3 5 0
-          ∷ claim 2 1 11 0 2 1 0
+          ∷ claim 1 1 6 0 0 4 0
+          ∷ claim 1 1 11 0 0 5 0
+          ∷ claim 1 1 16 0 0 2 0
+          ∷ claim 1 2 1 0 0 0 0
+          ∷ claim 1 2 6 0 0 4 0
+          ∷ claim 1 2 11 0 0 5 0
+          ∷ claim 1 2 16 0 0 4 0
+          ∷ claim 1 3 1 0 0 0 0
+          ∷ claim 1 3 6 0 0 4 0
+          ∷ claim 1 3 11 0 0 5 0
+          ∷ claim 1 3 16 0 0 4 0
+          ∷ claim 2 1 1 0 0 0 0
+          ∷ claim 2 1 6 0 0 0 0
+          ∷ claim 2 1 11 0 0 0 0
+          ∷ claim 2 1 16 0 0 3 0
           ∷ claim 2 2 1 0 0 0 0
-          ∷ claim 2 2 6 1 0 0 0
-          ∷ claim 2 2 11 1 0 1 1
+          ∷ claim 2 2 6 0 0 0 0
+          ∷ claim 2 2 11 0 0 0 0
+          ∷ claim 2 2 16 0 0 3 0
+          ∷ claim 2 3 1 0 0 0 0
+          ∷ claim 2 3 6 0 0 4 0
+          ∷ claim 2 3 11 0 0 5 0
+          ∷ claim 2 3 16 0 0 4 0
+          ∷ claim 3 1 1 0 0 0 0
+          ∷ claim 3 1 6 0 0 4 0
+          ∷ claim 3 1 11 0 0 5 0
+          ∷ claim 3 1 16 0 0 4 0
+          ∷ claim 3 2 1 0 0 0 0
+          ∷ claim 3 2 6 0 0 4 0
+          ∷ claim 3 2 11 0 0 5 0
+          ∷ claim 3 2 16 0 0 4 0
+          ∷ claim 3 3 1 0 0 0 0
+          ∷ claim 3 3 6 0 0 0 0
+          ∷ claim 3 3 11 0 0 2 0
+          ∷ claim 3 3 16 0 0 4 0
+          ∷ [];
+      headrooms =
+          told 1 1 0 (pos 2)
+          ∷ told 1 2 0 (pos 5)
+          ∷ told 1 3 0 (pos 5)
+          ∷ told 2 1 0 (pos 2)
+          ∷ told 2 2 0 (pos 2)
+          ∷ told 2 3 0 (pos 2)
+          ∷ told 3 1 0 (pos 2)
+          ∷ told 3 2 0 (pos 5)
+          ∷ told 3 3 0 (pos 5)
+          ∷ told 4 1 5 (pos 0)
+          ∷ told 1 0 5 (pos 0)
           ∷ [];
     }
 
 pub agrees-5 : first-wrong list-5 ≡ 0
-unfolding first-wrong entries apply Direct.start Direct.tick Pipelined.start Pipelined.tick book-words rate-words release-words release-rate-words arrive-words into-frame booking bookings row-sum column-sum sum least some-of word
+unfolding first-wrong entries apply Direct.start Direct.tick Pipelined.start Pipelined.tick book-words rate-words release-words release-rate-words headroom-refusal arrive-words into-frame booking bookings row-sum column-sum sum least some-of word
 agrees-5 = refl
+
+pub headroom-5 : first-wrong-headroom list-5 ≡ 0
+unfolding first-wrong-headroom final headroom-result pair-headroom headroom-over apply Direct.start Direct.tick Pipelined.start Pipelined.tick book-words rate-words release-words release-rate-words headroom-refusal arrive-words into-frame booking bookings row-sum column-sum sum least some-of word
+headroom-5 = refl
 
 abbrev list-6 : Case
 list-6 =
@@ -622,23 +684,23 @@ list-6 =
           ∷ arrive 3 2 6
           ∷ arrive 2 3 9
           ∷ arrive 1 3 9
-          ∷ release-rate 1 3 1
           ∷ tick direct
-          ∷ release 3 3 1
-          ∷ release-rate 2 3 66666667
+          ∷ release-rate 3 2 33333334
           ∷ tick direct
+          ∷ book 3 3 1
+          ∷ book 4294967297 1 1
           ∷ tick direct
+          ∷ book-rate 2 2 11111112
           ∷ tick direct
-          ∷ start direct 3 0 100000000
-          ∷ tick direct
-          ∷ release 2 3 1
-          ∷ arrive 3 3 12
-          ∷ tick direct
-          ∷ arrive 2 1 11
-          ∷ tick direct
-          ∷ book-rate 3 3 11111112
+          ∷ arrive 2 2 9
+          ∷ release 4294967297 3 1
           ∷ tick direct
           ∷ tick direct
+          ∷ arrive 2 2 10
+          ∷ tick direct
+          ∷ arrive 3 3 11
+          ∷ tick direct
+          ∷ headroom 1 3
           ∷ arrive 1 3 11
           ∷ arrive 1 1 7
           ∷ tick direct
@@ -646,29 +708,33 @@ list-6 =
           ∷ tick direct
           ∷ arrive 2 2 9
           ∷ tick direct
-          ∷ release 1 3 1
+          ∷ tick direct
+          ∷ tick direct
+          ∷ arrive 4 3 1
+          ∷ arrive 3 3 6
+          ∷ tick direct
+          ∷ tick direct
+          ∷ release-rate 3 2 22222223
+          ∷ release 3 3 1
+          ∷ release 2 1 0
+          ∷ tick direct
+          ∷ arrive 2 1 11
           ∷ tick direct
           ∷ tick direct
           ∷ tick direct
-          ∷ book 3 3 1
           ∷ tick direct
-          ∷ release-rate 2 3 66666667
-          ∷ tick direct
-          ∷ arrive 2 3 9
-          ∷ book-rate 1 2 0
-          ∷ tick direct
-          ∷ tick direct
-          ∷ tick direct
-          ∷ arrive 1 3 11
+          ∷ arrive 3 1 8
+          ∷ book-rate 2 1 11111111
+          ∷ release 1 1 1
           ∷ tick direct
           ∷ [];
       expected =
           claim 1 1 1 0 0 0 0
           ∷ claim 1 1 4 0 0 0 0
-          ∷ claim 1 1 7 0 0 0 0
+          ∷ claim 1 1 7 0 0 1 0
           ∷ claim 1 1 10 0 0 3 0
           ∷ claim 1 1 13 0 0 3 0
-          ∷ claim 1 1 16 0 0 1 0
+          ∷ claim 1 1 16 0 0 0 0
           ∷ claim 1 1 19 0 0 0 0
           ∷ claim 1 1 22 0 0 0 0
           ∷ claim 1 2 1 0 1 0 0
@@ -689,10 +755,10 @@ list-6 =
           ∷ claim 1 3 22 0 2 1 0
           ∷ claim 2 1 1 0 2 0 0
           ∷ claim 2 1 4 0 2 0 0
-          ∷ claim 2 1 7 0 2 3 0
-          ∷ claim 2 1 10 0 2 3 0
-          ∷ claim 2 1 13 0 2 3 0
-          ∷ claim 2 1 16 0 2 3 0
+          ∷ claim 2 1 7 0 2 0 0
+          ∷ claim 2 1 10 0 2 0 0
+          ∷ claim 2 1 13 0 2 0 0
+          ∷ claim 2 1 16 0 2 1 0
           ∷ claim 2 1 19 0 2 3 0
           ∷ claim 2 1 22 0 2 1 0
           ∷ claim 2 2 1 0 3 3 0
@@ -709,8 +775,8 @@ list-6 =
           ∷ claim 2 3 10 2 0 3 2
           ∷ claim 2 3 13 2 0 1 1
           ∷ claim 2 3 16 2 0 0 0
-          ∷ claim 2 3 19 2 0 3 2
-          ∷ claim 2 3 22 2 0 1 1
+          ∷ claim 2 3 19 2 0 0 0
+          ∷ claim 2 3 22 2 0 0 0
           ∷ claim 3 1 1 0 1 3 0
           ∷ claim 3 1 4 0 1 3 0
           ∷ claim 3 1 7 0 1 3 0
@@ -728,19 +794,36 @@ list-6 =
           ∷ claim 3 2 19 1 0 3 1
           ∷ claim 3 2 22 1 0 1 1
           ∷ claim 3 3 1 0 3 0 0
-          ∷ claim 3 3 4 0 3 1 0
-          ∷ claim 3 3 7 0 3 3 0
+          ∷ claim 3 3 4 0 3 0 0
+          ∷ claim 3 3 7 0 3 2 0
           ∷ claim 3 3 10 0 3 3 0
           ∷ claim 3 3 13 0 3 3 0
           ∷ claim 3 3 16 0 3 3 0
           ∷ claim 3 3 19 0 3 3 0
           ∷ claim 3 3 22 0 3 1 0
           ∷ [];
+      headrooms =
+          told 1 1 0 (pos 3)
+          ∷ told 1 2 0 (pos 2)
+          ∷ told 1 3 0 (pos 1)
+          ∷ told 2 1 0 (pos 1)
+          ∷ told 2 2 0 (pos 0)
+          ∷ told 2 3 0 (pos 1)
+          ∷ told 3 1 0 (pos 2)
+          ∷ told 3 2 0 (pos 2)
+          ∷ told 3 3 0 (pos 0)
+          ∷ told 4 1 5 (pos 0)
+          ∷ told 1 0 5 (pos 0)
+          ∷ [];
     }
 
 pub agrees-6 : first-wrong list-6 ≡ 0
-unfolding first-wrong entries apply Direct.start Direct.tick Pipelined.start Pipelined.tick book-words rate-words release-words release-rate-words arrive-words into-frame booking bookings row-sum column-sum sum least some-of word
+unfolding first-wrong entries apply Direct.start Direct.tick Pipelined.start Pipelined.tick book-words rate-words release-words release-rate-words headroom-refusal arrive-words into-frame booking bookings row-sum column-sum sum least some-of word
 agrees-6 = refl
+
+pub headroom-6 : first-wrong-headroom list-6 ≡ 0
+unfolding first-wrong-headroom final headroom-result pair-headroom headroom-over apply Direct.start Direct.tick Pipelined.start Pipelined.tick book-words rate-words release-words release-rate-words headroom-refusal arrive-words into-frame booking bookings row-sum column-sum sum least some-of word
+headroom-6 = refl
 
 abbrev list-7 : Case
 list-7 =
@@ -766,48 +849,86 @@ list-7 =
           ∷ arrive 2 2 2
           ∷ arrive 2 1 2
           ∷ arrive 1 2 4
-          ∷ book 1 1 2
           ∷ tick pipelined
-          ∷ tick pipelined
-          ∷ arrive 1 2 5
           ∷ release 1 2 1
+          ∷ arrive 2 2 2
+          ∷ tick pipelined
+          ∷ tick pipelined
+          ∷ headroom 2 1
+          ∷ tick pipelined
+          ∷ arrive 2 1 4
+          ∷ release 2 2 1
+          ∷ release-rate 1 1 167
+          ∷ arrive 1 2 5
+          ∷ arrive 2 2 5
+          ∷ book 1 1 1
+          ∷ release-rate 1 2 0
+          ∷ arrive 1 2 5
+          ∷ arrive 1 1 5
+          ∷ headroom 2 2
+          ∷ tick pipelined
+          ∷ arrive 2 1 5
+          ∷ release-rate 2 2 1
+          ∷ release-rate 1 1 1
+          ∷ arrive 1 2 5
+          ∷ book 2 2 1
+          ∷ release 2 0 1
+          ∷ arrive 2 1 5
+          ∷ release-rate 2 1 1
+          ∷ tick pipelined
+          ∷ tick pipelined
+          ∷ release-rate 2 1 1
+          ∷ tick pipelined
+          ∷ headroom 2 1
+          ∷ arrive 2 1 5
+          ∷ tick pipelined
+          ∷ arrive 2 2 2
+          ∷ arrive 2 1 4
           ∷ tick pipelined
           ∷ tick pipelined
           ∷ tick pipelined
+          ∷ arrive 1 1 2
           ∷ tick pipelined
           ∷ tick pipelined
+          ∷ headroom 2 1
           ∷ tick pipelined
-          ∷ release-rate 1 1 168
+          ∷ release-rate 2 2 1
           ∷ tick pipelined
-          ∷ tick pipelined
-          ∷ tick pipelined
-          ∷ tick pipelined
-          ∷ tick pipelined
-          ∷ release-rate 1 1 168
-          ∷ tick pipelined
-          ∷ tick pipelined
-          ∷ tick pipelined
+          ∷ headroom 1 1
+          ∷ release 1 1 1
           ∷ tick pipelined
           ∷ [];
       expected =
           claim 1 1 1 0 0 2 0
-          ∷ claim 1 1 7 2 0 1 1
-          ∷ claim 1 1 13 2 0 0 0
+          ∷ claim 1 1 7 2 0 5 2
+          ∷ claim 1 1 13 1 0 3 1
           ∷ claim 1 2 1 0 0 2 0
           ∷ claim 1 2 7 0 2 6 0
-          ∷ claim 1 2 13 0 2 4 0
+          ∷ claim 1 2 13 0 2 6 0
           ∷ claim 2 1 1 0 0 2 0
-          ∷ claim 2 1 7 0 2 5 0
-          ∷ claim 2 1 13 0 2 0 0
+          ∷ claim 2 1 7 0 2 6 0
+          ∷ claim 2 1 13 0 2 6 0
           ∷ claim 2 2 1 0 0 2 0
           ∷ claim 2 2 7 0 0 6 0
-          ∷ claim 2 2 13 0 0 6 0
+          ∷ claim 2 2 13 1 0 6 1
+          ∷ [];
+      headrooms =
+          told 1 1 0 (pos 6)
+          ∷ told 1 2 0 (pos 5)
+          ∷ told 2 1 0 (pos 5)
+          ∷ told 2 2 0 (pos 5)
+          ∷ told 3 1 5 (pos 0)
+          ∷ told 1 4294967297 5 (pos 0)
           ∷ [];
     }
 
 pub agrees-7 : first-wrong list-7 ≡ 0
-unfolding first-wrong entries apply Direct.start Direct.tick Pipelined.start Pipelined.tick book-words rate-words release-words release-rate-words arrive-words into-frame booking bookings row-sum column-sum sum least some-of word
+unfolding first-wrong entries apply Direct.start Direct.tick Pipelined.start Pipelined.tick book-words rate-words release-words release-rate-words headroom-refusal arrive-words into-frame booking bookings row-sum column-sum sum least some-of word
 agrees-7 = refl
+
+pub headroom-7 : first-wrong-headroom list-7 ≡ 0
+unfolding first-wrong-headroom final headroom-result pair-headroom headroom-over apply Direct.start Direct.tick Pipelined.start Pipelined.tick book-words rate-words release-words release-rate-words headroom-refusal arrive-words into-frame booking bookings row-sum column-sum sum least some-of word
+headroom-7 = refl
 
 abbrev list-8 : Case
 list-8 =
@@ -832,33 +953,31 @@ list-8 =
           ∷ arrive 1 1 58
           ∷ arrive 2 2 89
           ∷ arrive 2 1 87
+          ∷ tick direct
+          ∷ release 2 2 1
+          ∷ arrive 1 1 87
+          ∷ tick direct
           ∷ release-rate 2 2 111
+          ∷ arrive 1 1 50
+          ∷ tick direct
+          ∷ arrive 2 1 52
+          ∷ release 2 2 1
+          ∷ release 1 2 1
           ∷ tick direct
           ∷ tick direct
+          ∷ book 2 2 0
           ∷ tick direct
-          ∷ book 2 2 1
-          ∷ book 2 0 1
-          ∷ release 2 1 0
+          ∷ tick direct
           ∷ release-rate 2 2 1
-          ∷ arrive 1 2 71
+          ∷ release-rate 1 2 1
           ∷ tick direct
           ∷ tick direct
-          ∷ release-rate 1 1 1
+          ∷ release-rate 1 1 0
           ∷ tick direct
-          ∷ arrive 2 1 49
-          ∷ tick direct
-          ∷ release 1 3 1
-          ∷ tick direct
-          ∷ tick direct
-          ∷ arrive 1 1 68
-          ∷ release 4294967297 1 1
-          ∷ release-rate 1 1 1
+          ∷ arrive 1 1 59
+          ∷ arrive 1 2 73
           ∷ tick direct
           ∷ tick direct
-          ∷ arrive 2 1 66
-          ∷ tick direct
-          ∷ arrive 1 2 47
-          ∷ release-rate 2 1 1
           ∷ tick direct
           ∷ [];
       expected =
@@ -867,27 +986,39 @@ list-8 =
           ∷ claim 1 1 7 0 0 3 0
           ∷ claim 1 1 10 0 0 3 0
           ∷ claim 1 1 13 0 0 1 0
-          ∷ claim 1 2 1 0 1 3 0
-          ∷ claim 1 2 4 0 2 3 0
-          ∷ claim 1 2 7 0 2 3 0
-          ∷ claim 1 2 10 0 2 3 0
-          ∷ claim 1 2 13 0 2 1 0
-          ∷ claim 2 1 1 0 1 3 0
-          ∷ claim 2 1 4 0 2 3 0
-          ∷ claim 2 1 7 0 2 3 0
-          ∷ claim 2 1 10 0 2 3 0
-          ∷ claim 2 1 13 0 2 1 0
-          ∷ claim 2 2 1 1 0 3 1
-          ∷ claim 2 2 4 2 0 3 2
-          ∷ claim 2 2 7 2 0 3 2
-          ∷ claim 2 2 10 2 0 3 2
-          ∷ claim 2 2 13 2 0 1 1
+          ∷ claim 1 2 1 0 2 3 0
+          ∷ claim 1 2 4 0 0 3 0
+          ∷ claim 1 2 7 0 0 3 0
+          ∷ claim 1 2 10 0 0 3 0
+          ∷ claim 1 2 13 0 0 1 0
+          ∷ claim 2 1 1 0 2 3 0
+          ∷ claim 2 1 4 0 0 3 0
+          ∷ claim 2 1 7 0 0 3 0
+          ∷ claim 2 1 10 0 0 3 0
+          ∷ claim 2 1 13 0 0 1 0
+          ∷ claim 2 2 1 2 0 3 2
+          ∷ claim 2 2 4 0 0 3 0
+          ∷ claim 2 2 7 0 0 3 0
+          ∷ claim 2 2 10 0 0 3 0
+          ∷ claim 2 2 13 0 0 1 0
+          ∷ [];
+      headrooms =
+          told 1 1 0 (pos 3)
+          ∷ told 1 2 0 (pos 3)
+          ∷ told 2 1 0 (pos 3)
+          ∷ told 2 2 0 (pos 3)
+          ∷ told 3 1 5 (pos 0)
+          ∷ told 1 4294967297 5 (pos 0)
           ∷ [];
     }
 
 pub agrees-8 : first-wrong list-8 ≡ 0
-unfolding first-wrong entries apply Direct.start Direct.tick Pipelined.start Pipelined.tick book-words rate-words release-words release-rate-words arrive-words into-frame booking bookings row-sum column-sum sum least some-of word
+unfolding first-wrong entries apply Direct.start Direct.tick Pipelined.start Pipelined.tick book-words rate-words release-words release-rate-words headroom-refusal arrive-words into-frame booking bookings row-sum column-sum sum least some-of word
 agrees-8 = refl
+
+pub headroom-8 : first-wrong-headroom list-8 ≡ 0
+unfolding first-wrong-headroom final headroom-result pair-headroom headroom-over apply Direct.start Direct.tick Pipelined.start Pipelined.tick book-words rate-words release-words release-rate-words headroom-refusal arrive-words into-frame booking bookings row-sum column-sum sum least some-of word
+headroom-8 = refl
 
 abbrev list-9 : Case
 list-9 =
@@ -915,52 +1046,73 @@ list-9 =
           ∷ arrive 2 1 9
           ∷ arrive 2 2 7
           ∷ arrive 1 1 9
+          ∷ headroom 1 1
+          ∷ release-rate 2 1 33333331
           ∷ tick pipelined
-          ∷ arrive 1 1 10
-          ∷ arrive 1 1 7
-          ∷ arrive 2 2 8
-          ∷ tick pipelined
-          ∷ tick pipelined
+          ∷ arrive 1 2 8
           ∷ tick pipelined
           ∷ tick pipelined
           ∷ tick pipelined
-          ∷ arrive 1 1 6
+          ∷ tick pipelined
+          ∷ release-rate 2 2 1
+          ∷ tick pipelined
+          ∷ release 2 2 3
+          ∷ headroom 1 1
           ∷ tick pipelined
           ∷ tick pipelined
-          ∷ release-rate 2 1 5555555
+          ∷ release 2 2 1
+          ∷ release-rate 1 2 0
+          ∷ release-rate 1 1 5555556
+          ∷ release 2 1 1
+          ∷ tick pipelined
+          ∷ arrive 2 1 8
+          ∷ tick pipelined
+          ∷ arrive 2 1 9
+          ∷ tick pipelined
+          ∷ tick pipelined
+          ∷ tick pipelined
+          ∷ release-rate 1 1 5555555
+          ∷ headroom 2 2
+          ∷ tick pipelined
+          ∷ book 1 1 3
           ∷ tick pipelined
           ∷ arrive 1 1 8
           ∷ tick pipelined
-          ∷ tick pipelined
-          ∷ arrive 2 2 12
-          ∷ tick pipelined
-          ∷ tick pipelined
-          ∷ tick pipelined
-          ∷ tick pipelined
-          ∷ tick pipelined
-          ∷ arrive 1 2 10
-          ∷ arrive 1 2 10
+          ∷ arrive 2 2 11
+          ∷ arrive 2 2 10
           ∷ tick pipelined
           ∷ [];
       expected =
           claim 1 1 1 0 0 2 0
-          ∷ claim 1 1 7 1 2 6 1
-          ∷ claim 1 1 13 1 2 6 1
+          ∷ claim 1 1 7 1 0 6 1
+          ∷ claim 1 1 13 1 0 1 1
           ∷ claim 1 2 1 0 0 2 0
           ∷ claim 1 2 7 0 2 6 0
-          ∷ claim 1 2 13 0 2 6 0
+          ∷ claim 1 2 13 0 1 6 0
           ∷ claim 2 1 1 0 0 2 0
-          ∷ claim 2 1 7 2 2 6 2
-          ∷ claim 2 1 13 2 2 6 2
+          ∷ claim 2 1 7 0 2 6 0
+          ∷ claim 2 1 13 0 1 6 0
           ∷ claim 2 2 1 0 0 2 0
-          ∷ claim 2 2 7 1 2 6 1
-          ∷ claim 2 2 13 1 2 6 1
+          ∷ claim 2 2 7 1 0 6 1
+          ∷ claim 2 2 13 0 0 6 0
+          ∷ [];
+      headrooms =
+          told 1 1 0 (pos 3)
+          ∷ told 1 2 0 (pos 3)
+          ∷ told 2 1 0 (pos 3)
+          ∷ told 2 2 0 (pos 6)
+          ∷ told 3 1 5 (pos 0)
+          ∷ told 1 0 5 (pos 0)
           ∷ [];
     }
 
 pub agrees-9 : first-wrong list-9 ≡ 0
-unfolding first-wrong entries apply Direct.start Direct.tick Pipelined.start Pipelined.tick book-words rate-words release-words release-rate-words arrive-words into-frame booking bookings row-sum column-sum sum least some-of word
+unfolding first-wrong entries apply Direct.start Direct.tick Pipelined.start Pipelined.tick book-words rate-words release-words release-rate-words headroom-refusal arrive-words into-frame booking bookings row-sum column-sum sum least some-of word
 agrees-9 = refl
+
+pub headroom-9 : first-wrong-headroom list-9 ≡ 0
+unfolding first-wrong-headroom final headroom-result pair-headroom headroom-over apply Direct.start Direct.tick Pipelined.start Pipelined.tick book-words rate-words release-words release-rate-words headroom-refusal arrive-words into-frame booking bookings row-sum column-sum sum least some-of word
+headroom-9 = refl
 
 abbrev list-10 : Case
 list-10 =
@@ -1030,67 +1182,87 @@ list-10 =
           ∷ arrive 3 1 66
           ∷ arrive 2 3 89
           ∷ arrive 1 1 69
+          ∷ release 3 3 2
+          ∷ tick direct
+          ∷ book 0 2 1
+          ∷ release-rate 2 1 55555557
           ∷ tick direct
           ∷ tick direct
-          ∷ book-rate 3 2 22222222
-          ∷ tick direct
-          ∷ tick direct
-          ∷ book 1 2 1
-          ∷ tick direct
-          ∷ book 3 1 1
-          ∷ tick direct
-          ∷ tick direct
+          ∷ book-rate 2 3 22222222
           ∷ tick direct
           ∷ tick direct
           ∷ tick direct
-          ∷ release-rate 3 2 22222222
+          ∷ arrive 1 3 82
+          ∷ arrive 1 2 49
           ∷ tick direct
-          ∷ book-rate 2 3 11111111
+          ∷ release-rate 2 3 22222222
+          ∷ book-rate 2 2 11111112
+          ∷ tick direct
+          ∷ tick direct
+          ∷ tick direct
+          ∷ tick direct
           ∷ tick direct
           ∷ [];
       expected =
           claim 1 1 1 0 3 3 0
-          ∷ claim 1 1 4 0 3 3 0
-          ∷ claim 1 1 7 0 3 3 0
-          ∷ claim 1 1 10 0 3 3 0
+          ∷ claim 1 1 4 0 1 3 0
+          ∷ claim 1 1 7 0 1 3 0
+          ∷ claim 1 1 10 0 1 3 0
           ∷ claim 1 2 1 1 0 3 1
-          ∷ claim 1 2 4 1 1 3 1
-          ∷ claim 1 2 7 1 1 3 1
+          ∷ claim 1 2 4 1 0 3 1
+          ∷ claim 1 2 7 1 0 3 1
           ∷ claim 1 2 10 1 1 3 1
           ∷ claim 1 3 1 0 2 3 0
-          ∷ claim 1 3 4 0 2 3 0
-          ∷ claim 1 3 7 0 2 3 0
+          ∷ claim 1 3 4 0 3 3 0
+          ∷ claim 1 3 7 0 3 3 0
           ∷ claim 1 3 10 0 2 3 0
           ∷ claim 2 1 1 2 0 3 2
-          ∷ claim 2 1 4 2 0 3 2
-          ∷ claim 2 1 7 2 0 3 2
-          ∷ claim 2 1 10 2 0 3 2
+          ∷ claim 2 1 4 0 1 3 0
+          ∷ claim 2 1 7 0 1 3 0
+          ∷ claim 2 1 10 0 1 3 0
           ∷ claim 2 2 1 0 3 0 0
-          ∷ claim 2 2 4 0 4 0 0
-          ∷ claim 2 2 7 0 4 0 0
-          ∷ claim 2 2 10 0 4 0 0
+          ∷ claim 2 2 4 0 2 0 0
+          ∷ claim 2 2 7 0 2 0 0
+          ∷ claim 2 2 10 1 1 0 0
           ∷ claim 2 3 1 0 3 3 0
-          ∷ claim 2 3 4 0 3 3 0
-          ∷ claim 2 3 7 0 3 3 0
-          ∷ claim 2 3 10 0 3 3 0
+          ∷ claim 2 3 4 1 1 3 1
+          ∷ claim 2 3 7 1 1 3 1
+          ∷ claim 2 3 10 0 2 3 0
           ∷ claim 3 1 1 0 3 3 0
-          ∷ claim 3 1 4 0 4 3 0
-          ∷ claim 3 1 7 0 4 3 0
-          ∷ claim 3 1 10 0 4 3 0
+          ∷ claim 3 1 4 0 1 3 0
+          ∷ claim 3 1 7 0 1 3 0
+          ∷ claim 3 1 10 0 1 3 0
           ∷ claim 3 2 1 0 2 3 0
-          ∷ claim 3 2 4 1 2 3 1
-          ∷ claim 3 2 7 1 2 3 1
-          ∷ claim 3 2 10 1 2 3 1
+          ∷ claim 3 2 4 0 2 3 0
+          ∷ claim 3 2 7 0 2 3 0
+          ∷ claim 3 2 10 0 3 3 0
           ∷ claim 3 3 1 1 0 0 0
           ∷ claim 3 3 4 1 1 0 0
           ∷ claim 3 3 7 1 1 0 0
-          ∷ claim 3 3 10 1 1 0 0
+          ∷ claim 3 3 10 1 0 0 0
+          ∷ [];
+      headrooms =
+          told 1 1 0 (pos 2)
+          ∷ told 1 2 0 (pos 1)
+          ∷ told 1 3 0 (pos 1)
+          ∷ told 2 1 0 (pos 2)
+          ∷ told 2 2 0 (pos 1)
+          ∷ told 2 3 0 (pos 1)
+          ∷ told 3 1 0 (pos 2)
+          ∷ told 3 2 0 (pos 0)
+          ∷ told 3 3 0 (pos 2)
+          ∷ told 4 1 5 (pos 0)
+          ∷ told 1 4294967297 5 (pos 0)
           ∷ [];
     }
 
 pub agrees-10 : first-wrong list-10 ≡ 0
-unfolding first-wrong entries apply Direct.start Direct.tick Pipelined.start Pipelined.tick book-words rate-words release-words release-rate-words arrive-words into-frame booking bookings row-sum column-sum sum least some-of word
+unfolding first-wrong entries apply Direct.start Direct.tick Pipelined.start Pipelined.tick book-words rate-words release-words release-rate-words headroom-refusal arrive-words into-frame booking bookings row-sum column-sum sum least some-of word
 agrees-10 = refl
+
+pub headroom-10 : first-wrong-headroom list-10 ≡ 0
+unfolding first-wrong-headroom final headroom-result pair-headroom headroom-over apply Direct.start Direct.tick Pipelined.start Pipelined.tick book-words rate-words release-words release-rate-words headroom-refusal arrive-words into-frame booking bookings row-sum column-sum sum least some-of word
+headroom-10 = refl
 
 abbrev list-11 : Case
 list-11 =
@@ -1110,92 +1282,82 @@ list-11 =
           ∷ book-rate 1 1 6666667
           ∷ arrive 1 1 60
           ∷ arrive 1 1 58
-          ∷ arrive 1 1 57
+          ∷ release-rate 1 1 6666666
           ∷ tick pipelined
-          ∷ book 1 1 1
+          ∷ arrive 1 1 85
           ∷ tick pipelined
-          ∷ arrive 1 1 80
+          ∷ release-rate 1 1 6666667
           ∷ tick pipelined
-          ∷ start pipelined 3 6 99999999
-          ∷ book-rate 2 3 5555556
-          ∷ book-rate 2 3 5555555
-          ∷ book-rate 1 2 11111112
-          ∷ book-rate 3 1 5555556
-          ∷ book-rate 1 3 5555555
-          ∷ book-rate 1 3 5555555
-          ∷ book 2 3 1
-          ∷ book-rate 3 3 5555555
-          ∷ book-rate 3 3 16666666
-          ∷ book-rate 3 3 5555556
-          ∷ book 2 2 1
-          ∷ book 1 1 3
-          ∷ book-rate 1 1 5555555
-          ∷ book-rate 1 1 11111112
-          ∷ arrive 3 2 8
-          ∷ arrive 1 3 10
-          ∷ arrive 3 1 10
-          ∷ arrive 1 2 9
+          ∷ start pipelined 2 7 99999999
+          ∷ book-rate 2 2 9523809
+          ∷ book-rate 2 2 9523809
+          ∷ book-rate 2 2 14285714
+          ∷ book-rate 2 1 4761904
+          ∷ book-rate 2 1 14285714
+          ∷ book-rate 2 1 4761904
+          ∷ book-rate 2 1 4761904
+          ∷ arrive 2 2 9
+          ∷ arrive 2 2 8
+          ∷ arrive 2 1 9
           ∷ arrive 1 2 10
-          ∷ arrive 2 2 6
-          ∷ release-rate 1 2 5555555
-          ∷ book 2 1 1
+          ∷ arrive 2 1 12
+          ∷ arrive 2 2 8
+          ∷ arrive 2 1 6
+          ∷ arrive 2 2 12
+          ∷ headroom 2 1
+          ∷ release-rate 2 2 14285715
           ∷ tick pipelined
-          ∷ arrive 3 1 12
+          ∷ release-rate 1 2 1
           ∷ tick pipelined
-          ∷ book-rate 3 2 5555556
-          ∷ tick pipelined
-          ∷ tick pipelined
-          ∷ tick pipelined
-          ∷ tick pipelined
-          ∷ arrive 3 3 10
-          ∷ tick pipelined
-          ∷ release 2 2 1
-          ∷ arrive 3 3 9
-          ∷ tick pipelined
-          ∷ arrive 1 3 8
+          ∷ arrive 2 2 10
+          ∷ release-rate 2 1 4761904
           ∷ tick pipelined
           ∷ tick pipelined
-          ∷ arrive 1 1 7
-          ∷ release-rate 3 2 5555555
           ∷ tick pipelined
-          ∷ release-rate 2 0 1
+          ∷ release-rate 2 1 4761905
+          ∷ release-rate 2 2 4761904
+          ∷ arrive 1 1 12
           ∷ tick pipelined
+          ∷ release 2 4294967297 1
+          ∷ tick pipelined
+          ∷ tick pipelined
+          ∷ tick pipelined
+          ∷ book 1 2 1
+          ∷ release 1 2 1
+          ∷ tick pipelined
+          ∷ tick pipelined
+          ∷ tick pipelined
+          ∷ headroom 1 1
+          ∷ book 1 1 0
           ∷ tick pipelined
           ∷ [];
       expected =
           claim 1 1 1 0 0 0 0
-          ∷ claim 1 1 7 1 3 0 0
-          ∷ claim 1 1 13 1 3 0 0
-          ∷ claim 1 2 1 0 0 0 0
-          ∷ claim 1 2 7 1 3 6 1
-          ∷ claim 1 2 13 1 4 2 1
-          ∷ claim 1 3 1 0 0 0 0
-          ∷ claim 1 3 7 1 4 6 1
-          ∷ claim 1 3 13 1 4 2 1
-          ∷ claim 2 1 1 0 0 0 0
-          ∷ claim 2 1 7 0 5 0 0
-          ∷ claim 2 1 13 0 5 0 0
-          ∷ claim 2 2 1 0 0 0 0
-          ∷ claim 2 2 7 1 3 6 1
-          ∷ claim 2 2 13 1 4 2 1
-          ∷ claim 2 3 1 0 0 0 0
-          ∷ claim 2 3 7 2 2 0 0
-          ∷ claim 2 3 13 2 2 0 0
-          ∷ claim 3 1 1 0 0 0 0
-          ∷ claim 3 1 7 1 1 6 1
-          ∷ claim 3 1 13 1 2 2 1
-          ∷ claim 3 2 1 0 0 0 0
-          ∷ claim 3 2 7 0 3 6 0
-          ∷ claim 3 2 13 1 3 2 0
-          ∷ claim 3 3 1 0 0 0 0
-          ∷ claim 3 3 7 0 4 2 0
-          ∷ claim 3 3 13 0 5 2 0
+          ∷ claim 1 1 8 0 1 5 0
+          ∷ claim 1 2 1 0 0 3 0
+          ∷ claim 1 2 8 0 2 7 0
+          ∷ claim 2 1 1 0 0 3 0
+          ∷ claim 2 1 8 1 2 7 1
+          ∷ claim 2 2 1 0 0 3 0
+          ∷ claim 2 2 8 2 1 7 2
+          ∷ [];
+      headrooms =
+          told 1 1 0 (pos 6)
+          ∷ told 1 2 0 (pos 6)
+          ∷ told 2 1 0 (pos 5)
+          ∷ told 2 2 0 (pos 5)
+          ∷ told 3 1 5 (pos 0)
+          ∷ told 1 4294967297 5 (pos 0)
           ∷ [];
     }
 
 pub agrees-11 : first-wrong list-11 ≡ 0
-unfolding first-wrong entries apply Direct.start Direct.tick Pipelined.start Pipelined.tick book-words rate-words release-words release-rate-words arrive-words into-frame booking bookings row-sum column-sum sum least some-of word
+unfolding first-wrong entries apply Direct.start Direct.tick Pipelined.start Pipelined.tick book-words rate-words release-words release-rate-words headroom-refusal arrive-words into-frame booking bookings row-sum column-sum sum least some-of word
 agrees-11 = refl
+
+pub headroom-11 : first-wrong-headroom list-11 ≡ 0
+unfolding first-wrong-headroom final headroom-result pair-headroom headroom-over apply Direct.start Direct.tick Pipelined.start Pipelined.tick book-words rate-words release-words release-rate-words headroom-refusal arrive-words into-frame booking bookings row-sum column-sum sum least some-of word
+headroom-11 = refl
 
 abbrev list-12 : Case
 list-12 =
@@ -1213,69 +1375,64 @@ list-12 =
           start direct 1 5 0
           ∷ book-rate 1 1 1
           ∷ arrive 1 1 11
-          ∷ start direct 1 10001 0
-          ∷ arrive 1 1 7
-          ∷ book-rate 1 1 1
-          ∷ tick direct
-          ∷ tick direct
-          ∷ release-rate 1 1 1
-          ∷ release-rate 1 1 1
-          ∷ arrive 1 1 11
-          ∷ tick direct
-          ∷ release-rate 1 1 1
-          ∷ release-rate 1 1 0
-          ∷ arrive 1 1 8
-          ∷ tick direct
-          ∷ tick direct
-          ∷ book 1 1 1
+          ∷ arrive 1 1 12
+          ∷ headroom 1 1
           ∷ arrive 1 1 7
           ∷ tick direct
-          ∷ release-rate 1 1 0
           ∷ tick direct
-          ∷ tick direct
-          ∷ tick direct
-          ∷ arrive 1 1 8
-          ∷ tick direct
-          ∷ tick direct
-          ∷ arrive 1 1 8
-          ∷ arrive 1 1 8
-          ∷ release-rate 1 1 1
-          ∷ tick direct
-          ∷ book 1 1 1
-          ∷ book 1 1 0
-          ∷ tick direct
-          ∷ book 1 1 1
           ∷ arrive 1 1 6
           ∷ tick direct
-          ∷ release-rate 1 1 1
+          ∷ tick direct
           ∷ tick direct
           ∷ tick direct
           ∷ arrive 1 1 8
-          ∷ release 1 1 2
           ∷ tick direct
-          ∷ release 1 1 1
           ∷ arrive 1 1 11
           ∷ tick direct
           ∷ tick direct
           ∷ tick direct
-          ∷ release 1 1 1
           ∷ tick direct
-          ∷ book 1 1 3
+          ∷ tick direct
+          ∷ tick direct
+          ∷ arrive 1 1 8
+          ∷ tick direct
+          ∷ tick direct
+          ∷ tick direct
+          ∷ tick direct
+          ∷ tick direct
+          ∷ book-rate 2 1 1
+          ∷ release 1 1 3
+          ∷ arrive 1 1 10
           ∷ book 1 1 1
+          ∷ tick direct
+          ∷ tick direct
+          ∷ tick direct
+          ∷ arrive 1 1 11
+          ∷ release 4294967297 1 1
+          ∷ release-rate 1 1 1
           ∷ tick direct
           ∷ [];
       expected =
           claim 1 1 1 0 0 5 0
-          ∷ claim 1 1 6 1 0 5 1
-          ∷ claim 1 1 11 1 0 5 1
-          ∷ claim 1 1 16 3 0 5 3
-          ∷ claim 1 1 21 0 0 2 0
+          ∷ claim 1 1 6 0 0 5 0
+          ∷ claim 1 1 11 0 0 5 0
+          ∷ claim 1 1 16 0 0 5 0
+          ∷ claim 1 1 21 1 0 2 1
+          ∷ [];
+      headrooms =
+          told 1 1 0 (pos 4)
+          ∷ told 2 1 5 (pos 0)
+          ∷ told 1 0 5 (pos 0)
           ∷ [];
     }
 
 pub agrees-12 : first-wrong list-12 ≡ 0
-unfolding first-wrong entries apply Direct.start Direct.tick Pipelined.start Pipelined.tick book-words rate-words release-words release-rate-words arrive-words into-frame booking bookings row-sum column-sum sum least some-of word
+unfolding first-wrong entries apply Direct.start Direct.tick Pipelined.start Pipelined.tick book-words rate-words release-words release-rate-words headroom-refusal arrive-words into-frame booking bookings row-sum column-sum sum least some-of word
 agrees-12 = refl
+
+pub headroom-12 : first-wrong-headroom list-12 ≡ 0
+unfolding first-wrong-headroom final headroom-result pair-headroom headroom-over apply Direct.start Direct.tick Pipelined.start Pipelined.tick book-words rate-words release-words release-rate-words headroom-refusal arrive-words into-frame booking bookings row-sum column-sum sum least some-of word
+headroom-12 = refl
 
 abbrev list-13 : Case
 list-13 =
@@ -1317,74 +1474,87 @@ list-13 =
           ∷ arrive 2 2 5
           ∷ tick pipelined
           ∷ tick pipelined
-          ∷ release 2 3 1
+          ∷ headroom 2 3
+          ∷ release-rate 3 1 44444446
           ∷ tick pipelined
-          ∷ release-rate 1 3 11111111
-          ∷ arrive 2 3 4
+          ∷ release 1 2 1
           ∷ tick pipelined
-          ∷ arrive 2 1 5
-          ∷ book-rate 1 1 22222222
-          ∷ release 3 1 1
-          ∷ tick pipelined
-          ∷ release-rate 3 1 11111112
-          ∷ book 3 3 4
-          ∷ tick pipelined
-          ∷ release-rate 3 1 11111111
-          ∷ tick pipelined
-          ∷ arrive 3 2 2
+          ∷ start pipelined 3 3 100000001
           ∷ arrive 1 2 2
           ∷ tick pipelined
+          ∷ headroom 1 1
           ∷ tick pipelined
-          ∷ book-rate 2 3 11111111
+          ∷ release-rate 1 3 11111112
+          ∷ arrive 3 3 65536
+          ∷ arrive 3 1 5
           ∷ tick pipelined
-          ∷ release-rate 3 0 1
-          ∷ arrive 1 3 3
-          ∷ arrive 2 1 3
+          ∷ tick pipelined
+          ∷ release-rate 1 3 33333333
+          ∷ release-rate 2 3 1
+          ∷ tick pipelined
+          ∷ tick pipelined
           ∷ tick pipelined
           ∷ [];
       expected =
           claim 1 1 1 0 0 0 0
           ∷ claim 1 1 4 0 0 0 0
           ∷ claim 1 1 7 0 4 3 0
-          ∷ claim 1 1 10 0 3 3 0
+          ∷ claim 1 1 10 0 2 3 0
           ∷ claim 1 2 1 0 0 0 0
           ∷ claim 1 2 4 0 0 0 0
           ∷ claim 1 2 7 0 2 0 0
-          ∷ claim 1 2 10 0 1 0 0
+          ∷ claim 1 2 10 0 2 2 0
           ∷ claim 1 3 1 0 0 0 0
           ∷ claim 1 3 4 0 0 0 0
           ∷ claim 1 3 7 2 0 2 2
-          ∷ claim 1 3 10 1 0 0 0
+          ∷ claim 1 3 10 2 0 0 0
           ∷ claim 2 1 1 0 0 0 0
           ∷ claim 2 1 4 0 0 0 0
           ∷ claim 2 1 7 0 2 0 0
-          ∷ claim 2 1 10 0 2 3 0
+          ∷ claim 2 1 10 0 0 0 0
           ∷ claim 2 2 1 0 0 0 0
           ∷ claim 2 2 4 0 0 0 0
           ∷ claim 2 2 7 0 0 3 0
-          ∷ claim 2 2 10 0 0 3 0
+          ∷ claim 2 2 10 0 0 2 0
           ∷ claim 2 3 1 0 0 0 0
           ∷ claim 2 3 4 0 0 0 0
-          ∷ claim 2 3 7 0 2 1 0
-          ∷ claim 2 3 10 0 1 3 0
+          ∷ claim 2 3 7 0 2 0 0
+          ∷ claim 2 3 10 0 2 0 0
           ∷ claim 3 1 1 0 0 0 0
           ∷ claim 3 1 4 0 0 0 0
           ∷ claim 3 1 7 2 0 0 0
-          ∷ claim 3 1 10 2 0 0 0
+          ∷ claim 3 1 10 0 0 2 0
           ∷ claim 3 2 1 0 0 0 0
           ∷ claim 3 2 4 0 0 0 0
           ∷ claim 3 2 7 0 2 0 0
-          ∷ claim 3 2 10 0 2 1 0
+          ∷ claim 3 2 10 0 0 0 0
           ∷ claim 3 3 1 0 0 0 0
           ∷ claim 3 3 4 0 0 0 0
           ∷ claim 3 3 7 0 4 3 0
-          ∷ claim 3 3 10 0 3 0 0
+          ∷ claim 3 3 10 0 2 0 0
+          ∷ [];
+      headrooms =
+          told 1 1 0 (pos 2)
+          ∷ told 1 2 0 (pos 2)
+          ∷ told 1 3 0 (pos 2)
+          ∷ told 2 1 0 (pos 3)
+          ∷ told 2 2 0 (pos 3)
+          ∷ told 2 3 0 (pos 2)
+          ∷ told 3 1 0 (pos 3)
+          ∷ told 3 2 0 (pos 3)
+          ∷ told 3 3 0 (pos 2)
+          ∷ told 4 1 5 (pos 0)
+          ∷ told 1 4294967297 5 (pos 0)
           ∷ [];
     }
 
 pub agrees-13 : first-wrong list-13 ≡ 0
-unfolding first-wrong entries apply Direct.start Direct.tick Pipelined.start Pipelined.tick book-words rate-words release-words release-rate-words arrive-words into-frame booking bookings row-sum column-sum sum least some-of word
+unfolding first-wrong entries apply Direct.start Direct.tick Pipelined.start Pipelined.tick book-words rate-words release-words release-rate-words headroom-refusal arrive-words into-frame booking bookings row-sum column-sum sum least some-of word
 agrees-13 = refl
+
+pub headroom-13 : first-wrong-headroom list-13 ≡ 0
+unfolding first-wrong-headroom final headroom-result pair-headroom headroom-over apply Direct.start Direct.tick Pipelined.start Pipelined.tick book-words rate-words release-words release-rate-words headroom-refusal arrive-words into-frame booking bookings row-sum column-sum sum least some-of word
+headroom-13 = refl
 
 abbrev list-14 : Case
 list-14 =
@@ -1415,44 +1585,53 @@ list-14 =
           ∷ arrive 1 2 3
           ∷ release-rate 1 2 1
           ∷ tick direct
+          ∷ release-rate 2 1 1
           ∷ tick direct
-          ∷ tick direct
-          ∷ arrive 2 1 4
-          ∷ tick direct
-          ∷ tick direct
-          ∷ tick direct
-          ∷ tick direct
-          ∷ arrive 2 2 5
-          ∷ arrive 1 2 2
           ∷ tick direct
           ∷ release-rate 1 2 1
           ∷ tick direct
           ∷ arrive 2 1 3
-          ∷ tick direct
+          ∷ arrive 1 2 5
+          ∷ release-rate 2 1 1
+          ∷ arrive 1 2 3
           ∷ arrive 2 1 3
-          ∷ book 2 2 1
+          ∷ arrive 2 2 4
           ∷ tick direct
-          ∷ release-rate 1 1 1
+          ∷ release-rate 2 1 1
+          ∷ release 1 1 1
+          ∷ tick direct
+          ∷ headroom 1 1
+          ∷ tick direct
+          ∷ tick direct
+          ∷ tick direct
+          ∷ tick direct
+          ∷ tick direct
+          ∷ start direct 2 3 100000001
+          ∷ release 2 2 1
+          ∷ tick direct
+          ∷ book-rate 1 1 1
+          ∷ tick direct
+          ∷ tick direct
+          ∷ book 1 1 4
+          ∷ tick direct
+          ∷ book-rate 2 1 1
+          ∷ book-rate 1 1 1
+          ∷ tick direct
+          ∷ book-rate 2 1 1
+          ∷ book-rate 2 1 1
+          ∷ tick direct
+          ∷ arrive 2 1 2
+          ∷ tick direct
+          ∷ tick direct
+          ∷ tick direct
+          ∷ book 2 1 1
           ∷ tick direct
           ∷ arrive 1 1 2
           ∷ tick direct
+          ∷ release-rate 2 2 1
+          ∷ headroom 2 2
           ∷ tick direct
-          ∷ tick direct
-          ∷ tick direct
-          ∷ tick direct
-          ∷ tick direct
-          ∷ tick direct
-          ∷ tick direct
-          ∷ tick direct
-          ∷ release 4294967297 2 1
-          ∷ book-rate 1 2 1
-          ∷ release-rate 2 1 1
-          ∷ release-rate 2 1 1
-          ∷ arrive 1 2 4
-          ∷ arrive 2 1 5
-          ∷ tick direct
-          ∷ arrive 1 1 3
-          ∷ tick direct
+          ∷ start direct 33 3 0
           ∷ tick direct
           ∷ [];
       expected =
@@ -1460,40 +1639,52 @@ list-14 =
           ∷ claim 1 1 4 0 0 3 0
           ∷ claim 1 1 7 0 0 1 0
           ∷ claim 1 1 10 0 0 0 0
-          ∷ claim 1 1 13 0 0 2 0
+          ∷ claim 1 1 13 0 0 0 0
           ∷ claim 1 1 16 0 0 0 0
           ∷ claim 1 1 19 0 0 0 0
-          ∷ claim 1 1 22 0 0 2 0
+          ∷ claim 1 1 22 0 1 2 0
           ∷ claim 1 2 1 0 0 3 0
           ∷ claim 1 2 4 0 0 3 0
           ∷ claim 1 2 7 0 0 3 0
           ∷ claim 1 2 10 0 0 3 0
-          ∷ claim 1 2 13 0 1 3 0
-          ∷ claim 1 2 16 0 1 2 0
-          ∷ claim 1 2 19 0 1 0 0
-          ∷ claim 1 2 22 0 1 3 0
+          ∷ claim 1 2 13 0 0 3 0
+          ∷ claim 1 2 16 0 0 3 0
+          ∷ claim 1 2 19 0 0 2 0
+          ∷ claim 1 2 22 0 0 0 0
           ∷ claim 2 1 1 0 0 3 0
           ∷ claim 2 1 4 0 0 3 0
           ∷ claim 2 1 7 0 0 3 0
           ∷ claim 2 1 10 0 0 3 0
-          ∷ claim 2 1 13 0 1 3 0
-          ∷ claim 2 1 16 0 1 3 0
-          ∷ claim 2 1 19 0 1 3 0
-          ∷ claim 2 1 22 0 1 3 0
+          ∷ claim 2 1 13 0 0 3 0
+          ∷ claim 2 1 16 0 0 3 0
+          ∷ claim 2 1 19 0 0 1 0
+          ∷ claim 2 1 22 1 0 0 0
           ∷ claim 2 2 1 0 0 0 0
-          ∷ claim 2 2 4 0 0 0 0
-          ∷ claim 2 2 7 0 0 2 0
+          ∷ claim 2 2 4 0 0 2 0
+          ∷ claim 2 2 7 0 0 3 0
           ∷ claim 2 2 10 0 0 3 0
-          ∷ claim 2 2 13 1 0 3 1
-          ∷ claim 2 2 16 1 0 3 1
-          ∷ claim 2 2 19 1 0 3 1
-          ∷ claim 2 2 22 1 0 1 1
+          ∷ claim 2 2 13 0 0 3 0
+          ∷ claim 2 2 16 0 0 3 0
+          ∷ claim 2 2 19 0 0 3 0
+          ∷ claim 2 2 22 0 1 0 0
+          ∷ [];
+      headrooms =
+          told 1 1 0 (pos 2)
+          ∷ told 1 2 0 (pos 3)
+          ∷ told 2 1 0 (pos 2)
+          ∷ told 2 2 0 (pos 2)
+          ∷ told 3 1 5 (pos 0)
+          ∷ told 1 4294967297 5 (pos 0)
           ∷ [];
     }
 
 pub agrees-14 : first-wrong list-14 ≡ 0
-unfolding first-wrong entries apply Direct.start Direct.tick Pipelined.start Pipelined.tick book-words rate-words release-words release-rate-words arrive-words into-frame booking bookings row-sum column-sum sum least some-of word
+unfolding first-wrong entries apply Direct.start Direct.tick Pipelined.start Pipelined.tick book-words rate-words release-words release-rate-words headroom-refusal arrive-words into-frame booking bookings row-sum column-sum sum least some-of word
 agrees-14 = refl
+
+pub headroom-14 : first-wrong-headroom list-14 ≡ 0
+unfolding first-wrong-headroom final headroom-result pair-headroom headroom-over apply Direct.start Direct.tick Pipelined.start Pipelined.tick book-words rate-words release-words release-rate-words headroom-refusal arrive-words into-frame booking bookings row-sum column-sum sum least some-of word
+headroom-14 = refl
 
 abbrev list-15 : Case
 list-15 =
@@ -1532,88 +1723,99 @@ list-15 =
           ∷ arrive 1 1 78
           ∷ arrive 3 3 62
           ∷ arrive 3 1 47
-          ∷ tick pipelined
-          ∷ tick pipelined
-          ∷ tick pipelined
-          ∷ release-rate 3 2 112
-          ∷ tick pipelined
-          ∷ tick pipelined
-          ∷ release-rate 1 2 56
-          ∷ arrive 1 3 59
-          ∷ release 1 3 1
-          ∷ tick pipelined
-          ∷ tick pipelined
-          ∷ release-rate 1 2 55
-          ∷ book 1 3 0
-          ∷ arrive 3 1 69
-          ∷ tick pipelined
-          ∷ tick pipelined
-          ∷ release-rate 1 2 223
+          ∷ arrive 1 3 58
+          ∷ release-rate 1 2 333
           ∷ tick pipelined
           ∷ tick pipelined
           ∷ tick pipelined
           ∷ tick pipelined
+          ∷ book-rate 3 1 55
+          ∷ release-rate 1 3 1
           ∷ tick pipelined
-          ∷ release-rate 2 2 1
-          ∷ release-rate 2 1 1
-          ∷ book-rate 2 3 1001
-          ∷ tick pipelined
-          ∷ tick pipelined
-          ∷ release-rate 1 2 222
-          ∷ book 2 1 1
-          ∷ tick pipelined
-          ∷ book 1 3 1
-          ∷ arrive 2 3 65
+          ∷ book-rate 2 1 55
           ∷ tick pipelined
           ∷ tick pipelined
           ∷ tick pipelined
-          ∷ release 1 3 1
+          ∷ start pipelined 33 6 1000
+          ∷ tick pipelined
+          ∷ tick pipelined
+          ∷ tick pipelined
+          ∷ tick pipelined
+          ∷ arrive 2 1 48
+          ∷ tick pipelined
+          ∷ tick pipelined
+          ∷ tick pipelined
+          ∷ arrive 1 1 84
+          ∷ headroom 4 2
+          ∷ tick pipelined
+          ∷ release 2 1 2
+          ∷ tick pipelined
+          ∷ tick pipelined
+          ∷ tick pipelined
+          ∷ tick pipelined
           ∷ tick pipelined
           ∷ tick pipelined
           ∷ [];
       expected =
           claim 1 1 1 0 0 0 0
-          ∷ claim 1 1 7 0 3 6 0
-          ∷ claim 1 1 13 0 2 6 0
-          ∷ claim 1 1 19 0 2 5 0
+          ∷ claim 1 1 7 0 1 6 0
+          ∷ claim 1 1 13 0 3 6 0
+          ∷ claim 1 1 19 0 3 5 0
           ∷ claim 1 2 1 0 0 0 0
-          ∷ claim 1 2 7 2 2 6 2
-          ∷ claim 1 2 13 2 0 6 2
-          ∷ claim 1 2 19 2 0 5 2
+          ∷ claim 1 2 7 0 2 6 0
+          ∷ claim 1 2 13 0 2 6 0
+          ∷ claim 1 2 19 0 2 5 0
           ∷ claim 1 3 1 0 0 0 0
-          ∷ claim 1 3 7 1 2 6 1
-          ∷ claim 1 3 13 0 2 6 0
-          ∷ claim 1 3 19 0 2 5 0
+          ∷ claim 1 3 7 1 0 6 1
+          ∷ claim 1 3 13 1 0 6 1
+          ∷ claim 1 3 19 1 0 5 1
           ∷ claim 2 1 1 0 0 0 0
           ∷ claim 2 1 7 0 0 6 0
-          ∷ claim 2 1 13 0 0 6 0
-          ∷ claim 2 1 19 0 0 5 0
+          ∷ claim 2 1 13 1 1 6 1
+          ∷ claim 2 1 19 1 1 5 1
           ∷ claim 2 2 1 0 0 0 0
-          ∷ claim 2 2 7 0 3 0 0
+          ∷ claim 2 2 7 0 1 0 0
           ∷ claim 2 2 13 0 2 0 0
           ∷ claim 2 2 19 0 2 0 0
           ∷ claim 2 3 1 0 0 0 0
           ∷ claim 2 3 7 0 1 0 0
-          ∷ claim 2 3 13 0 0 0 0
-          ∷ claim 2 3 19 0 0 1 0
+          ∷ claim 2 3 13 0 2 0 0
+          ∷ claim 2 3 19 0 2 0 0
           ∷ claim 3 1 1 0 0 0 0
           ∷ claim 3 1 7 0 1 6 0
-          ∷ claim 3 1 13 0 0 6 0
-          ∷ claim 3 1 19 0 0 5 0
+          ∷ claim 3 1 13 1 2 6 1
+          ∷ claim 3 1 19 1 2 5 1
           ∷ claim 3 2 1 0 0 0 0
-          ∷ claim 3 2 7 1 2 6 1
-          ∷ claim 3 2 13 0 2 6 0
-          ∷ claim 3 2 19 0 2 5 0
+          ∷ claim 3 2 7 1 0 6 1
+          ∷ claim 3 2 13 1 1 6 1
+          ∷ claim 3 2 19 1 1 5 1
           ∷ claim 3 3 1 0 0 0 0
           ∷ claim 3 3 7 0 2 6 0
-          ∷ claim 3 3 13 0 0 6 0
-          ∷ claim 3 3 19 0 0 5 0
+          ∷ claim 3 3 13 0 3 6 0
+          ∷ claim 3 3 19 0 3 5 0
+          ∷ [];
+      headrooms =
+          told 1 1 0 (pos 3)
+          ∷ told 1 2 0 (pos 4)
+          ∷ told 1 3 0 (pos 5)
+          ∷ told 2 1 0 (pos 4)
+          ∷ told 2 2 0 (pos 4)
+          ∷ told 2 3 0 (pos 4)
+          ∷ told 3 1 0 (pos 3)
+          ∷ told 3 2 0 (pos 4)
+          ∷ told 3 3 0 (pos 3)
+          ∷ told 4 1 5 (pos 0)
+          ∷ told 1 4294967297 5 (pos 0)
           ∷ [];
     }
 
 pub agrees-15 : first-wrong list-15 ≡ 0
-unfolding first-wrong entries apply Direct.start Direct.tick Pipelined.start Pipelined.tick book-words rate-words release-words release-rate-words arrive-words into-frame booking bookings row-sum column-sum sum least some-of word
+unfolding first-wrong entries apply Direct.start Direct.tick Pipelined.start Pipelined.tick book-words rate-words release-words release-rate-words headroom-refusal arrive-words into-frame booking bookings row-sum column-sum sum least some-of word
 agrees-15 = refl
+
+pub headroom-15 : first-wrong-headroom list-15 ≡ 0
+unfolding first-wrong-headroom final headroom-result pair-headroom headroom-over apply Direct.start Direct.tick Pipelined.start Pipelined.tick book-words rate-words release-words release-rate-words headroom-refusal arrive-words into-frame booking bookings row-sum column-sum sum least some-of word
+headroom-15 = refl
 
 abbrev list-16 : Case
 list-16 =
@@ -1634,54 +1836,58 @@ list-16 =
           ∷ book-rate 1 1 1
           ∷ book-rate 1 1 1
           ∷ arrive 1 1 65
-          ∷ arrive 1 1 51
-          ∷ arrive 1 1 68
-          ∷ tick direct
-          ∷ arrive 1 1 62
           ∷ tick direct
           ∷ tick direct
+          ∷ arrive 1 1 66
+          ∷ start direct 1 10001 0
           ∷ tick direct
-          ∷ tick direct
-          ∷ arrive 1 1 65536
-          ∷ tick direct
-          ∷ tick direct
-          ∷ tick direct
-          ∷ tick direct
-          ∷ tick direct
-          ∷ tick direct
-          ∷ tick direct
-          ∷ tick direct
-          ∷ release 1 0 1
-          ∷ arrive 1 1 46
           ∷ release 1 1 1
           ∷ tick direct
           ∷ tick direct
-          ∷ arrive 1 1 84
-          ∷ tick direct
-          ∷ tick direct
-          ∷ tick direct
-          ∷ tick direct
-          ∷ book-rate 1 1 1
-          ∷ release-rate 1 1 1
-          ∷ book-rate 1 1 1
-          ∷ arrive 1 1 59
           ∷ release-rate 1 1 1
           ∷ tick direct
-          ∷ arrive 1 1 61
+          ∷ tick direct
+          ∷ tick direct
+          ∷ tick direct
+          ∷ tick direct
+          ∷ book 1 1 1
+          ∷ tick direct
+          ∷ release 1 1 1
+          ∷ tick direct
+          ∷ tick direct
+          ∷ headroom 1 1
+          ∷ tick direct
+          ∷ tick direct
+          ∷ tick direct
+          ∷ tick direct
+          ∷ arrive 1 1 72
+          ∷ tick direct
+          ∷ tick direct
+          ∷ headroom 0 1
+          ∷ tick direct
           ∷ tick direct
           ∷ [];
       expected =
           claim 1 1 1 0 0 5 0
           ∷ claim 1 1 6 0 0 5 0
-          ∷ claim 1 1 11 0 0 5 0
+          ∷ claim 1 1 11 1 0 5 1
           ∷ claim 1 1 16 0 0 5 0
           ∷ claim 1 1 21 0 0 1 0
+          ∷ [];
+      headrooms =
+          told 1 1 0 (pos 5)
+          ∷ told 2 1 5 (pos 0)
+          ∷ told 1 0 5 (pos 0)
           ∷ [];
     }
 
 pub agrees-16 : first-wrong list-16 ≡ 0
-unfolding first-wrong entries apply Direct.start Direct.tick Pipelined.start Pipelined.tick book-words rate-words release-words release-rate-words arrive-words into-frame booking bookings row-sum column-sum sum least some-of word
+unfolding first-wrong entries apply Direct.start Direct.tick Pipelined.start Pipelined.tick book-words rate-words release-words release-rate-words headroom-refusal arrive-words into-frame booking bookings row-sum column-sum sum least some-of word
 agrees-16 = refl
+
+pub headroom-16 : first-wrong-headroom list-16 ≡ 0
+unfolding first-wrong-headroom final headroom-result pair-headroom headroom-over apply Direct.start Direct.tick Pipelined.start Pipelined.tick book-words rate-words release-words release-rate-words headroom-refusal arrive-words into-frame booking bookings row-sum column-sum sum least some-of word
+headroom-16 = refl
 
 abbrev list-17 : Case
 list-17 =
@@ -1731,28 +1937,36 @@ list-17 =
           ∷ book 1 1 1
           ∷ arrive 1 1 3
           ∷ arrive 1 1 2
-          ∷ tick pipelined
-          ∷ tick pipelined
-          ∷ tick pipelined
-          ∷ tick pipelined
-          ∷ tick pipelined
-          ∷ tick pipelined
-          ∷ arrive 1 1 2
           ∷ arrive 1 1 2
           ∷ tick pipelined
+          ∷ tick pipelined
+          ∷ release-rate 1 1 0
+          ∷ headroom 1 1
+          ∷ arrive 1 1 2
           ∷ release-rate 1 1 1
           ∷ tick pipelined
-          ∷ tick pipelined
-          ∷ release-rate 1 1 1
-          ∷ tick pipelined
-          ∷ tick pipelined
-          ∷ tick pipelined
-          ∷ tick pipelined
-          ∷ release-rate 1 1 1
+          ∷ arrive 1 1 3
+          ∷ arrive 1 1 4
           ∷ tick pipelined
           ∷ tick pipelined
           ∷ tick pipelined
           ∷ arrive 1 1 3
+          ∷ tick pipelined
+          ∷ release-rate 1 1 1
+          ∷ tick pipelined
+          ∷ tick pipelined
+          ∷ arrive 1 1 4
+          ∷ tick pipelined
+          ∷ tick pipelined
+          ∷ arrive 1 1 2
+          ∷ tick pipelined
+          ∷ headroom 1 1
+          ∷ tick pipelined
+          ∷ tick pipelined
+          ∷ tick pipelined
+          ∷ tick pipelined
+          ∷ release-rate 1 1 1
+          ∷ release-rate 2 1 1
           ∷ tick pipelined
           ∷ [];
       expected =
@@ -1762,24 +1976,33 @@ list-17 =
           ∷ claim 1 1 4 1 0 1 1
           ∷ claim 1 1 5 1 0 1 1
           ∷ claim 1 1 6 1 0 1 1
-          ∷ claim 1 1 7 1 0 0 0
-          ∷ claim 1 1 8 1 0 0 0
+          ∷ claim 1 1 7 1 0 1 1
+          ∷ claim 1 1 8 1 0 1 1
           ∷ claim 1 1 9 1 0 1 1
           ∷ claim 1 1 10 1 0 1 1
           ∷ claim 1 1 11 1 0 1 1
-          ∷ claim 1 1 12 1 0 0 0
-          ∷ claim 1 1 13 1 0 0 0
-          ∷ claim 1 1 14 1 0 0 0
-          ∷ claim 1 1 15 1 0 0 0
-          ∷ claim 1 1 16 1 0 0 0
-          ∷ claim 1 1 17 1 0 0 0
-          ∷ claim 1 1 18 1 0 0 0
+          ∷ claim 1 1 12 1 0 1 1
+          ∷ claim 1 1 13 1 0 1 1
+          ∷ claim 1 1 14 1 0 1 1
+          ∷ claim 1 1 15 1 0 1 1
+          ∷ claim 1 1 16 1 0 1 1
+          ∷ claim 1 1 17 1 0 1 1
+          ∷ claim 1 1 18 1 0 1 1
+          ∷ [];
+      headrooms =
+          told 1 1 0 (pos 0)
+          ∷ told 2 1 5 (pos 0)
+          ∷ told 1 0 5 (pos 0)
           ∷ [];
     }
 
 pub agrees-17 : first-wrong list-17 ≡ 0
-unfolding first-wrong entries apply Direct.start Direct.tick Pipelined.start Pipelined.tick book-words rate-words release-words release-rate-words arrive-words into-frame booking bookings row-sum column-sum sum least some-of word
+unfolding first-wrong entries apply Direct.start Direct.tick Pipelined.start Pipelined.tick book-words rate-words release-words release-rate-words headroom-refusal arrive-words into-frame booking bookings row-sum column-sum sum least some-of word
 agrees-17 = refl
+
+pub headroom-17 : first-wrong-headroom list-17 ≡ 0
+unfolding first-wrong-headroom final headroom-result pair-headroom headroom-over apply Direct.start Direct.tick Pipelined.start Pipelined.tick book-words rate-words release-words release-rate-words headroom-refusal arrive-words into-frame booking bookings row-sum column-sum sum least some-of word
+headroom-17 = refl
 
 abbrev list-18 : Case
 list-18 =
@@ -1802,88 +2025,80 @@ list-18 =
           ∷ arrive 1 2 61
           ∷ arrive 1 1 84
           ∷ arrive 2 2 56
+          ∷ tick direct
+          ∷ release-rate 2 1 8333333
+          ∷ start direct 23 32 99999999
+          ∷ tick direct
+          ∷ tick direct
+          ∷ start direct 1 4 1000
+          ∷ book-rate 1 1 83
+          ∷ arrive 1 1 58
+          ∷ arrive 1 1 76
+          ∷ tick direct
+          ∷ tick direct
+          ∷ tick direct
+          ∷ headroom 1 1
+          ∷ tick direct
+          ∷ arrive 1 1 46
+          ∷ arrive 1 1 70
+          ∷ tick direct
           ∷ book 1 1 1
-          ∷ book 3 1 1
-          ∷ release 2 1 1
-          ∷ tick direct
-          ∷ book-rate 1 2 8333333
-          ∷ tick direct
-          ∷ release-rate 1 2 8333333
-          ∷ tick direct
-          ∷ start direct 2 7 7
-          ∷ book-rate 1 1 1
-          ∷ book 1 2 1
-          ∷ book 2 1 1
-          ∷ arrive 1 1 5
-          ∷ arrive 2 2 4
-          ∷ arrive 1 2 3
-          ∷ arrive 1 1 4
-          ∷ arrive 1 2 5
-          ∷ arrive 2 1 5
           ∷ tick direct
           ∷ tick direct
           ∷ tick direct
+          ∷ book-rate 1 1 83
+          ∷ tick direct
+          ∷ tick direct
+          ∷ arrive 1 1 66
+          ∷ tick direct
+          ∷ book 1 1 1
+          ∷ tick direct
+          ∷ arrive 1 1 88
+          ∷ arrive 1 1 50
+          ∷ tick direct
+          ∷ book-rate 1 1 83
+          ∷ arrive 1 1 57
+          ∷ tick direct
+          ∷ release-rate 1 1 249
+          ∷ tick direct
+          ∷ release 1 1 1
+          ∷ book 1 1 1
           ∷ tick direct
           ∷ tick direct
           ∷ tick direct
-          ∷ release 1 2 0
           ∷ tick direct
           ∷ tick direct
-          ∷ release-rate 1 1 2
-          ∷ tick direct
-          ∷ release-rate 1 1 2
-          ∷ arrive 1 2 3
+          ∷ start direct 19 32 1000
+          ∷ book 1 1 1
+          ∷ book-rate 1 1 83
           ∷ release-rate 1 1 1
           ∷ tick direct
+          ∷ book 1 1 2
           ∷ tick direct
-          ∷ book-rate 2 2 1
-          ∷ release-rate 2 1 8
-          ∷ tick direct
-          ∷ start direct 2 0 7
-          ∷ tick direct
-          ∷ tick direct
-          ∷ tick direct
-          ∷ tick direct
-          ∷ tick direct
-          ∷ book 1 2 1
-          ∷ arrive 1 2 2
-          ∷ release-rate 2 2 2
-          ∷ release 1 2 1
-          ∷ arrive 1 1 2
-          ∷ release-rate 1 1 8
-          ∷ release-rate 1 1 1
-          ∷ tick direct
-          ∷ tick direct
-          ∷ release-rate 2 2 1
-          ∷ arrive 2 2 4
-          ∷ tick direct
-          ∷ tick direct
-          ∷ arrive 2 1 2
           ∷ tick direct
           ∷ [];
       expected =
-          claim 1 1 1 1 2 7 1
-          ∷ claim 1 1 8 1 2 4 1
-          ∷ claim 1 1 15 0 2 2 0
-          ∷ claim 1 1 22 0 2 0 0
-          ∷ claim 1 2 1 1 1 7 1
-          ∷ claim 1 2 8 1 1 7 1
-          ∷ claim 1 2 15 1 1 7 1
-          ∷ claim 1 2 22 1 0 1 1
-          ∷ claim 2 1 1 1 1 7 1
-          ∷ claim 2 1 8 1 1 7 1
-          ∷ claim 2 1 15 1 1 0 0
-          ∷ claim 2 1 22 1 0 1 1
-          ∷ claim 2 2 1 0 2 5 0
-          ∷ claim 2 2 8 0 2 0 0
-          ∷ claim 2 2 15 1 2 2 1
-          ∷ claim 2 2 22 0 2 1 0
+          claim 1 1 1 1 0 4 1
+          ∷ claim 1 1 5 1 0 4 1
+          ∷ claim 1 1 9 2 0 4 2
+          ∷ claim 1 1 13 2 0 4 2
+          ∷ claim 1 1 17 1 0 4 1
+          ∷ claim 1 1 21 2 0 3 2
+          ∷ [];
+      headrooms =
+          told 1 1 0 (pos 2)
+          ∷ told 2 1 5 (pos 0)
+          ∷ told 1 0 5 (pos 0)
           ∷ [];
     }
 
 pub agrees-18 : first-wrong list-18 ≡ 0
-unfolding first-wrong entries apply Direct.start Direct.tick Pipelined.start Pipelined.tick book-words rate-words release-words release-rate-words arrive-words into-frame booking bookings row-sum column-sum sum least some-of word
+unfolding first-wrong entries apply Direct.start Direct.tick Pipelined.start Pipelined.tick book-words rate-words release-words release-rate-words headroom-refusal arrive-words into-frame booking bookings row-sum column-sum sum least some-of word
 agrees-18 = refl
+
+pub headroom-18 : first-wrong-headroom list-18 ≡ 0
+unfolding first-wrong-headroom final headroom-result pair-headroom headroom-over apply Direct.start Direct.tick Pipelined.start Pipelined.tick book-words rate-words release-words release-rate-words headroom-refusal arrive-words into-frame booking bookings row-sum column-sum sum least some-of word
+headroom-18 = refl
 
 abbrev list-19 : Case
 list-19 =
@@ -1922,36 +2137,44 @@ list-19 =
           ∷ arrive 2 3 49
           ∷ arrive 1 3 59
           ∷ tick pipelined
-          ∷ arrive 3 2 76
           ∷ tick pipelined
-          ∷ tick pipelined
-          ∷ release 4294967297 1 1
-          ∷ tick pipelined
-          ∷ tick pipelined
-          ∷ tick pipelined
-          ∷ tick pipelined
-          ∷ release-rate 2 2 1
+          ∷ arrive 2 1 60
           ∷ release-rate 1 1 1
-          ∷ release-rate 1 1 1
-          ∷ start pipelined 3 7 100000001
-          ∷ tick pipelined
-          ∷ tick pipelined
-          ∷ start pipelined 31 32 0
-          ∷ tick pipelined
-          ∷ arrive 1 3 85
           ∷ tick pipelined
           ∷ tick pipelined
           ∷ tick pipelined
           ∷ tick pipelined
-          ∷ tick pipelined
-          ∷ arrive 1 3 68
           ∷ tick pipelined
           ∷ tick pipelined
           ∷ book-rate 2 1 1
+          ∷ headroom 1 1
           ∷ tick pipelined
-          ∷ arrive 2 1 66
           ∷ tick pipelined
+          ∷ release 2 3 1
+          ∷ release-rate 2 1 1
+          ∷ arrive 1 1 47
+          ∷ release-rate 3 2 1
+          ∷ release 2 2 1
+          ∷ tick pipelined
+          ∷ release-rate 2 3 1
           ∷ release-rate 1 1 1
+          ∷ tick pipelined
+          ∷ book-rate 2 1 1
+          ∷ tick pipelined
+          ∷ start pipelined 3 7 100000001
+          ∷ tick pipelined
+          ∷ release-rate 1 3 1
+          ∷ book 1 2 1
+          ∷ tick pipelined
+          ∷ tick pipelined
+          ∷ book 2 3 0
+          ∷ tick pipelined
+          ∷ tick pipelined
+          ∷ tick pipelined
+          ∷ arrive 2 1 80
+          ∷ start pipelined 20 32 0
+          ∷ release-rate 3 2 1
+          ∷ book-rate 3 1 1
           ∷ tick pipelined
           ∷ [];
       expected =
@@ -1976,18 +2199,35 @@ list-19 =
           ∷ claim 3 1 1 0 0 0 0
           ∷ claim 3 1 8 0 0 0 0
           ∷ claim 3 1 15 0 0 0 0
-          ∷ claim 3 2 1 0 0 1 0
-          ∷ claim 3 2 8 0 0 7 0
-          ∷ claim 3 2 15 0 0 7 0
+          ∷ claim 3 2 1 0 0 0 0
+          ∷ claim 3 2 8 0 0 0 0
+          ∷ claim 3 2 15 0 0 0 0
           ∷ claim 3 3 1 0 0 1 0
           ∷ claim 3 3 8 0 1 7 0
           ∷ claim 3 3 15 0 1 7 0
           ∷ [];
+      headrooms =
+          told 1 1 0 (pos 6)
+          ∷ told 1 2 0 (pos 6)
+          ∷ told 1 3 0 (pos 6)
+          ∷ told 2 1 0 (pos 7)
+          ∷ told 2 2 0 (pos 6)
+          ∷ told 2 3 0 (pos 7)
+          ∷ told 3 1 0 (pos 7)
+          ∷ told 3 2 0 (pos 6)
+          ∷ told 3 3 0 (pos 7)
+          ∷ told 4 1 5 (pos 0)
+          ∷ told 1 0 5 (pos 0)
+          ∷ [];
     }
 
 pub agrees-19 : first-wrong list-19 ≡ 0
-unfolding first-wrong entries apply Direct.start Direct.tick Pipelined.start Pipelined.tick book-words rate-words release-words release-rate-words arrive-words into-frame booking bookings row-sum column-sum sum least some-of word
+unfolding first-wrong entries apply Direct.start Direct.tick Pipelined.start Pipelined.tick book-words rate-words release-words release-rate-words headroom-refusal arrive-words into-frame booking bookings row-sum column-sum sum least some-of word
 agrees-19 = refl
+
+pub headroom-19 : first-wrong-headroom list-19 ≡ 0
+unfolding first-wrong-headroom final headroom-result pair-headroom headroom-over apply Direct.start Direct.tick Pipelined.start Pipelined.tick book-words rate-words release-words release-rate-words headroom-refusal arrive-words into-frame booking bookings row-sum column-sum sum least some-of word
+headroom-19 = refl
 
 abbrev list-20 : Case
 list-20 =
@@ -2007,45 +2247,61 @@ list-20 =
           ∷ book-rate 1 1 1
           ∷ book-rate 1 1 1
           ∷ arrive 1 1 2
-          ∷ arrive 1 1 2
-          ∷ tick direct
-          ∷ tick direct
-          ∷ arrive 1 1 4
-          ∷ tick direct
-          ∷ book-rate 1 1 1
-          ∷ tick direct
           ∷ tick direct
           ∷ release 1 1 1
           ∷ tick direct
           ∷ tick direct
           ∷ tick direct
-          ∷ start direct 1 3 100000001
+          ∷ arrive 1 1 5
+          ∷ headroom 1 1
+          ∷ book 1 1 2
+          ∷ arrive 1 1 5
+          ∷ book 1 1 1
+          ∷ headroom 1 1
           ∷ tick direct
-          ∷ book-rate 1 1 1
+          ∷ arrive 1 1 5
+          ∷ tick direct
+          ∷ tick direct
+          ∷ tick direct
           ∷ book 1 1 1
-          ∷ book 1 1 1
+          ∷ tick direct
+          ∷ tick direct
+          ∷ headroom 1 1
+          ∷ arrive 1 1 5
           ∷ tick direct
           ∷ release-rate 1 1 1
+          ∷ headroom 1 1
+          ∷ tick direct
+          ∷ book 1 1 2
+          ∷ tick direct
+          ∷ arrive 0 1 1
           ∷ tick direct
           ∷ tick direct
-          ∷ tick direct
-          ∷ tick direct
-          ∷ tick direct
+          ∷ arrive 1 1 4
           ∷ tick direct
           ∷ [];
       expected =
-          claim 1 1 1 0 0 3 0
-          ∷ claim 1 1 4 0 0 3 0
-          ∷ claim 1 1 7 0 0 2 0
-          ∷ claim 1 1 10 2 0 0 0
-          ∷ claim 1 1 13 2 0 0 0
-          ∷ claim 1 1 16 2 0 0 0
+          claim 1 1 1 0 0 2 0
+          ∷ claim 1 1 4 0 0 2 0
+          ∷ claim 1 1 7 2 0 3 2
+          ∷ claim 1 1 10 2 0 3 2
+          ∷ claim 1 1 13 2 0 3 2
+          ∷ claim 1 1 16 2 0 1 1
+          ∷ [];
+      headrooms =
+          told 1 1 0 (pos 1)
+          ∷ told 2 1 5 (pos 0)
+          ∷ told 1 4294967297 5 (pos 0)
           ∷ [];
     }
 
 pub agrees-20 : first-wrong list-20 ≡ 0
-unfolding first-wrong entries apply Direct.start Direct.tick Pipelined.start Pipelined.tick book-words rate-words release-words release-rate-words arrive-words into-frame booking bookings row-sum column-sum sum least some-of word
+unfolding first-wrong entries apply Direct.start Direct.tick Pipelined.start Pipelined.tick book-words rate-words release-words release-rate-words headroom-refusal arrive-words into-frame booking bookings row-sum column-sum sum least some-of word
 agrees-20 = refl
+
+pub headroom-20 : first-wrong-headroom list-20 ≡ 0
+unfolding first-wrong-headroom final headroom-result pair-headroom headroom-over apply Direct.start Direct.tick Pipelined.start Pipelined.tick book-words rate-words release-words release-rate-words headroom-refusal arrive-words into-frame booking bookings row-sum column-sum sum least some-of word
+headroom-20 = refl
 
 abbrev list-21 : Case
 list-21 =
@@ -2084,101 +2340,134 @@ list-21 =
           ∷ arrive 1 2 2
           ∷ arrive 2 1 1
           ∷ arrive 2 1 2
-          ∷ arrive 3 1 1
           ∷ tick pipelined
-          ∷ book-rate 2 2 16666666
-          ∷ start pipelined 3 2 100000000
-          ∷ tick pipelined
-          ∷ tick pipelined
-          ∷ tick pipelined
-          ∷ tick pipelined
-          ∷ tick pipelined
-          ∷ arrive 3 1 1
-          ∷ release-rate 3 2 1
-          ∷ arrive 1 1 2
           ∷ arrive 1 1 1
           ∷ tick pipelined
-          ∷ tick pipelined
-          ∷ tick pipelined
-          ∷ tick pipelined
-          ∷ arrive 2 3 2
-          ∷ tick pipelined
-          ∷ tick pipelined
-          ∷ release-rate 2 2 16666666
-          ∷ tick pipelined
-          ∷ tick pipelined
-          ∷ book 1 2 1
-          ∷ tick pipelined
-          ∷ tick pipelined
-          ∷ book-rate 3 3 8333334
+          ∷ arrive 2 2 1
+          ∷ start pipelined 3 2 100000000
+          ∷ arrive 2 2 2
+          ∷ release-rate 2 3 0
+          ∷ arrive 2 1 2
+          ∷ book 2 1 1
           ∷ tick pipelined
           ∷ tick pipelined
           ∷ tick pipelined
           ∷ tick pipelined
+          ∷ start pipelined 3 2 100000000
           ∷ tick pipelined
+          ∷ release-rate 1 3 16666666
+          ∷ tick pipelined
+          ∷ tick pipelined
+          ∷ release-rate 2 0 1
+          ∷ tick pipelined
+          ∷ tick pipelined
+          ∷ start pipelined 9 32 100000000
+          ∷ tick pipelined
+          ∷ arrive 3 3 2
+          ∷ tick pipelined
+          ∷ start pipelined 3 2 100000000
+          ∷ release-rate 3 3 1
+          ∷ tick pipelined
+          ∷ tick pipelined
+          ∷ tick pipelined
+          ∷ arrive 3 2 2
+          ∷ tick pipelined
+          ∷ arrive 2 1 2
+          ∷ release-rate 2 2 33333333
+          ∷ release-rate 1 1 1
+          ∷ book 1 1 1
+          ∷ release-rate 3 0 1
+          ∷ arrive 2 2 2
+          ∷ release-rate 3 3 1
+          ∷ book 2 1 1
+          ∷ release-rate 2 2 1
+          ∷ tick pipelined
+          ∷ tick pipelined
+          ∷ tick pipelined
+          ∷ release 1 1 1
+          ∷ headroom 3 1
+          ∷ tick pipelined
+          ∷ release-rate 2 2 1
           ∷ tick pipelined
           ∷ [];
       expected =
           claim 1 1 1 0 0 0 0
-          ∷ claim 1 1 5 0 0 1 0
+          ∷ claim 1 1 5 0 0 2 0
           ∷ claim 1 1 9 1 1 0 0
-          ∷ claim 1 1 13 1 1 2 1
-          ∷ claim 1 1 17 1 1 0 0
-          ∷ claim 1 1 21 1 1 0 0
+          ∷ claim 1 1 13 1 1 0 0
+          ∷ claim 1 1 17 1 0 0 0
+          ∷ claim 1 1 21 1 0 0 0
           ∷ claim 1 2 1 0 0 0 0
           ∷ claim 1 2 5 0 0 2 0
           ∷ claim 1 2 9 0 4 4 0
           ∷ claim 1 2 13 0 4 3 0
-          ∷ claim 1 2 17 0 4 0 0
-          ∷ claim 1 2 21 0 4 0 0
+          ∷ claim 1 2 17 0 3 0 0
+          ∷ claim 1 2 21 0 3 0 0
           ∷ claim 1 3 1 0 0 0 0
           ∷ claim 1 3 5 0 0 2 0
           ∷ claim 1 3 9 1 1 4 1
-          ∷ claim 1 3 13 1 1 4 1
-          ∷ claim 1 3 17 1 1 1 1
-          ∷ claim 1 3 21 1 1 0 0
+          ∷ claim 1 3 13 1 1 1 1
+          ∷ claim 1 3 17 0 1 0 0
+          ∷ claim 1 3 21 0 1 0 0
           ∷ claim 2 1 1 0 0 0 0
           ∷ claim 2 1 5 0 0 2 0
           ∷ claim 2 1 9 0 3 4 0
-          ∷ claim 2 1 13 0 3 0 0
-          ∷ claim 2 1 17 0 3 0 0
-          ∷ claim 2 1 21 0 3 0 0
+          ∷ claim 2 1 13 0 3 4 0
+          ∷ claim 2 1 17 0 3 1 0
+          ∷ claim 2 1 21 0 3 1 0
           ∷ claim 2 2 1 0 0 0 0
-          ∷ claim 2 2 5 0 0 0 0
-          ∷ claim 2 2 9 2 0 0 0
+          ∷ claim 2 2 5 0 0 1 0
+          ∷ claim 2 2 9 2 0 2 2
           ∷ claim 2 2 13 2 0 0 0
           ∷ claim 2 2 17 2 0 0 0
-          ∷ claim 2 2 21 2 0 0 0
+          ∷ claim 2 2 21 2 0 1 1
           ∷ claim 2 3 1 0 0 0 0
           ∷ claim 2 3 5 0 0 0 0
           ∷ claim 2 3 9 0 3 0 0
-          ∷ claim 2 3 13 0 3 1 0
-          ∷ claim 2 3 17 0 3 2 0
-          ∷ claim 2 3 21 0 3 0 0
+          ∷ claim 2 3 13 0 3 0 0
+          ∷ claim 2 3 17 0 2 0 0
+          ∷ claim 2 3 21 0 2 0 0
           ∷ claim 3 1 1 0 0 0 0
           ∷ claim 3 1 5 0 0 2 0
           ∷ claim 3 1 9 0 1 4 0
           ∷ claim 3 1 13 0 1 4 0
-          ∷ claim 3 1 17 0 1 4 0
+          ∷ claim 3 1 17 0 1 2 0
           ∷ claim 3 1 21 0 1 0 0
           ∷ claim 3 2 1 0 0 0 0
           ∷ claim 3 2 5 0 0 2 0
           ∷ claim 3 2 9 0 2 4 0
-          ∷ claim 3 2 13 0 2 0 0
+          ∷ claim 3 2 13 0 2 4 0
           ∷ claim 3 2 17 0 2 0 0
-          ∷ claim 3 2 21 0 2 0 0
+          ∷ claim 3 2 21 0 2 2 0
           ∷ claim 3 3 1 0 0 0 0
           ∷ claim 3 3 5 0 0 0 0
           ∷ claim 3 3 9 0 1 0 0
           ∷ claim 3 3 13 0 1 0 0
-          ∷ claim 3 3 17 0 1 0 0
-          ∷ claim 3 3 21 0 1 0 0
+          ∷ claim 3 3 17 0 0 3 0
+          ∷ claim 3 3 21 0 0 0 0
+          ∷ [];
+      headrooms =
+          told 1 1 0 (pos 3)
+          ∷ told 1 2 0 (pos 3)
+          ∷ told 1 3 0 (pos 3)
+          ∷ told 2 1 0 (pos 3)
+          ∷ told 2 2 0 (pos 4)
+          ∷ told 2 3 0 (pos 4)
+          ∷ told 3 1 0 (pos 3)
+          ∷ told 3 2 0 (pos 4)
+          ∷ told 3 3 0 (pos 4)
+          ∷ told 4 1 5 (pos 0)
+          ∷ told 1 0 5 (pos 0)
           ∷ [];
     }
 
 pub agrees-21 : first-wrong list-21 ≡ 0
-unfolding first-wrong entries apply Direct.start Direct.tick Pipelined.start Pipelined.tick book-words rate-words release-words release-rate-words arrive-words into-frame booking bookings row-sum column-sum sum least some-of word
+unfolding first-wrong entries apply Direct.start Direct.tick Pipelined.start Pipelined.tick book-words rate-words release-words release-rate-words headroom-refusal arrive-words into-frame booking bookings row-sum column-sum sum least some-of word
 agrees-21 = refl
+
+pub headroom-21 : first-wrong-headroom list-21 ≡ 0
+unfolding first-wrong-headroom final headroom-result pair-headroom headroom-over apply Direct.start Direct.tick Pipelined.start Pipelined.tick book-words rate-words release-words release-rate-words headroom-refusal arrive-words into-frame booking bookings row-sum column-sum sum least some-of word
+headroom-21 = refl
 
 abbrev list-22 : Case
 list-22 =
@@ -2235,30 +2524,26 @@ list-22 =
           ∷ arrive 2 2 12
           ∷ arrive 3 1 11
           ∷ arrive 2 2 11
-          ∷ arrive 2 2 10
-          ∷ arrive 3 1 9
+          ∷ book 2 2 2
+          ∷ arrive 1 3 6
           ∷ tick direct
           ∷ tick direct
           ∷ tick direct
-          ∷ arrive 3 3 10
-          ∷ arrive 3 1 8
-          ∷ arrive 3 3 9
           ∷ tick direct
           ∷ tick direct
-          ∷ release-rate 3 3 1
-          ∷ start direct 26 32 7
+          ∷ tick direct
+          ∷ tick direct
+          ∷ release 2 3 1
+          ∷ arrive 1 3 11
+          ∷ book-rate 3 3 7
+          ∷ tick direct
+          ∷ arrive 2 3 6
+          ∷ tick direct
+          ∷ tick direct
           ∷ arrive 1 1 8
-          ∷ tick direct
-          ∷ arrive 2 3 9
-          ∷ tick direct
-          ∷ arrive 1 3 8
-          ∷ book 3 1 1
-          ∷ tick direct
-          ∷ arrive 4 2 1
-          ∷ release 3 3 1
-          ∷ release 1 1 1
-          ∷ tick direct
-          ∷ tick direct
+          ∷ release-rate 2 3 1
+          ∷ headroom 3 2
+          ∷ arrive 3 1 12
           ∷ tick direct
           ∷ [];
       expected =
@@ -2267,11 +2552,11 @@ list-22 =
           ∷ claim 1 1 3 0 1 0 0
           ∷ claim 1 1 4 0 1 0 0
           ∷ claim 1 1 5 0 1 0 0
-          ∷ claim 1 1 6 0 1 1 0
-          ∷ claim 1 1 7 0 1 1 0
-          ∷ claim 1 1 8 0 1 1 0
-          ∷ claim 1 1 9 0 1 1 0
-          ∷ claim 1 1 10 0 1 1 0
+          ∷ claim 1 1 6 0 1 0 0
+          ∷ claim 1 1 7 0 1 0 0
+          ∷ claim 1 1 8 0 1 0 0
+          ∷ claim 1 1 9 0 1 0 0
+          ∷ claim 1 1 10 0 1 0 0
           ∷ claim 1 1 11 0 1 1 0
           ∷ claim 1 2 1 0 1 0 0
           ∷ claim 1 2 2 0 1 0 0
@@ -2353,20 +2638,37 @@ list-22 =
           ∷ claim 3 3 1 0 1 0 0
           ∷ claim 3 3 2 0 1 0 0
           ∷ claim 3 3 3 0 1 0 0
-          ∷ claim 3 3 4 0 1 1 0
-          ∷ claim 3 3 5 0 1 1 0
-          ∷ claim 3 3 6 0 1 1 0
-          ∷ claim 3 3 7 0 1 1 0
-          ∷ claim 3 3 8 0 1 1 0
-          ∷ claim 3 3 9 0 1 1 0
-          ∷ claim 3 3 10 0 1 1 0
-          ∷ claim 3 3 11 0 1 1 0
+          ∷ claim 3 3 4 0 1 0 0
+          ∷ claim 3 3 5 0 1 0 0
+          ∷ claim 3 3 6 0 1 0 0
+          ∷ claim 3 3 7 0 1 0 0
+          ∷ claim 3 3 8 0 1 0 0
+          ∷ claim 3 3 9 0 1 0 0
+          ∷ claim 3 3 10 0 1 0 0
+          ∷ claim 3 3 11 0 1 0 0
+          ∷ [];
+      headrooms =
+          told 1 1 0 (pos 0)
+          ∷ told 1 2 0 (pos 0)
+          ∷ told 1 3 0 (pos 1)
+          ∷ told 2 1 0 (pos 0)
+          ∷ told 2 2 0 (negsuc 0)
+          ∷ told 2 3 0 (pos 0)
+          ∷ told 3 1 0 (negsuc 0)
+          ∷ told 3 2 0 (pos 0)
+          ∷ told 3 3 0 (pos 0)
+          ∷ told 4 1 5 (pos 0)
+          ∷ told 1 0 5 (pos 0)
           ∷ [];
     }
 
 pub agrees-22 : first-wrong list-22 ≡ 0
-unfolding first-wrong entries apply Direct.start Direct.tick Pipelined.start Pipelined.tick book-words rate-words release-words release-rate-words arrive-words into-frame booking bookings row-sum column-sum sum least some-of word
+unfolding first-wrong entries apply Direct.start Direct.tick Pipelined.start Pipelined.tick book-words rate-words release-words release-rate-words headroom-refusal arrive-words into-frame booking bookings row-sum column-sum sum least some-of word
 agrees-22 = refl
+
+pub headroom-22 : first-wrong-headroom list-22 ≡ 0
+unfolding first-wrong-headroom final headroom-result pair-headroom headroom-over apply Direct.start Direct.tick Pipelined.start Pipelined.tick book-words rate-words release-words release-rate-words headroom-refusal arrive-words into-frame booking bookings row-sum column-sum sum least some-of word
+headroom-22 = refl
 
 abbrev list-23 : Case
 list-23 =
@@ -2390,21 +2692,26 @@ list-23 =
           ∷ book-rate 2 1 166
           ∷ arrive 1 1 5
           ∷ arrive 2 1 2
+          ∷ release 1 1 1
           ∷ tick pipelined
+          ∷ headroom 2 1
           ∷ tick pipelined
-          ∷ tick pipelined
-          ∷ tick pipelined
-          ∷ tick pipelined
-          ∷ tick pipelined
-          ∷ arrive 2 1 3
           ∷ release 2 1 1
-          ∷ arrive 1 2 2
-          ∷ arrive 2 1 2
+          ∷ release-rate 2 1 1
           ∷ tick pipelined
           ∷ tick pipelined
-          ∷ release-rate 2 2 499
-          ∷ release-rate 1 1 1
+          ∷ book-rate 2 2 166
           ∷ tick pipelined
+          ∷ arrive 2 1 4
+          ∷ arrive 1 1 2
+          ∷ tick pipelined
+          ∷ tick pipelined
+          ∷ tick pipelined
+          ∷ tick pipelined
+          ∷ book-rate 1 2 333
+          ∷ release-rate 1 2 1
+          ∷ book-rate 1 1 166
+          ∷ headroom 1 1
           ∷ tick pipelined
           ∷ [];
       expected =
@@ -2412,14 +2719,14 @@ list-23 =
           ∷ claim 1 1 3 0 0 0 0
           ∷ claim 1 1 5 0 0 2 0
           ∷ claim 1 1 7 0 0 2 0
-          ∷ claim 1 1 9 0 0 1 0
-          ∷ claim 1 1 11 0 0 0 0
+          ∷ claim 1 1 9 0 0 2 0
+          ∷ claim 1 1 11 0 0 1 0
           ∷ claim 1 2 1 0 0 0 0
           ∷ claim 1 2 3 0 0 0 0
           ∷ claim 1 2 5 0 1 0 0
           ∷ claim 1 2 7 0 1 0 0
           ∷ claim 1 2 9 0 1 0 0
-          ∷ claim 1 2 11 0 1 1 0
+          ∷ claim 1 2 11 0 1 0 0
           ∷ claim 2 1 1 0 0 0 0
           ∷ claim 2 1 3 0 0 0 0
           ∷ claim 2 1 5 0 1 2 0
@@ -2433,11 +2740,23 @@ list-23 =
           ∷ claim 2 2 9 1 0 0 0
           ∷ claim 2 2 11 1 0 0 0
           ∷ [];
+      headrooms =
+          told 1 1 0 (pos 1)
+          ∷ told 1 2 0 (pos 0)
+          ∷ told 2 1 0 (pos 0)
+          ∷ told 2 2 0 (pos 1)
+          ∷ told 3 1 5 (pos 0)
+          ∷ told 1 0 5 (pos 0)
+          ∷ [];
     }
 
 pub agrees-23 : first-wrong list-23 ≡ 0
-unfolding first-wrong entries apply Direct.start Direct.tick Pipelined.start Pipelined.tick book-words rate-words release-words release-rate-words arrive-words into-frame booking bookings row-sum column-sum sum least some-of word
+unfolding first-wrong entries apply Direct.start Direct.tick Pipelined.start Pipelined.tick book-words rate-words release-words release-rate-words headroom-refusal arrive-words into-frame booking bookings row-sum column-sum sum least some-of word
 agrees-23 = refl
+
+pub headroom-23 : first-wrong-headroom list-23 ≡ 0
+unfolding first-wrong-headroom final headroom-result pair-headroom headroom-over apply Direct.start Direct.tick Pipelined.start Pipelined.tick book-words rate-words release-words release-rate-words headroom-refusal arrive-words into-frame booking bookings row-sum column-sum sum least some-of word
+headroom-23 = refl
 
 abbrev list-24 : Case
 list-24 =
@@ -2501,39 +2820,41 @@ list-24 =
           ∷ arrive 1 2 54
           ∷ tick direct
           ∷ tick direct
+          ∷ arrive 3 3 59
           ∷ tick direct
-          ∷ arrive 3 1 84
+          ∷ arrive 3 2 77
+          ∷ arrive 3 2 75
           ∷ tick direct
-          ∷ tick direct
-          ∷ tick direct
-          ∷ tick direct
-          ∷ book 3 2 1
-          ∷ arrive 3 2 80
-          ∷ tick direct
+          ∷ arrive 2 1 77
+          ∷ arrive 1 1 67
           ∷ tick direct
           ∷ tick direct
-          ∷ arrive 1 2 68
-          ∷ release 1 2 2
+          ∷ arrive 1 2 53
+          ∷ tick direct
+          ∷ tick direct
+          ∷ release-rate 2 2 100000000
+          ∷ tick direct
+          ∷ arrive 2 2 57
+          ∷ arrive 3 3 45
+          ∷ headroom 2 1
           ∷ tick direct
           ∷ tick direct
           ∷ tick direct
           ∷ tick direct
-          ∷ book-rate 1 3 25000000
+          ∷ headroom 2 1
+          ∷ tick direct
+          ∷ tick direct
+          ∷ arrive 1 2 75
+          ∷ book-rate 3 3 0
+          ∷ arrive 2 3 78
+          ∷ arrive 1 3 58
           ∷ tick direct
           ∷ tick direct
           ∷ tick direct
-          ∷ book 1 3 1
           ∷ tick direct
-          ∷ release-rate 2 1 16666666
-          ∷ arrive 2 1 58
+          ∷ release-rate 1 1 8333334
           ∷ tick direct
           ∷ tick direct
-          ∷ book-rate 4 3 1
-          ∷ book-rate 4 2 1
-          ∷ book-rate 3 3 8333334
-          ∷ book-rate 3 2 8333333
-          ∷ tick direct
-          ∷ book 3 2 2
           ∷ tick direct
           ∷ [];
       expected =
@@ -2542,7 +2863,7 @@ list-24 =
           ∷ claim 1 1 9 1 2 4 1
           ∷ claim 1 1 13 1 2 4 1
           ∷ claim 1 1 17 1 2 4 1
-          ∷ claim 1 1 21 1 1 2 1
+          ∷ claim 1 1 21 1 2 2 1
           ∷ claim 1 2 1 1 2 4 1
           ∷ claim 1 2 5 1 2 4 1
           ∷ claim 1 2 9 1 2 4 1
@@ -2560,25 +2881,25 @@ list-24 =
           ∷ claim 2 1 9 1 1 4 1
           ∷ claim 2 1 13 1 1 4 1
           ∷ claim 2 1 17 1 1 4 1
-          ∷ claim 2 1 21 0 1 2 0
+          ∷ claim 2 1 21 1 1 2 1
           ∷ claim 2 2 1 0 3 4 0
           ∷ claim 2 2 5 0 3 4 0
           ∷ claim 2 2 9 0 3 4 0
           ∷ claim 2 2 13 0 3 4 0
           ∷ claim 2 2 17 0 3 4 0
-          ∷ claim 2 2 21 0 2 2 0
+          ∷ claim 2 2 21 0 3 2 0
           ∷ claim 2 3 1 0 2 0 0
           ∷ claim 2 3 5 0 2 0 0
           ∷ claim 2 3 9 0 2 0 0
-          ∷ claim 2 3 13 0 2 0 0
-          ∷ claim 2 3 17 0 2 0 0
-          ∷ claim 2 3 21 0 1 0 0
+          ∷ claim 2 3 13 0 2 1 0
+          ∷ claim 2 3 17 0 2 4 0
+          ∷ claim 2 3 21 0 2 2 0
           ∷ claim 3 1 1 0 4 4 0
           ∷ claim 3 1 5 0 4 4 0
           ∷ claim 3 1 9 0 4 4 0
           ∷ claim 3 1 13 0 4 4 0
           ∷ claim 3 1 17 0 4 4 0
-          ∷ claim 3 1 21 0 3 2 0
+          ∷ claim 3 1 21 0 4 2 0
           ∷ claim 3 2 1 1 2 4 1
           ∷ claim 3 2 5 1 2 4 1
           ∷ claim 3 2 9 1 2 4 1
@@ -2592,11 +2913,28 @@ list-24 =
           ∷ claim 3 3 17 1 1 4 1
           ∷ claim 3 3 21 1 1 2 1
           ∷ [];
+      headrooms =
+          told 1 1 0 (pos 1)
+          ∷ told 1 2 0 (pos 1)
+          ∷ told 1 3 0 (pos 1)
+          ∷ told 2 1 0 (pos 2)
+          ∷ told 2 2 0 (pos 1)
+          ∷ told 2 3 0 (pos 2)
+          ∷ told 3 1 0 (pos 0)
+          ∷ told 3 2 0 (pos 1)
+          ∷ told 3 3 0 (pos 2)
+          ∷ told 4 1 5 (pos 0)
+          ∷ told 1 4294967297 5 (pos 0)
+          ∷ [];
     }
 
 pub agrees-24 : first-wrong list-24 ≡ 0
-unfolding first-wrong entries apply Direct.start Direct.tick Pipelined.start Pipelined.tick book-words rate-words release-words release-rate-words arrive-words into-frame booking bookings row-sum column-sum sum least some-of word
+unfolding first-wrong entries apply Direct.start Direct.tick Pipelined.start Pipelined.tick book-words rate-words release-words release-rate-words headroom-refusal arrive-words into-frame booking bookings row-sum column-sum sum least some-of word
 agrees-24 = refl
+
+pub headroom-24 : first-wrong-headroom list-24 ≡ 0
+unfolding first-wrong-headroom final headroom-result pair-headroom headroom-over apply Direct.start Direct.tick Pipelined.start Pipelined.tick book-words rate-words release-words release-rate-words headroom-refusal arrive-words into-frame booking bookings row-sum column-sum sum least some-of word
+headroom-24 = refl
 
 abbrev list-25 : Case
 list-25 =
@@ -2635,109 +2973,127 @@ list-25 =
           ∷ arrive 2 2 10
           ∷ arrive 1 2 7
           ∷ arrive 3 1 9
+          ∷ book-rate 1 3 1
           ∷ tick pipelined
           ∷ tick pipelined
-          ∷ release-rate 2 2 1
+          ∷ arrive 3 3 12
           ∷ tick pipelined
-          ∷ arrive 3 3 10
+          ∷ release-rate 1 1 1
+          ∷ release-rate 3 2 1
+          ∷ release-rate 2 3 1
+          ∷ arrive 3 3 7
+          ∷ headroom 3 3
+          ∷ book-rate 3 2 1
           ∷ tick pipelined
-          ∷ book-rate 2 3 1
-          ∷ tick pipelined
-          ∷ release 3 1 1
-          ∷ book-rate 2 3 1
+          ∷ book 2 2 1
           ∷ tick pipelined
           ∷ tick pipelined
-          ∷ release-rate 3 1 1
-          ∷ book-rate 2 2 1
-          ∷ arrive 2 2 10
+          ∷ arrive 3 2 65536
           ∷ tick pipelined
-          ∷ arrive 3 1 12
-          ∷ arrive 3 1 8
-          ∷ arrive 2 1 8
-          ∷ release 3 1 1
-          ∷ release 3 1 1
+          ∷ tick pipelined
           ∷ arrive 2 1 10
-          ∷ book 2 2 1
           ∷ tick pipelined
-          ∷ tick pipelined
-          ∷ release-rate 3 1 1
-          ∷ start pipelined 3 10001 0
-          ∷ tick pipelined
-          ∷ book-rate 1 1 0
-          ∷ arrive 3 1 11
-          ∷ book-rate 3 1 1
-          ∷ release 2 2 1
-          ∷ arrive 1 2 9
-          ∷ tick pipelined
-          ∷ tick pipelined
-          ∷ arrive 1 2 12
-          ∷ tick pipelined
-          ∷ tick pipelined
-          ∷ book 2 2 1
-          ∷ arrive 3 1 9
-          ∷ tick pipelined
-          ∷ book-rate 3 1 1
-          ∷ book 1 1 1
+          ∷ arrive 2 3 11
+          ∷ arrive 3 2 7
           ∷ release-rate 2 2 1
+          ∷ arrive 2 3 10
+          ∷ arrive 2 2 8
+          ∷ arrive 1 1 11
+          ∷ book-rate 1 3 1
+          ∷ tick pipelined
+          ∷ arrive 2 1 6
+          ∷ release 1 1 1
+          ∷ tick pipelined
+          ∷ headroom 2 2
+          ∷ arrive 3 3 65536
+          ∷ book 2 3 1
+          ∷ start pipelined 27 32 0
+          ∷ arrive 2 2 12
           ∷ tick pipelined
           ∷ tick pipelined
-          ∷ arrive 3 2 10
-          ∷ release-rate 3 2 0
+          ∷ start pipelined 0 5 0
+          ∷ release-rate 1 1 1
           ∷ tick pipelined
+          ∷ tick pipelined
+          ∷ headroom 3 3
+          ∷ tick pipelined
+          ∷ release 3 1 2
+          ∷ book 3 2 1
+          ∷ tick pipelined
+          ∷ tick pipelined
+          ∷ tick pipelined
+          ∷ release-rate 1 2 1
           ∷ tick pipelined
           ∷ [];
       expected =
           claim 1 1 1 0 0 0 0
           ∷ claim 1 1 6 0 0 0 0
           ∷ claim 1 1 11 0 2 0 0
-          ∷ claim 1 1 16 0 0 0 0
-          ∷ claim 1 1 21 0 0 0 0
+          ∷ claim 1 1 16 0 2 5 0
+          ∷ claim 1 1 21 0 2 1 0
           ∷ claim 1 2 1 0 0 0 0
           ∷ claim 1 2 6 0 0 4 0
-          ∷ claim 1 2 11 0 0 5 0
+          ∷ claim 1 2 11 0 1 5 0
           ∷ claim 1 2 16 0 1 5 0
-          ∷ claim 1 2 21 0 0 1 0
+          ∷ claim 1 2 21 0 1 1 0
           ∷ claim 1 3 1 0 0 0 0
           ∷ claim 1 3 6 0 0 4 0
           ∷ claim 1 3 11 0 0 5 0
           ∷ claim 1 3 16 0 0 5 0
-          ∷ claim 1 3 21 0 0 1 0
+          ∷ claim 1 3 21 0 1 1 0
           ∷ claim 2 1 1 0 0 0 0
           ∷ claim 2 1 6 0 0 4 0
-          ∷ claim 2 1 11 0 2 5 0
-          ∷ claim 2 1 16 0 1 5 0
-          ∷ claim 2 1 21 0 0 1 0
+          ∷ claim 2 1 11 0 3 5 0
+          ∷ claim 2 1 16 0 3 5 0
+          ∷ claim 2 1 21 0 4 1 0
           ∷ claim 2 2 1 0 0 0 0
           ∷ claim 2 2 6 0 0 4 0
-          ∷ claim 2 2 11 0 0 5 0
+          ∷ claim 2 2 11 1 0 5 1
           ∷ claim 2 2 16 1 0 5 1
-          ∷ claim 2 2 21 0 0 1 0
+          ∷ claim 2 2 21 1 1 1 1
           ∷ claim 2 3 1 0 0 0 0
           ∷ claim 2 3 6 0 0 4 0
-          ∷ claim 2 3 11 0 0 5 0
+          ∷ claim 2 3 11 0 1 5 0
           ∷ claim 2 3 16 0 1 5 0
-          ∷ claim 2 3 21 0 0 1 0
+          ∷ claim 2 3 21 1 1 1 0
           ∷ claim 3 1 1 0 0 0 0
           ∷ claim 3 1 6 0 0 4 0
           ∷ claim 3 1 11 2 0 5 2
-          ∷ claim 3 1 16 0 0 5 0
-          ∷ claim 3 1 21 0 0 1 0
+          ∷ claim 3 1 16 2 0 5 2
+          ∷ claim 3 1 21 2 0 1 1
           ∷ claim 3 2 1 0 0 0 0
           ∷ claim 3 2 6 0 0 4 0
-          ∷ claim 3 2 11 0 2 5 0
-          ∷ claim 3 2 16 0 1 5 0
-          ∷ claim 3 2 21 0 0 1 0
+          ∷ claim 3 2 11 0 3 5 0
+          ∷ claim 3 2 16 0 3 5 0
+          ∷ claim 3 2 21 0 3 1 0
           ∷ claim 3 3 1 0 0 0 0
           ∷ claim 3 3 6 0 0 4 0
           ∷ claim 3 3 11 0 2 5 0
-          ∷ claim 3 3 16 0 0 5 0
-          ∷ claim 3 3 21 0 0 1 0
+          ∷ claim 3 3 16 0 2 5 0
+          ∷ claim 3 3 21 0 3 1 0
+          ∷ [];
+      headrooms =
+          told 1 1 0 (pos 5)
+          ∷ told 1 2 0 (pos 3)
+          ∷ told 1 3 0 (pos 4)
+          ∷ told 2 1 0 (pos 3)
+          ∷ told 2 2 0 (pos 2)
+          ∷ told 2 3 0 (pos 3)
+          ∷ told 3 1 0 (pos 4)
+          ∷ told 3 2 0 (pos 3)
+          ∷ told 3 3 0 (pos 3)
+          ∷ told 4 1 5 (pos 0)
+          ∷ told 1 0 5 (pos 0)
           ∷ [];
     }
 
 pub agrees-25 : first-wrong list-25 ≡ 0
-unfolding first-wrong entries apply Direct.start Direct.tick Pipelined.start Pipelined.tick book-words rate-words release-words release-rate-words arrive-words into-frame booking bookings row-sum column-sum sum least some-of word
+unfolding first-wrong entries apply Direct.start Direct.tick Pipelined.start Pipelined.tick book-words rate-words release-words release-rate-words headroom-refusal arrive-words into-frame booking bookings row-sum column-sum sum least some-of word
 agrees-25 = refl
+
+pub headroom-25 : first-wrong-headroom list-25 ≡ 0
+unfolding first-wrong-headroom final headroom-result pair-headroom headroom-over apply Direct.start Direct.tick Pipelined.start Pipelined.tick book-words rate-words release-words release-rate-words headroom-refusal arrive-words into-frame booking bookings row-sum column-sum sum least some-of word
+headroom-25 = refl
 
 abbrev list-26 : Case
 list-26 =
@@ -2773,37 +3129,62 @@ list-26 =
           ∷ arrive 1 1 16975
           ∷ arrive 1 1 1
           ∷ arrive 1 1 5
-          ∷ start direct 17 32 7
-          ∷ tick direct
-          ∷ book-rate 1 1 2
-          ∷ arrive 1 1 4
-          ∷ arrive 1 1 4
           ∷ tick direct
           ∷ tick direct
           ∷ tick direct
-          ∷ release-rate 1 2 1
-          ∷ release-rate 1 1 1
-          ∷ tick direct
-          ∷ tick direct
+          ∷ arrive 1 1 5
+          ∷ arrive 1 1 2
           ∷ book 1 1 1
           ∷ tick direct
+          ∷ release 1 1 1
+          ∷ book-rate 1 1 4
+          ∷ release 1 1 1
+          ∷ book-rate 1 1 3
+          ∷ arrive 1 1 5
           ∷ tick direct
+          ∷ release 1 1 0
           ∷ tick direct
-          ∷ tick direct
-          ∷ tick direct
-          ∷ tick direct
-          ∷ tick direct
-          ∷ tick direct
-          ∷ tick direct
-          ∷ arrive 1 1 2
+          ∷ arrive 1 1 5
+          ∷ release-rate 1 1 1
+          ∷ book-rate 1 1 1
+          ∷ release 1 1 1
           ∷ arrive 1 1 3
+          ∷ headroom 1 1
+          ∷ tick direct
+          ∷ headroom 1 2
+          ∷ tick direct
+          ∷ tick direct
+          ∷ arrive 1 1 4
+          ∷ tick direct
+          ∷ book-rate 1 1 2
+          ∷ arrive 1 1 5
+          ∷ tick direct
+          ∷ arrive 1 1 5
+          ∷ release 1 1 1
           ∷ release-rate 1 1 1
           ∷ tick direct
+          ∷ book-rate 1 1 0
+          ∷ arrive 1 1 2
+          ∷ arrive 1 1 2
+          ∷ arrive 1 1 3
           ∷ tick direct
-          ∷ tick direct
-          ∷ tick direct
-          ∷ arrive 2 1 1
+          ∷ release-rate 1 1 1
           ∷ arrive 1 1 4
+          ∷ tick direct
+          ∷ arrive 1 1 5
+          ∷ book-rate 1 1 1
+          ∷ tick direct
+          ∷ tick direct
+          ∷ start direct 5 32 7
+          ∷ release-rate 1 1 1
+          ∷ tick direct
+          ∷ arrive 1 1 2
+          ∷ start direct 16 32 7
+          ∷ release-rate 1 1 0
+          ∷ book-rate 1 1 2
+          ∷ tick direct
+          ∷ release-rate 0 1 1
+          ∷ tick direct
           ∷ tick direct
           ∷ [];
       expected =
@@ -2818,11 +3199,20 @@ list-26 =
           ∷ claim 1 1 17 1 0 2 1
           ∷ claim 1 1 19 1 0 2 1
           ∷ [];
+      headrooms =
+          told 1 1 0 (pos 1)
+          ∷ told 2 1 5 (pos 0)
+          ∷ told 1 0 5 (pos 0)
+          ∷ [];
     }
 
 pub agrees-26 : first-wrong list-26 ≡ 0
-unfolding first-wrong entries apply Direct.start Direct.tick Pipelined.start Pipelined.tick book-words rate-words release-words release-rate-words arrive-words into-frame booking bookings row-sum column-sum sum least some-of word
+unfolding first-wrong entries apply Direct.start Direct.tick Pipelined.start Pipelined.tick book-words rate-words release-words release-rate-words headroom-refusal arrive-words into-frame booking bookings row-sum column-sum sum least some-of word
 agrees-26 = refl
+
+pub headroom-26 : first-wrong-headroom list-26 ≡ 0
+unfolding first-wrong-headroom final headroom-result pair-headroom headroom-over apply Direct.start Direct.tick Pipelined.start Pipelined.tick book-words rate-words release-words release-rate-words headroom-refusal arrive-words into-frame booking bookings row-sum column-sum sum least some-of word
+headroom-26 = refl
 
 abbrev list-27 : Case
 list-27 =
@@ -2851,67 +3241,82 @@ list-27 =
           ∷ arrive 2 2 73
           ∷ arrive 1 2 53
           ∷ arrive 2 2 74
+          ∷ tick pipelined
+          ∷ release-rate 2 2 95
+          ∷ book 2 1 1
           ∷ release 1 1 1
           ∷ tick pipelined
+          ∷ arrive 1 1 89
+          ∷ headroom 2 1
           ∷ tick pipelined
           ∷ tick pipelined
           ∷ tick pipelined
-          ∷ book-rate 1 2 47
-          ∷ book 2 3 1
+          ∷ book-rate 2 2 1001
+          ∷ book-rate 2 1 47
+          ∷ release-rate 1 2 1001
           ∷ tick pipelined
-          ∷ book 2 1 2
-          ∷ tick pipelined
-          ∷ book-rate 2 2 95
-          ∷ tick pipelined
-          ∷ tick pipelined
-          ∷ tick pipelined
-          ∷ tick pipelined
-          ∷ arrive 2 2 75
           ∷ release 1 1 1
-          ∷ tick pipelined
-          ∷ release-rate 1 2 47
-          ∷ arrive 2 1 45
-          ∷ release 2 1 2
-          ∷ release-rate 1 1 239
-          ∷ arrive 1 1 46
-          ∷ arrive 2 1 71
+          ∷ release-rate 1 1 95
+          ∷ release 1 2 3
           ∷ tick pipelined
           ∷ tick pipelined
+          ∷ arrive 1 3 1
           ∷ tick pipelined
+          ∷ tick pipelined
+          ∷ arrive 1 1 0
           ∷ tick pipelined
           ∷ tick pipelined
           ∷ tick pipelined
           ∷ tick pipelined
-          ∷ release-rate 2 2 1001
-          ∷ arrive 1 2 69
+          ∷ release-rate 1 2 1
+          ∷ arrive 1 1 75
+          ∷ arrive 1 2 84
+          ∷ release-rate 1 1 143
           ∷ tick pipelined
-          ∷ release 2 1 1
+          ∷ tick pipelined
+          ∷ book-rate 2 2 47
+          ∷ tick pipelined
+          ∷ release 2 2 1
+          ∷ tick pipelined
+          ∷ tick pipelined
           ∷ tick pipelined
           ∷ tick pipelined
           ∷ [];
       expected =
-          claim 1 1 1 0 0 0 0
-          ∷ claim 1 1 8 3 0 0 0
-          ∷ claim 1 1 15 2 1 6 2
-          ∷ claim 1 1 22 2 0 1 1
+          claim 1 1 1 0 0 1 0
+          ∷ claim 1 1 8 3 0 7 3
+          ∷ claim 1 1 15 2 1 7 2
+          ∷ claim 1 1 22 0 1 1 0
           ∷ claim 1 2 1 0 0 3 0
           ∷ claim 1 2 8 0 4 7 0
-          ∷ claim 1 2 15 1 4 7 1
-          ∷ claim 1 2 22 0 4 1 0
+          ∷ claim 1 2 15 0 3 7 0
+          ∷ claim 1 2 22 0 1 1 0
           ∷ claim 2 1 1 0 0 3 0
           ∷ claim 2 1 8 0 4 7 0
-          ∷ claim 2 1 15 0 4 7 0
-          ∷ claim 2 1 22 0 4 1 0
+          ∷ claim 2 1 15 1 3 7 1
+          ∷ claim 2 1 22 1 1 1 1
           ∷ claim 2 2 1 0 0 3 0
           ∷ claim 2 2 8 1 0 7 1
-          ∷ claim 2 2 15 2 1 7 2
-          ∷ claim 2 2 22 2 0 1 1
+          ∷ claim 2 2 15 1 1 7 1
+          ∷ claim 2 2 22 1 1 1 0
+          ∷ [];
+      headrooms =
+          told 1 1 0 (pos 6)
+          ∷ told 1 2 0 (pos 6)
+          ∷ told 2 1 0 (pos 5)
+          ∷ told 2 2 0 (pos 5)
+          ∷ told 3 1 5 (pos 0)
+          ∷ told 1 0 5 (pos 0)
           ∷ [];
     }
 
 pub agrees-27 : first-wrong list-27 ≡ 0
-unfolding first-wrong entries apply Direct.start Direct.tick Pipelined.start Pipelined.tick book-words rate-words release-words release-rate-words arrive-words into-frame booking bookings row-sum column-sum sum least some-of word
+unfolding first-wrong entries apply Direct.start Direct.tick Pipelined.start Pipelined.tick book-words rate-words release-words release-rate-words headroom-refusal arrive-words into-frame booking bookings row-sum column-sum sum least some-of word
 agrees-27 = refl
+
+pub headroom-27 : first-wrong-headroom list-27 ≡ 0
+unfolding first-wrong-headroom final headroom-result pair-headroom headroom-over apply Direct.start Direct.tick Pipelined.start Pipelined.tick book-words rate-words release-words release-rate-words headroom-refusal arrive-words into-frame booking bookings row-sum column-sum sum least some-of word
+headroom-27 = refl
 
 abbrev list-28 : Case
 list-28 =
@@ -2930,51 +3335,66 @@ list-28 =
           ∷ book-rate 1 1 6666666
           ∷ book-rate 1 1 13333333
           ∷ arrive 1 1 1
+          ∷ start direct 1 10001 99999999
+          ∷ book 1 1 1
+          ∷ tick direct
+          ∷ release-rate 4294967297 1 1
+          ∷ release-rate 1 1 13333334
           ∷ arrive 1 1 1
-          ∷ release-rate 1 1 6666667
+          ∷ release-rate 1 1 6666665
+          ∷ tick direct
+          ∷ arrive 1 1 1
+          ∷ tick direct
+          ∷ headroom 1 1
           ∷ tick direct
           ∷ tick direct
           ∷ tick direct
-          ∷ release 1 1 1
-          ∷ book-rate 1 1 13333333
+          ∷ release-rate 1 1 1
+          ∷ tick direct
+          ∷ tick direct
+          ∷ arrive 1 1 2
+          ∷ arrive 1 1 1
+          ∷ release-rate 1 1 1
+          ∷ book-rate 1 1 100000000
+          ∷ tick direct
           ∷ arrive 1 1 2
           ∷ tick direct
           ∷ tick direct
+          ∷ headroom 1 1
+          ∷ arrive 1 1 2
+          ∷ release-rate 1 1 1
+          ∷ arrive 1 1 2
+          ∷ release-rate 1 1 1
+          ∷ release-rate 1 1 1
           ∷ tick direct
           ∷ tick direct
-          ∷ arrive 1 1 1
-          ∷ tick direct
-          ∷ arrive 1 0 1
-          ∷ tick direct
-          ∷ release-rate 1 1 13333333
-          ∷ tick direct
-          ∷ tick direct
-          ∷ book 1 1 1
-          ∷ tick direct
-          ∷ release 1 1 1
           ∷ start direct 1 0 99999999
           ∷ tick direct
-          ∷ book 1 1 1
-          ∷ arrive 1 1 2
           ∷ tick direct
           ∷ tick direct
-          ∷ tick direct
-          ∷ book 1 1 1
-          ∷ arrive 1 1 1
           ∷ tick direct
           ∷ tick direct
           ∷ [];
       expected =
-          claim 1 1 1 1 0 4 1
-          ∷ claim 1 1 6 2 0 1 1
-          ∷ claim 1 1 11 1 0 2 1
-          ∷ claim 1 1 16 2 0 1 1
+          claim 1 1 1 2 0 3 2
+          ∷ claim 1 1 6 1 0 2 1
+          ∷ claim 1 1 11 1 0 5 1
+          ∷ claim 1 1 16 1 0 2 1
+          ∷ [];
+      headrooms =
+          told 1 1 0 (pos 4)
+          ∷ told 2 1 5 (pos 0)
+          ∷ told 1 0 5 (pos 0)
           ∷ [];
     }
 
 pub agrees-28 : first-wrong list-28 ≡ 0
-unfolding first-wrong entries apply Direct.start Direct.tick Pipelined.start Pipelined.tick book-words rate-words release-words release-rate-words arrive-words into-frame booking bookings row-sum column-sum sum least some-of word
+unfolding first-wrong entries apply Direct.start Direct.tick Pipelined.start Pipelined.tick book-words rate-words release-words release-rate-words headroom-refusal arrive-words into-frame booking bookings row-sum column-sum sum least some-of word
 agrees-28 = refl
+
+pub headroom-28 : first-wrong-headroom list-28 ≡ 0
+unfolding first-wrong-headroom final headroom-result pair-headroom headroom-over apply Direct.start Direct.tick Pipelined.start Pipelined.tick book-words rate-words release-words release-rate-words headroom-refusal arrive-words into-frame booking bookings row-sum column-sum sum least some-of word
+headroom-28 = refl
 
 abbrev list-29 : Case
 list-29 =
@@ -2992,133 +3412,110 @@ list-29 =
           start pipelined 1 7 7
           ∷ book-rate 1 1 1
           ∷ arrive 1 1 6
+          ∷ book-rate 1 1 1
+          ∷ tick pipelined
+          ∷ start pipelined 1 7 100000001
+          ∷ tick pipelined
+          ∷ headroom 1 1
+          ∷ tick pipelined
+          ∷ arrive 1 1 10
+          ∷ tick pipelined
+          ∷ start pipelined 2 6 99999999
+          ∷ book-rate 2 2 11111111
+          ∷ book-rate 2 2 5555555
+          ∷ book-rate 1 1 5555555
+          ∷ book-rate 2 1 5555555
+          ∷ book-rate 2 1 11111111
+          ∷ book-rate 2 1 11111111
+          ∷ book-rate 1 1 5555555
+          ∷ arrive 2 1 87
+          ∷ arrive 1 2 74
+          ∷ arrive 1 1 63
+          ∷ arrive 2 1 66
+          ∷ arrive 1 2 74
+          ∷ tick pipelined
+          ∷ release-rate 1 1 5555555
           ∷ tick pipelined
           ∷ tick pipelined
           ∷ tick pipelined
           ∷ tick pipelined
-          ∷ start pipelined 3 7 1000
-          ∷ book-rate 2 3 142
-          ∷ book-rate 2 3 48
-          ∷ book-rate 1 2 95
-          ∷ book-rate 1 2 142
-          ∷ book-rate 1 2 143
-          ∷ book-rate 1 2 47
-          ∷ book-rate 1 2 47
-          ∷ book-rate 1 2 96
-          ∷ book-rate 1 2 47
-          ∷ book-rate 2 1 95
-          ∷ book-rate 2 1 95
-          ∷ book-rate 2 1 95
-          ∷ book-rate 2 1 95
-          ∷ book-rate 2 1 142
-          ∷ book-rate 2 1 48
-          ∷ book-rate 2 1 95
-          ∷ book 1 2 1
-          ∷ book-rate 1 3 47
-          ∷ arrive 3 2 2
-          ∷ arrive 3 2 2
-          ∷ arrive 2 2 2
-          ∷ arrive 1 2 4
-          ∷ arrive 3 1 2
-          ∷ arrive 3 1 2
-          ∷ arrive 1 2 5
-          ∷ arrive 3 3 3
-          ∷ arrive 3 2 2
-          ∷ arrive 1 2 3
-          ∷ arrive 1 1 3
-          ∷ arrive 1 3 2
-          ∷ arrive 2 2 2
-          ∷ arrive 1 1 2
-          ∷ arrive 3 3 4
-          ∷ arrive 3 2 4
-          ∷ arrive 2 2 2
-          ∷ arrive 1 2 3
           ∷ tick pipelined
-          ∷ arrive 2 3 4
           ∷ tick pipelined
-          ∷ book 3 2 1
-          ∷ arrive 2 2 2
+          ∷ headroom 2 2
+          ∷ tick pipelined
+          ∷ tick pipelined
+          ∷ release 2 1 1
+          ∷ tick pipelined
+          ∷ release-rate 2 1 5555555
+          ∷ tick pipelined
+          ∷ book 2 4294967297 1
+          ∷ tick pipelined
+          ∷ headroom 1 2
+          ∷ release-rate 1 1 5555556
+          ∷ release-rate 1 1 5555555
+          ∷ release-rate 2 2 16666666
+          ∷ start pipelined 33 6 99999999
+          ∷ tick pipelined
+          ∷ headroom 1 2
+          ∷ tick pipelined
+          ∷ headroom 2 1
+          ∷ arrive 2 1 76
+          ∷ arrive 2 2 56
+          ∷ tick pipelined
+          ∷ arrive 3 2 1
+          ∷ tick pipelined
+          ∷ tick pipelined
+          ∷ tick pipelined
+          ∷ book-rate 2 2 5555555
           ∷ tick pipelined
           ∷ tick pipelined
           ∷ tick pipelined
           ∷ tick pipelined
-          ∷ release-rate 2 3 143
+          ∷ arrive 2 1 58
           ∷ tick pipelined
-          ∷ tick pipelined
-          ∷ arrive 3 1 5
-          ∷ tick pipelined
-          ∷ tick pipelined
-          ∷ tick pipelined
-          ∷ release-rate 1 2 570
-          ∷ tick pipelined
-          ∷ book-rate 1 2 47
-          ∷ start pipelined 3 7 100000001
-          ∷ arrive 1 3 3
-          ∷ start pipelined 3 7 100000001
-          ∷ tick pipelined
-          ∷ tick pipelined
-          ∷ release-rate 2 3 48
-          ∷ start pipelined 11 32 1000
-          ∷ tick pipelined
-          ∷ tick pipelined
-          ∷ tick pipelined
-          ∷ tick pipelined
-          ∷ arrive 1 3 5
-          ∷ start pipelined 3 10001 1000
-          ∷ release-rate 1 2 48
-          ∷ tick pipelined
-          ∷ arrive 3 2 3
-          ∷ tick pipelined
-          ∷ tick pipelined
-          ∷ tick pipelined
-          ∷ tick pipelined
-          ∷ arrive 3 3 2
-          ∷ arrive 4294967297 2 1
+          ∷ arrive 1 0 1
+          ∷ headroom 3 2
           ∷ tick pipelined
           ∷ [];
       expected =
-          claim 1 1 1 0 0 1 0
-          ∷ claim 1 1 8 0 6 7 0
-          ∷ claim 1 1 15 0 6 1 0
-          ∷ claim 1 1 22 0 3 0 0
-          ∷ claim 1 2 1 0 0 1 0
-          ∷ claim 1 2 8 4 0 7 4
-          ∷ claim 1 2 15 4 0 7 4
-          ∷ claim 1 2 22 1 0 4 1
-          ∷ claim 1 3 1 0 0 1 0
-          ∷ claim 1 3 8 0 6 7 0
-          ∷ claim 1 3 15 0 5 7 0
-          ∷ claim 1 3 22 0 2 4 0
-          ∷ claim 2 1 1 0 0 0 0
-          ∷ claim 2 1 8 2 2 0 0
-          ∷ claim 2 1 15 2 1 0 0
-          ∷ claim 2 1 22 2 1 0 0
-          ∷ claim 2 2 1 0 0 1 0
-          ∷ claim 2 2 8 0 8 7 0
-          ∷ claim 2 2 15 0 7 7 0
-          ∷ claim 2 2 22 0 4 4 0
-          ∷ claim 2 3 1 0 0 1 0
-          ∷ claim 2 3 8 2 2 7 2
-          ∷ claim 2 3 15 1 2 0 0
-          ∷ claim 2 3 22 1 2 0 0
-          ∷ claim 3 1 1 0 0 1 0
-          ∷ claim 3 1 8 0 2 7 0
-          ∷ claim 3 1 15 0 2 6 0
-          ∷ claim 3 1 22 0 2 0 0
-          ∷ claim 3 2 1 0 0 1 0
-          ∷ claim 3 2 8 0 4 7 0
-          ∷ claim 3 2 15 0 4 7 0
-          ∷ claim 3 2 22 0 1 4 0
-          ∷ claim 3 3 1 0 0 1 0
-          ∷ claim 3 3 8 0 2 7 0
-          ∷ claim 3 3 15 0 1 7 0
-          ∷ claim 3 3 22 0 1 1 0
+          claim 1 1 1 0 0 2 0
+          ∷ claim 1 1 7 1 2 6 1
+          ∷ claim 1 1 13 1 2 6 1
+          ∷ claim 1 1 19 0 2 6 0
+          ∷ claim 1 1 25 0 2 1 0
+          ∷ claim 1 2 1 0 0 2 0
+          ∷ claim 1 2 7 0 2 6 0
+          ∷ claim 1 2 13 0 2 6 0
+          ∷ claim 1 2 19 0 0 6 0
+          ∷ claim 1 2 25 0 1 1 0
+          ∷ claim 2 1 1 0 0 2 0
+          ∷ claim 2 1 7 2 2 6 2
+          ∷ claim 2 1 13 2 2 6 2
+          ∷ claim 2 1 19 2 0 6 2
+          ∷ claim 2 1 25 2 1 1 1
+          ∷ claim 2 2 1 0 0 0 0
+          ∷ claim 2 2 7 1 2 0 0
+          ∷ claim 2 2 13 1 2 1 1
+          ∷ claim 2 2 19 0 2 6 0
+          ∷ claim 2 2 25 1 2 1 0
+          ∷ [];
+      headrooms =
+          told 1 1 0 (pos 4)
+          ∷ told 1 2 0 (pos 5)
+          ∷ told 2 1 0 (pos 3)
+          ∷ told 2 2 0 (pos 3)
+          ∷ told 3 1 5 (pos 0)
+          ∷ told 1 4294967297 5 (pos 0)
           ∷ [];
     }
 
 pub agrees-29 : first-wrong list-29 ≡ 0
-unfolding first-wrong entries apply Direct.start Direct.tick Pipelined.start Pipelined.tick book-words rate-words release-words release-rate-words arrive-words into-frame booking bookings row-sum column-sum sum least some-of word
+unfolding first-wrong entries apply Direct.start Direct.tick Pipelined.start Pipelined.tick book-words rate-words release-words release-rate-words headroom-refusal arrive-words into-frame booking bookings row-sum column-sum sum least some-of word
 agrees-29 = refl
+
+pub headroom-29 : first-wrong-headroom list-29 ≡ 0
+unfolding first-wrong-headroom final headroom-result pair-headroom headroom-over apply Direct.start Direct.tick Pipelined.start Pipelined.tick book-words rate-words release-words release-rate-words headroom-refusal arrive-words into-frame booking bookings row-sum column-sum sum least some-of word
+headroom-29 = refl
 
 abbrev list-30 : Case
 list-30 =
@@ -3157,47 +3554,37 @@ list-30 =
           ∷ tick direct
           ∷ tick direct
           ∷ tick direct
-          ∷ book 1 1 1
-          ∷ arrive 2 2 55
-          ∷ tick direct
-          ∷ release-rate 1 1 33333334
-          ∷ arrive 2 2 71
+          ∷ arrive 1 1 71
           ∷ tick direct
           ∷ tick direct
-          ∷ arrive 1 2 89
-          ∷ arrive 2 2 90
+          ∷ book 0 1 1
+          ∷ arrive 1 2 62
           ∷ tick direct
-          ∷ release 2 2 1
+          ∷ arrive 2 1 69
           ∷ tick direct
           ∷ tick direct
-          ∷ book 2 1 0
+          ∷ arrive 2 1 76
           ∷ tick direct
-          ∷ arrive 2 2 81
+          ∷ tick direct
+          ∷ arrive 1 1 88
           ∷ tick direct
           ∷ tick direct
           ∷ tick direct
-          ∷ arrive 2 2 90
           ∷ tick direct
-          ∷ arrive 2 1 62
-          ∷ release 1 2 1
-          ∷ book-rate 1 1 100000001
-          ∷ book 1 2 1
-          ∷ release-rate 2 1 1
+          ∷ release-rate 1 1 33333333
+          ∷ release-rate 1 1 1
           ∷ tick direct
           ∷ release-rate 2 1 1
-          ∷ arrive 2 2 62
+          ∷ arrive 2 2 59
           ∷ tick direct
-          ∷ release-rate 2 2 1
-          ∷ release 1 2 1
-          ∷ arrive 1 1 62
-          ∷ release 1 2 0
-          ∷ arrive 2 1 88
-          ∷ release-rate 2 2 1
-          ∷ tick direct
-          ∷ release-rate 2 1 1
+          ∷ arrive 1 4294967297 1
+          ∷ release 1 1 1
+          ∷ start direct 2 10001 100000000
+          ∷ book-rate 1 2 33333333
           ∷ tick direct
           ∷ tick direct
-          ∷ arrive 1 1 58
+          ∷ tick direct
+          ∷ headroom 2 1
           ∷ tick direct
           ∷ tick direct
           ∷ [];
@@ -3206,58 +3593,58 @@ list-30 =
           ∷ claim 1 1 2 1 0 1 1
           ∷ claim 1 1 3 1 0 1 1
           ∷ claim 1 1 4 1 0 1 1
-          ∷ claim 1 1 5 0 0 1 0
-          ∷ claim 1 1 6 0 0 1 0
-          ∷ claim 1 1 7 0 0 1 0
-          ∷ claim 1 1 8 0 0 1 0
-          ∷ claim 1 1 9 0 0 1 0
-          ∷ claim 1 1 10 0 0 1 0
-          ∷ claim 1 1 11 0 0 1 0
-          ∷ claim 1 1 12 0 0 1 0
-          ∷ claim 1 1 13 0 0 1 0
-          ∷ claim 1 1 14 0 0 1 0
-          ∷ claim 1 1 15 0 1 1 0
-          ∷ claim 1 1 16 0 1 1 0
-          ∷ claim 1 1 17 0 0 1 0
-          ∷ claim 1 1 18 0 0 1 0
-          ∷ claim 1 1 19 0 0 1 0
-          ∷ claim 1 1 20 0 0 1 0
-          ∷ claim 1 1 21 0 0 1 0
+          ∷ claim 1 1 5 1 0 1 1
+          ∷ claim 1 1 6 1 0 1 1
+          ∷ claim 1 1 7 1 0 1 1
+          ∷ claim 1 1 8 1 0 1 1
+          ∷ claim 1 1 9 1 0 1 1
+          ∷ claim 1 1 10 1 0 1 1
+          ∷ claim 1 1 11 1 0 1 1
+          ∷ claim 1 1 12 1 0 1 1
+          ∷ claim 1 1 13 1 0 1 1
+          ∷ claim 1 1 14 1 0 1 1
+          ∷ claim 1 1 15 0 0 1 0
+          ∷ claim 1 1 16 0 0 1 0
+          ∷ claim 1 1 17 0 1 1 0
+          ∷ claim 1 1 18 0 1 1 0
+          ∷ claim 1 1 19 0 1 1 0
+          ∷ claim 1 1 20 0 1 1 0
+          ∷ claim 1 1 21 0 1 1 0
           ∷ claim 1 2 1 0 1 1 0
           ∷ claim 1 2 2 0 1 1 0
           ∷ claim 1 2 3 0 1 1 0
           ∷ claim 1 2 4 0 1 1 0
-          ∷ claim 1 2 5 0 0 1 0
-          ∷ claim 1 2 6 0 0 1 0
-          ∷ claim 1 2 7 0 0 1 0
-          ∷ claim 1 2 8 0 0 1 0
-          ∷ claim 1 2 9 0 0 1 0
-          ∷ claim 1 2 10 0 0 1 0
-          ∷ claim 1 2 11 0 0 1 0
-          ∷ claim 1 2 12 0 0 1 0
-          ∷ claim 1 2 13 0 0 1 0
-          ∷ claim 1 2 14 0 0 1 0
-          ∷ claim 1 2 15 1 0 1 1
-          ∷ claim 1 2 16 1 0 1 1
-          ∷ claim 1 2 17 0 0 1 0
-          ∷ claim 1 2 18 0 0 1 0
-          ∷ claim 1 2 19 0 0 1 0
-          ∷ claim 1 2 20 0 0 1 0
-          ∷ claim 1 2 21 0 0 1 0
+          ∷ claim 1 2 5 0 1 1 0
+          ∷ claim 1 2 6 0 1 1 0
+          ∷ claim 1 2 7 0 1 1 0
+          ∷ claim 1 2 8 0 1 1 0
+          ∷ claim 1 2 9 0 1 1 0
+          ∷ claim 1 2 10 0 1 1 0
+          ∷ claim 1 2 11 0 1 1 0
+          ∷ claim 1 2 12 0 1 1 0
+          ∷ claim 1 2 13 0 1 1 0
+          ∷ claim 1 2 14 0 1 1 0
+          ∷ claim 1 2 15 0 0 1 0
+          ∷ claim 1 2 16 0 0 1 0
+          ∷ claim 1 2 17 1 0 1 1
+          ∷ claim 1 2 18 1 0 1 1
+          ∷ claim 1 2 19 1 0 1 1
+          ∷ claim 1 2 20 1 0 1 1
+          ∷ claim 1 2 21 1 0 1 1
           ∷ claim 2 1 1 0 1 1 0
           ∷ claim 2 1 2 0 1 1 0
           ∷ claim 2 1 3 0 1 1 0
           ∷ claim 2 1 4 0 1 1 0
-          ∷ claim 2 1 5 0 0 1 0
-          ∷ claim 2 1 6 0 0 1 0
-          ∷ claim 2 1 7 0 0 1 0
-          ∷ claim 2 1 8 0 0 1 0
-          ∷ claim 2 1 9 0 0 1 0
-          ∷ claim 2 1 10 0 0 1 0
-          ∷ claim 2 1 11 0 0 1 0
-          ∷ claim 2 1 12 0 0 1 0
-          ∷ claim 2 1 13 0 0 1 0
-          ∷ claim 2 1 14 0 0 1 0
+          ∷ claim 2 1 5 0 1 1 0
+          ∷ claim 2 1 6 0 1 1 0
+          ∷ claim 2 1 7 0 1 1 0
+          ∷ claim 2 1 8 0 1 1 0
+          ∷ claim 2 1 9 0 1 1 0
+          ∷ claim 2 1 10 0 1 1 0
+          ∷ claim 2 1 11 0 1 1 0
+          ∷ claim 2 1 12 0 1 1 0
+          ∷ claim 2 1 13 0 1 1 0
+          ∷ claim 2 1 14 0 1 1 0
           ∷ claim 2 1 15 0 0 1 0
           ∷ claim 2 1 16 0 0 1 0
           ∷ claim 2 1 17 0 0 1 0
@@ -3279,19 +3666,31 @@ list-30 =
           ∷ claim 2 2 12 0 0 1 0
           ∷ claim 2 2 13 0 0 1 0
           ∷ claim 2 2 14 0 0 1 0
-          ∷ claim 2 2 15 0 1 1 0
-          ∷ claim 2 2 16 0 1 1 0
-          ∷ claim 2 2 17 0 0 1 0
-          ∷ claim 2 2 18 0 0 1 0
-          ∷ claim 2 2 19 0 0 1 0
-          ∷ claim 2 2 20 0 0 1 0
-          ∷ claim 2 2 21 0 0 1 0
+          ∷ claim 2 2 15 0 0 1 0
+          ∷ claim 2 2 16 0 0 1 0
+          ∷ claim 2 2 17 0 1 1 0
+          ∷ claim 2 2 18 0 1 1 0
+          ∷ claim 2 2 19 0 1 1 0
+          ∷ claim 2 2 20 0 1 1 0
+          ∷ claim 2 2 21 0 1 1 0
+          ∷ [];
+      headrooms =
+          told 1 1 0 (pos 0)
+          ∷ told 1 2 0 (pos 0)
+          ∷ told 2 1 0 (pos 1)
+          ∷ told 2 2 0 (pos 0)
+          ∷ told 3 1 5 (pos 0)
+          ∷ told 1 4294967297 5 (pos 0)
           ∷ [];
     }
 
 pub agrees-30 : first-wrong list-30 ≡ 0
-unfolding first-wrong entries apply Direct.start Direct.tick Pipelined.start Pipelined.tick book-words rate-words release-words release-rate-words arrive-words into-frame booking bookings row-sum column-sum sum least some-of word
+unfolding first-wrong entries apply Direct.start Direct.tick Pipelined.start Pipelined.tick book-words rate-words release-words release-rate-words headroom-refusal arrive-words into-frame booking bookings row-sum column-sum sum least some-of word
 agrees-30 = refl
+
+pub headroom-30 : first-wrong-headroom list-30 ≡ 0
+unfolding first-wrong-headroom final headroom-result pair-headroom headroom-over apply Direct.start Direct.tick Pipelined.start Pipelined.tick book-words rate-words release-words release-rate-words headroom-refusal arrive-words into-frame booking bookings row-sum column-sum sum least some-of word
+headroom-30 = refl
 
 abbrev list-31 : Case
 list-31 =
@@ -3318,90 +3717,105 @@ list-31 =
           ∷ arrive 2 2 57
           ∷ arrive 3 3 90
           ∷ arrive 1 3 47
-          ∷ book 1 2 1
-          ∷ release 3 1 1
-          ∷ tick pipelined
-          ∷ release 1 2 1
-          ∷ arrive 2 1 79
+          ∷ start pipelined 8 32 1000
           ∷ tick pipelined
           ∷ tick pipelined
+          ∷ arrive 2 2 64
           ∷ tick pipelined
           ∷ tick pipelined
+          ∷ book-rate 1 3 55
           ∷ tick pipelined
           ∷ tick pipelined
           ∷ tick pipelined
           ∷ tick pipelined
-          ∷ book-rate 3 1 55
-          ∷ tick pipelined
-          ∷ tick pipelined
-          ∷ arrive 4 1 1
-          ∷ tick pipelined
+          ∷ start pipelined 3 6 100000001
           ∷ book 3 2 1
           ∷ tick pipelined
-          ∷ arrive 1 3 86
-          ∷ arrive 2 2 85
-          ∷ arrive 2 3 77
-          ∷ release-rate 3 1 55
           ∷ tick pipelined
-          ∷ tick pipelined
-          ∷ release-rate 1 2 1
-          ∷ release 3 3 0
-          ∷ release-rate 0 3 1
-          ∷ tick pipelined
-          ∷ arrive 1 2 75
+          ∷ release-rate 3 2 1
+          ∷ headroom 1 2
+          ∷ headroom 1 3
           ∷ tick pipelined
           ∷ tick pipelined
           ∷ tick pipelined
+          ∷ book-rate 1 1 112
           ∷ tick pipelined
           ∷ tick pipelined
-          ∷ start pipelined 24 32 1000
-          ∷ arrive 3 1 85
           ∷ tick pipelined
+          ∷ release 1 3 7
+          ∷ tick pipelined
+          ∷ release-rate 2 1 1
+          ∷ tick pipelined
+          ∷ tick pipelined
+          ∷ release-rate 1 1 1
+          ∷ tick pipelined
+          ∷ book-rate 2 1 55
+          ∷ tick pipelined
+          ∷ tick pipelined
+          ∷ arrive 2 1 52
+          ∷ headroom 2 3
           ∷ tick pipelined
           ∷ [];
       expected =
           claim 1 1 1 0 0 0 0
-          ∷ claim 1 1 7 0 3 0 0
-          ∷ claim 1 1 13 0 2 0 0
-          ∷ claim 1 1 19 0 3 0 0
+          ∷ claim 1 1 7 0 4 0 0
+          ∷ claim 1 1 13 0 4 0 0
+          ∷ claim 1 1 19 0 4 0 0
           ∷ claim 1 2 1 0 0 0 0
           ∷ claim 1 2 7 3 0 6 3
-          ∷ claim 1 2 13 2 0 6 2
-          ∷ claim 1 2 19 2 1 6 2
+          ∷ claim 1 2 13 3 0 6 3
+          ∷ claim 1 2 19 3 0 6 3
           ∷ claim 1 3 1 0 0 0 0
           ∷ claim 1 3 7 0 3 6 0
-          ∷ claim 1 3 13 0 2 6 0
-          ∷ claim 1 3 19 0 2 6 0
+          ∷ claim 1 3 13 0 3 6 0
+          ∷ claim 1 3 19 0 3 6 0
           ∷ claim 2 1 1 0 0 0 0
-          ∷ claim 2 1 7 0 0 6 0
-          ∷ claim 2 1 13 0 0 6 0
-          ∷ claim 2 1 19 0 1 6 0
+          ∷ claim 2 1 7 0 1 0 0
+          ∷ claim 2 1 13 0 1 0 0
+          ∷ claim 2 1 19 0 1 0 0
           ∷ claim 2 2 1 0 0 0 0
           ∷ claim 2 2 7 0 3 6 0
-          ∷ claim 2 2 13 0 2 6 0
+          ∷ claim 2 2 13 0 3 6 0
           ∷ claim 2 2 19 0 3 6 0
           ∷ claim 2 3 1 0 0 0 0
           ∷ claim 2 3 7 0 0 6 0
           ∷ claim 2 3 13 0 0 6 0
           ∷ claim 2 3 19 0 0 6 0
           ∷ claim 3 1 1 0 0 0 0
-          ∷ claim 3 1 7 0 0 0 0
-          ∷ claim 3 1 13 0 0 0 0
-          ∷ claim 3 1 19 1 1 0 0
+          ∷ claim 3 1 7 1 0 0 0
+          ∷ claim 3 1 13 1 0 0 0
+          ∷ claim 3 1 19 1 0 0 0
           ∷ claim 3 2 1 0 0 0 0
-          ∷ claim 3 2 7 0 3 0 0
-          ∷ claim 3 2 13 0 2 0 0
-          ∷ claim 3 2 19 1 3 0 0
+          ∷ claim 3 2 7 0 4 0 0
+          ∷ claim 3 2 13 0 4 0 0
+          ∷ claim 3 2 19 0 4 0 0
           ∷ claim 3 3 1 0 0 0 0
-          ∷ claim 3 3 7 0 0 6 0
-          ∷ claim 3 3 13 0 0 6 0
-          ∷ claim 3 3 19 0 2 6 0
+          ∷ claim 3 3 7 0 1 6 0
+          ∷ claim 3 3 13 0 1 6 0
+          ∷ claim 3 3 19 0 1 6 0
+          ∷ [];
+      headrooms =
+          told 1 1 0 (pos 1)
+          ∷ told 1 2 0 (pos 3)
+          ∷ told 1 3 0 (pos 3)
+          ∷ told 2 1 0 (pos 4)
+          ∷ told 2 2 0 (pos 2)
+          ∷ told 2 3 0 (pos 5)
+          ∷ told 3 1 0 (pos 4)
+          ∷ told 3 2 0 (pos 2)
+          ∷ told 3 3 0 (pos 5)
+          ∷ told 4 1 5 (pos 0)
+          ∷ told 1 4294967297 5 (pos 0)
           ∷ [];
     }
 
 pub agrees-31 : first-wrong list-31 ≡ 0
-unfolding first-wrong entries apply Direct.start Direct.tick Pipelined.start Pipelined.tick book-words rate-words release-words release-rate-words arrive-words into-frame booking bookings row-sum column-sum sum least some-of word
+unfolding first-wrong entries apply Direct.start Direct.tick Pipelined.start Pipelined.tick book-words rate-words release-words release-rate-words headroom-refusal arrive-words into-frame booking bookings row-sum column-sum sum least some-of word
 agrees-31 = refl
+
+pub headroom-31 : first-wrong-headroom list-31 ≡ 0
+unfolding first-wrong-headroom final headroom-result pair-headroom headroom-over apply Direct.start Direct.tick Pipelined.start Pipelined.tick book-words rate-words release-words release-rate-words headroom-refusal arrive-words into-frame booking bookings row-sum column-sum sum least some-of word
+headroom-31 = refl
 
 abbrev list-32 : Case
 list-32 =
@@ -3421,24 +3835,23 @@ list-32 =
           ∷ book-rate 1 1 25000000
           ∷ arrive 1 1 11
           ∷ tick direct
-          ∷ tick direct
-          ∷ release 1 1 1
-          ∷ release-rate 1 1 8333334
-          ∷ tick direct
-          ∷ start direct 1 10001 100000000
+          ∷ arrive 1 1 11
           ∷ tick direct
           ∷ tick direct
+          ∷ tick direct
+          ∷ release 1 1 2
+          ∷ tick direct
+          ∷ book-rate 1 1 16666666
           ∷ arrive 1 1 12
-          ∷ release 1 1 1
+          ∷ tick direct
+          ∷ book-rate 1 1 8333334
+          ∷ release-rate 1 1 16666666
           ∷ tick direct
           ∷ tick direct
           ∷ tick direct
-          ∷ release-rate 1 1 8333334
+          ∷ book-rate 1 2 1
           ∷ tick direct
           ∷ tick direct
-          ∷ tick direct
-          ∷ release-rate 1 1 8333333
-          ∷ release-rate 1 1 8333334
           ∷ tick direct
           ∷ [];
       expected =
@@ -3446,11 +3859,20 @@ list-32 =
           ∷ claim 1 1 5 2 0 4 2
           ∷ claim 1 1 9 2 0 4 2
           ∷ [];
+      headrooms =
+          told 1 1 0 (pos 2)
+          ∷ told 2 1 5 (pos 0)
+          ∷ told 1 0 5 (pos 0)
+          ∷ [];
     }
 
 pub agrees-32 : first-wrong list-32 ≡ 0
-unfolding first-wrong entries apply Direct.start Direct.tick Pipelined.start Pipelined.tick book-words rate-words release-words release-rate-words arrive-words into-frame booking bookings row-sum column-sum sum least some-of word
+unfolding first-wrong entries apply Direct.start Direct.tick Pipelined.start Pipelined.tick book-words rate-words release-words release-rate-words headroom-refusal arrive-words into-frame booking bookings row-sum column-sum sum least some-of word
 agrees-32 = refl
+
+pub headroom-32 : first-wrong-headroom list-32 ≡ 0
+unfolding first-wrong-headroom final headroom-result pair-headroom headroom-over apply Direct.start Direct.tick Pipelined.start Pipelined.tick book-words rate-words release-words release-rate-words headroom-refusal arrive-words into-frame booking bookings row-sum column-sum sum least some-of word
+headroom-32 = refl
 
 abbrev list-33 : Case
 list-33 =
@@ -3478,28 +3900,32 @@ list-33 =
           ∷ arrive 1 1 88
           ∷ tick pipelined
           ∷ tick pipelined
-          ∷ release-rate 2 2 67
+          ∷ arrive 1 2 78
           ∷ tick pipelined
-          ∷ arrive 1 1 69
-          ∷ tick pipelined
-          ∷ tick pipelined
-          ∷ tick pipelined
-          ∷ tick pipelined
-          ∷ arrive 2 1 73
+          ∷ arrive 2 1 89
+          ∷ release 2 1 1
           ∷ tick pipelined
           ∷ tick pipelined
-          ∷ arrive 2 2 59
           ∷ tick pipelined
+          ∷ book-rate 2 1 133
+          ∷ release-rate 2 2 132
           ∷ arrive 2 2 82
-          ∷ release 2 3 1
           ∷ tick pipelined
-          ∷ book-rate 1 1 66
+          ∷ release-rate 2 1 66
+          ∷ tick pipelined
+          ∷ tick pipelined
+          ∷ release 2 1 1
           ∷ release-rate 1 1 67
+          ∷ release 2 1 1
+          ∷ book 2 2 1
           ∷ book 2 1 1
+          ∷ book 1 1 3
           ∷ tick pipelined
-          ∷ arrive 2 2 53
+          ∷ release-rate 1 1 66
           ∷ tick pipelined
-          ∷ book 2 1 1
+          ∷ tick pipelined
+          ∷ release-rate 1 1 200
+          ∷ tick pipelined
           ∷ tick pipelined
           ∷ [];
       expected =
@@ -3508,19 +3934,31 @@ list-33 =
           ∷ claim 1 1 11 2 1 5 2
           ∷ claim 1 2 1 0 0 1 0
           ∷ claim 1 2 6 0 3 5 0
-          ∷ claim 1 2 11 0 3 5 0
+          ∷ claim 1 2 11 0 2 5 0
           ∷ claim 2 1 1 0 0 1 0
           ∷ claim 2 1 6 1 3 5 1
-          ∷ claim 2 1 11 1 3 5 1
+          ∷ claim 2 1 11 1 2 5 1
           ∷ claim 2 2 1 0 0 1 0
           ∷ claim 2 2 6 1 1 5 1
-          ∷ claim 2 2 11 1 1 5 1
+          ∷ claim 2 2 11 0 1 5 0
+          ∷ [];
+      headrooms =
+          told 1 1 0 (pos 3)
+          ∷ told 1 2 0 (pos 3)
+          ∷ told 2 1 0 (pos 2)
+          ∷ told 2 2 0 (pos 3)
+          ∷ told 3 1 5 (pos 0)
+          ∷ told 1 4294967297 5 (pos 0)
           ∷ [];
     }
 
 pub agrees-33 : first-wrong list-33 ≡ 0
-unfolding first-wrong entries apply Direct.start Direct.tick Pipelined.start Pipelined.tick book-words rate-words release-words release-rate-words arrive-words into-frame booking bookings row-sum column-sum sum least some-of word
+unfolding first-wrong entries apply Direct.start Direct.tick Pipelined.start Pipelined.tick book-words rate-words release-words release-rate-words headroom-refusal arrive-words into-frame booking bookings row-sum column-sum sum least some-of word
 agrees-33 = refl
+
+pub headroom-33 : first-wrong-headroom list-33 ≡ 0
+unfolding first-wrong-headroom final headroom-result pair-headroom headroom-over apply Direct.start Direct.tick Pipelined.start Pipelined.tick book-words rate-words release-words release-rate-words headroom-refusal arrive-words into-frame booking bookings row-sum column-sum sum least some-of word
+headroom-33 = refl
 
 abbrev list-34 : Case
 list-34 =
@@ -3557,54 +3995,68 @@ list-34 =
           ∷ arrive 3 2 2
           ∷ arrive 1 1 2
           ∷ arrive 3 3 4
-          ∷ book 3 3 1
-          ∷ arrive 1 1 4
+          ∷ headroom 3 3
+          ∷ tick direct
+          ∷ release 3 3 1
+          ∷ book-rate 3 2 47
+          ∷ tick direct
+          ∷ tick direct
+          ∷ arrive 2 1 2
           ∷ tick direct
           ∷ tick direct
           ∷ tick direct
-          ∷ release-rate 2 1 47
-          ∷ arrive 3 1 3
-          ∷ arrive 3 1 4
+          ∷ release-rate 3 3 1
           ∷ tick direct
-          ∷ arrive 3 1 2
-          ∷ arrive 3 1 4
+          ∷ release-rate 3 2 47
           ∷ tick direct
           ∷ tick direct
-          ∷ tick direct
-          ∷ book 1 2 1
-          ∷ tick direct
+          ∷ arrive 2 1 5
           ∷ arrive 3 3 3
           ∷ arrive 2 2 3
           ∷ tick direct
-          ∷ book-rate 1 3 47
-          ∷ release-rate 2 1 47
-          ∷ tick direct
           ∷ [];
       expected =
-          claim 1 1 1 0 4 6 0
-          ∷ claim 1 1 8 0 5 0 0
+          claim 1 1 1 0 4 2 0
+          ∷ claim 1 1 8 0 4 0 0
           ∷ claim 1 2 1 0 1 0 0
-          ∷ claim 1 2 8 1 1 0 0
-          ∷ claim 1 3 1 0 2 0 0
-          ∷ claim 1 3 8 0 3 0 0
-          ∷ claim 2 1 1 4 0 0 0
-          ∷ claim 2 1 8 4 0 0 0
+          ∷ claim 1 2 8 0 1 0 0
+          ∷ claim 1 3 1 0 1 0 0
+          ∷ claim 1 3 8 0 0 0 0
+          ∷ claim 2 1 1 4 0 2 2
+          ∷ claim 2 1 8 4 0 1 1
           ∷ claim 2 2 1 0 5 0 0
-          ∷ claim 2 2 8 0 6 2 0
-          ∷ claim 2 3 1 0 6 0 0
-          ∷ claim 2 3 8 0 6 0 0
-          ∷ claim 3 1 1 0 7 4 0
-          ∷ claim 3 1 8 0 7 3 0
-          ∷ claim 3 2 1 1 2 4 1
-          ∷ claim 3 2 8 1 3 0 0
-          ∷ claim 3 3 1 2 1 6 2
-          ∷ claim 3 3 8 2 1 2 2
+          ∷ claim 2 2 8 0 5 1 0
+          ∷ claim 2 3 1 0 5 0 0
+          ∷ claim 2 3 8 0 4 0 0
+          ∷ claim 3 1 1 0 6 0 0
+          ∷ claim 3 1 8 0 5 0 0
+          ∷ claim 3 2 1 1 1 3 1
+          ∷ claim 3 2 8 1 0 0 0
+          ∷ claim 3 3 1 1 1 6 1
+          ∷ claim 3 3 8 0 1 1 0
+          ∷ [];
+      headrooms =
+          told 1 1 0 (pos 3)
+          ∷ told 1 2 0 (pos 6)
+          ∷ told 1 3 0 (pos 7)
+          ∷ told 2 1 0 (pos 3)
+          ∷ told 2 2 0 (pos 2)
+          ∷ told 2 3 0 (pos 3)
+          ∷ told 3 1 0 (pos 2)
+          ∷ told 3 2 0 (pos 6)
+          ∷ told 3 3 0 (pos 6)
+          ∷ told 4 1 5 (pos 0)
+          ∷ told 1 4294967297 5 (pos 0)
           ∷ [];
     }
 
 pub agrees-34 : first-wrong list-34 ≡ 0
-unfolding first-wrong entries apply Direct.start Direct.tick Pipelined.start Pipelined.tick book-words rate-words release-words release-rate-words arrive-words into-frame booking bookings row-sum column-sum sum least some-of word
+unfolding first-wrong entries apply Direct.start Direct.tick Pipelined.start Pipelined.tick book-words rate-words release-words release-rate-words headroom-refusal arrive-words into-frame booking bookings row-sum column-sum sum least some-of word
 agrees-34 = refl
+
+pub headroom-34 : first-wrong-headroom list-34 ≡ 0
+unfolding first-wrong-headroom final headroom-result pair-headroom headroom-over apply Direct.start Direct.tick Pipelined.start Pipelined.tick book-words rate-words release-words release-rate-words headroom-refusal arrive-words into-frame booking bookings row-sum column-sum sum least some-of word
+headroom-34 = refl
 
 abbrev list-35 : Case
 list-35 =
@@ -3649,35 +4101,37 @@ list-35 =
           ∷ tick pipelined
           ∷ tick pipelined
           ∷ tick pipelined
-          ∷ arrive 2 2 89
-          ∷ tick pipelined
-          ∷ tick pipelined
-          ∷ tick pipelined
-          ∷ book-rate 2 2 11111111
-          ∷ release-rate 3 2 0
-          ∷ tick pipelined
-          ∷ tick pipelined
-          ∷ release 1 2 0
           ∷ book 2 2 1
+          ∷ arrive 2 2 55
+          ∷ tick pipelined
+          ∷ arrive 2 1 48
+          ∷ tick pipelined
+          ∷ release-rate 4 3 1
+          ∷ tick pipelined
+          ∷ arrive 2 2 82
+          ∷ arrive 3 3 47
+          ∷ tick pipelined
+          ∷ tick pipelined
+          ∷ book-rate 1 1 11111111
+          ∷ arrive 1 2 53
+          ∷ tick pipelined
+          ∷ release-rate 3 3 33333334
+          ∷ book-rate 1 1 11111111
+          ∷ tick pipelined
           ∷ tick pipelined
           ∷ release-rate 3 3 11111111
-          ∷ arrive 3 3 71
-          ∷ release-rate 3 3 44444446
+          ∷ release-rate 1 2 1
           ∷ tick pipelined
-          ∷ arrive 2 2 85
+          ∷ headroom 2 4
+          ∷ release 1 2 1
           ∷ tick pipelined
-          ∷ tick pipelined
-          ∷ arrive 2 3 46
-          ∷ book 2 3 1
-          ∷ book-rate 2 3 11111111
-          ∷ tick pipelined
-          ∷ start pipelined 21 32 100000000
-          ∷ tick pipelined
-          ∷ arrive 1 1 64
-          ∷ release-rate 3 3 44444446
-          ∷ arrive 3 2 87
+          ∷ arrive 3 3 65536
           ∷ tick pipelined
           ∷ tick pipelined
+          ∷ start pipelined 3 2 100000000
+          ∷ tick pipelined
+          ∷ arrive 2 2 60
+          ∷ release 2 1 1
           ∷ tick pipelined
           ∷ [];
       expected =
@@ -3691,20 +4145,20 @@ list-35 =
           ∷ claim 1 2 4 0 0 0 0
           ∷ claim 1 2 7 1 0 0 0
           ∷ claim 1 2 10 1 0 0 0
-          ∷ claim 1 2 13 1 0 0 0
-          ∷ claim 1 2 16 1 0 0 0
+          ∷ claim 1 2 13 1 0 1 1
+          ∷ claim 1 2 16 1 0 3 1
           ∷ claim 1 3 1 0 0 0 0
           ∷ claim 1 3 4 0 0 0 0
           ∷ claim 1 3 7 0 3 3 0
           ∷ claim 1 3 10 0 3 3 0
           ∷ claim 1 3 13 0 3 3 0
-          ∷ claim 1 3 16 0 3 3 0
+          ∷ claim 1 3 16 0 2 3 0
           ∷ claim 2 1 1 0 0 0 0
           ∷ claim 2 1 4 0 0 0 0
           ∷ claim 2 1 7 2 0 0 0
-          ∷ claim 2 1 10 2 0 0 0
-          ∷ claim 2 1 13 2 0 0 0
-          ∷ claim 2 1 16 2 0 0 0
+          ∷ claim 2 1 10 2 0 3 2
+          ∷ claim 2 1 13 2 0 3 2
+          ∷ claim 2 1 16 2 0 3 2
           ∷ claim 2 2 1 0 0 0 0
           ∷ claim 2 2 4 0 0 0 0
           ∷ claim 2 2 7 0 3 1 0
@@ -3716,31 +4170,48 @@ list-35 =
           ∷ claim 2 3 7 0 4 3 0
           ∷ claim 2 3 10 0 4 3 0
           ∷ claim 2 3 13 0 4 3 0
-          ∷ claim 2 3 16 0 4 3 0
+          ∷ claim 2 3 16 0 3 3 0
           ∷ claim 3 1 1 0 0 0 0
           ∷ claim 3 1 4 0 0 0 0
           ∷ claim 3 1 7 0 4 3 0
           ∷ claim 3 1 10 0 4 3 0
           ∷ claim 3 1 13 0 4 3 0
-          ∷ claim 3 1 16 0 4 3 0
+          ∷ claim 3 1 16 0 3 3 0
           ∷ claim 3 2 1 0 0 0 0
           ∷ claim 3 2 4 0 0 0 0
           ∷ claim 3 2 7 0 3 3 0
           ∷ claim 3 2 10 0 3 3 0
           ∷ claim 3 2 13 0 3 3 0
-          ∷ claim 3 2 16 0 3 3 0
+          ∷ claim 3 2 16 0 2 3 0
           ∷ claim 3 3 1 0 0 0 0
           ∷ claim 3 3 4 0 0 0 0
           ∷ claim 3 3 7 2 0 3 2
           ∷ claim 3 3 10 2 0 3 2
           ∷ claim 3 3 13 2 0 3 2
-          ∷ claim 3 3 16 2 0 3 2
+          ∷ claim 3 3 16 1 0 3 1
+          ∷ [];
+      headrooms =
+          told 1 1 0 (pos 1)
+          ∷ told 1 2 0 (pos 3)
+          ∷ told 1 3 0 (pos 2)
+          ∷ told 2 1 0 (pos 1)
+          ∷ told 2 2 0 (pos 1)
+          ∷ told 2 3 0 (pos 0)
+          ∷ told 3 1 0 (pos 0)
+          ∷ told 3 2 0 (pos 2)
+          ∷ told 3 3 0 (pos 2)
+          ∷ told 4 1 5 (pos 0)
+          ∷ told 1 4294967297 5 (pos 0)
           ∷ [];
     }
 
 pub agrees-35 : first-wrong list-35 ≡ 0
-unfolding first-wrong entries apply Direct.start Direct.tick Pipelined.start Pipelined.tick book-words rate-words release-words release-rate-words arrive-words into-frame booking bookings row-sum column-sum sum least some-of word
+unfolding first-wrong entries apply Direct.start Direct.tick Pipelined.start Pipelined.tick book-words rate-words release-words release-rate-words headroom-refusal arrive-words into-frame booking bookings row-sum column-sum sum least some-of word
 agrees-35 = refl
+
+pub headroom-35 : first-wrong-headroom list-35 ≡ 0
+unfolding first-wrong-headroom final headroom-result pair-headroom headroom-over apply Direct.start Direct.tick Pipelined.start Pipelined.tick book-words rate-words release-words release-rate-words headroom-refusal arrive-words into-frame booking bookings row-sum column-sum sum least some-of word
+headroom-35 = refl
 
 abbrev list-36 : Case
 list-36 =
@@ -3773,89 +4244,119 @@ list-36 =
           ∷ arrive 2 3 9
           ∷ arrive 3 1 12
           ∷ arrive 2 1 8
+          ∷ headroom 3 1
           ∷ tick direct
           ∷ tick direct
-          ∷ book-rate 1 3 22222222
+          ∷ release-rate 1 2 1
+          ∷ arrive 1 1 10
+          ∷ arrive 2 2 12
+          ∷ book-rate 2 2 33333333
           ∷ tick direct
-          ∷ start direct 3 7 100000000
-          ∷ book 2 2 1
-          ∷ book-rate 2 2 4761905
-          ∷ book-rate 2 2 14285714
-          ∷ book-rate 2 2 4761904
-          ∷ book-rate 2 2 14285714
-          ∷ book 1 2 4
-          ∷ book-rate 1 3 4761904
-          ∷ book-rate 3 1 14285714
-          ∷ book-rate 3 1 4761904
-          ∷ book-rate 3 1 14285714
-          ∷ book-rate 3 1 14285715
-          ∷ book-rate 2 3 14285715
-          ∷ book-rate 1 2 4761905
-          ∷ book-rate 1 2 4761905
-          ∷ arrive 2 3 1
-          ∷ arrive 2 1 2
-          ∷ arrive 3 1 1
-          ∷ arrive 1 2 1
-          ∷ arrive 1 2 2
-          ∷ arrive 2 2 2
-          ∷ arrive 1 3 1
-          ∷ arrive 2 2 2
-          ∷ arrive 1 1 2
-          ∷ release-rate 3 1 4761904
-          ∷ book 2 2 1
-          ∷ arrive 2 3 1
-          ∷ start direct 33 7 100000000
+          ∷ start direct 3 3 7
+          ∷ book-rate 3 1 1
+          ∷ book-rate 3 1 1
+          ∷ book-rate 3 1 1
+          ∷ book 3 3 2
+          ∷ book-rate 3 2 3
+          ∷ book-rate 2 3 3
+          ∷ arrive 2 1 88
+          ∷ arrive 3 2 51
+          ∷ arrive 3 3 62
+          ∷ arrive 3 2 53
+          ∷ arrive 1 2 62
+          ∷ arrive 1 3 89
+          ∷ arrive 2 1 67
+          ∷ arrive 2 1 64
+          ∷ arrive 2 2 85
           ∷ tick direct
-          ∷ arrive 3 2 2
-          ∷ arrive 3 3 1
-          ∷ book 3 3 4
-          ∷ tick direct
-          ∷ arrive 3 3 1
+          ∷ release 2 2 1
+          ∷ arrive 1 2 66
+          ∷ release 0 1 1
           ∷ tick direct
           ∷ tick direct
           ∷ tick direct
           ∷ tick direct
-          ∷ release-rate 3 1 42857143
-          ∷ tick direct
-          ∷ arrive 1 0 1
           ∷ tick direct
           ∷ tick direct
           ∷ tick direct
-          ∷ release-rate 4294967297 2 1
-          ∷ start direct 3 10001 100000000
-          ∷ book 2 3 1
           ∷ tick direct
-          ∷ book 3 3 1
-          ∷ release-rate 1 3 4761904
+          ∷ tick direct
+          ∷ tick direct
+          ∷ arrive 3 1 82
+          ∷ tick direct
           ∷ tick direct
           ∷ tick direct
           ∷ tick direct
           ∷ [];
       expected =
-          claim 1 1 1 0 5 3 0
-          ∷ claim 1 1 8 0 1 0 0
-          ∷ claim 1 2 1 0 5 7 0
-          ∷ claim 1 2 8 0 5 0 0
-          ∷ claim 1 3 1 1 0 1 1
-          ∷ claim 1 3 8 1 0 0 0
-          ∷ claim 2 1 1 0 8 6 0
-          ∷ claim 2 1 8 0 4 0 0
-          ∷ claim 2 2 1 4 0 4 4
-          ∷ claim 2 2 8 4 0 0 0
-          ∷ claim 2 3 1 0 5 7 0
-          ∷ claim 2 3 8 0 5 1 0
-          ∷ claim 3 1 1 4 0 1 1
-          ∷ claim 3 1 8 0 0 0 0
-          ∷ claim 3 2 1 0 8 6 0
-          ∷ claim 3 2 8 0 4 2 0
-          ∷ claim 3 3 1 0 5 2 0
-          ∷ claim 3 3 8 0 1 0 0
+          claim 1 1 1 0 2 0 0
+          ∷ claim 1 1 4 0 2 0 0
+          ∷ claim 1 1 7 0 2 0 0
+          ∷ claim 1 1 10 0 2 0 0
+          ∷ claim 1 1 13 0 2 0 0
+          ∷ claim 1 2 1 0 0 3 0
+          ∷ claim 1 2 4 0 0 3 0
+          ∷ claim 1 2 7 0 0 3 0
+          ∷ claim 1 2 10 0 0 3 0
+          ∷ claim 1 2 13 0 0 3 0
+          ∷ claim 1 3 1 0 2 3 0
+          ∷ claim 1 3 4 0 2 3 0
+          ∷ claim 1 3 7 0 2 3 0
+          ∷ claim 1 3 10 0 2 3 0
+          ∷ claim 1 3 13 0 2 3 0
+          ∷ claim 2 1 1 0 4 3 0
+          ∷ claim 2 1 4 0 4 3 0
+          ∷ claim 2 1 7 0 4 3 0
+          ∷ claim 2 1 10 0 4 3 0
+          ∷ claim 2 1 13 0 4 3 0
+          ∷ claim 2 2 1 0 2 3 0
+          ∷ claim 2 2 4 0 2 3 0
+          ∷ claim 2 2 7 0 2 3 0
+          ∷ claim 2 2 10 0 2 3 0
+          ∷ claim 2 2 13 0 2 3 0
+          ∷ claim 2 3 1 2 0 0 0
+          ∷ claim 2 3 4 2 0 0 0
+          ∷ claim 2 3 7 2 0 0 0
+          ∷ claim 2 3 10 2 0 0 0
+          ∷ claim 2 3 13 2 0 0 0
+          ∷ claim 3 1 1 2 0 0 0
+          ∷ claim 3 1 4 2 0 0 0
+          ∷ claim 3 1 7 2 0 0 0
+          ∷ claim 3 1 10 2 0 1 1
+          ∷ claim 3 1 13 2 0 3 2
+          ∷ claim 3 2 1 0 2 3 0
+          ∷ claim 3 2 4 0 2 3 0
+          ∷ claim 3 2 7 0 2 3 0
+          ∷ claim 3 2 10 0 2 3 0
+          ∷ claim 3 2 13 0 2 3 0
+          ∷ claim 3 3 1 0 4 3 0
+          ∷ claim 3 3 4 0 4 3 0
+          ∷ claim 3 3 7 0 4 3 0
+          ∷ claim 3 3 10 0 4 3 0
+          ∷ claim 3 3 13 0 4 3 0
+          ∷ [];
+      headrooms =
+          told 1 1 0 (pos 1)
+          ∷ told 1 2 0 (pos 3)
+          ∷ told 1 3 0 (pos 1)
+          ∷ told 2 1 0 (negsuc 0)
+          ∷ told 2 2 0 (pos 1)
+          ∷ told 2 3 0 (pos 1)
+          ∷ told 3 1 0 (pos 1)
+          ∷ told 3 2 0 (pos 1)
+          ∷ told 3 3 0 (negsuc 0)
+          ∷ told 4 1 5 (pos 0)
+          ∷ told 1 4294967297 5 (pos 0)
           ∷ [];
     }
 
 pub agrees-36 : first-wrong list-36 ≡ 0
-unfolding first-wrong entries apply Direct.start Direct.tick Pipelined.start Pipelined.tick book-words rate-words release-words release-rate-words arrive-words into-frame booking bookings row-sum column-sum sum least some-of word
+unfolding first-wrong entries apply Direct.start Direct.tick Pipelined.start Pipelined.tick book-words rate-words release-words release-rate-words headroom-refusal arrive-words into-frame booking bookings row-sum column-sum sum least some-of word
 agrees-36 = refl
+
+pub headroom-36 : first-wrong-headroom list-36 ≡ 0
+unfolding first-wrong-headroom final headroom-result pair-headroom headroom-over apply Direct.start Direct.tick Pipelined.start Pipelined.tick book-words rate-words release-words release-rate-words headroom-refusal arrive-words into-frame booking bookings row-sum column-sum sum least some-of word
+headroom-36 = refl
 
 abbrev list-37 : Case
 list-37 =
@@ -3883,93 +4384,109 @@ list-37 =
           ∷ arrive 2 1 4
           ∷ tick pipelined
           ∷ arrive 2 2 2
-          ∷ release 1 1 1
-          ∷ release-rate 2 1 1
-          ∷ release 1 2 1
           ∷ tick pipelined
+          ∷ arrive 1 1 5
           ∷ tick pipelined
+          ∷ release 2 2 1
+          ∷ start pipelined 33 7 0
           ∷ tick pipelined
-          ∷ start pipelined 3 7 7
-          ∷ book 3 1 1
-          ∷ book-rate 1 2 1
-          ∷ book 2 1 1
-          ∷ book-rate 1 2 1
-          ∷ book-rate 1 2 1
-          ∷ book-rate 1 2 1
-          ∷ book 3 2 1
-          ∷ book-rate 1 2 1
-          ∷ book-rate 1 2 1
-          ∷ arrive 2 1 3
-          ∷ arrive 1 1 3
-          ∷ arrive 2 2 3
-          ∷ tick pipelined
+          ∷ start pipelined 3 6 7
+          ∷ book 1 2 1
+          ∷ book-rate 1 3 1
           ∷ book-rate 2 1 1
-          ∷ release-rate 3 4294967297 1
-          ∷ tick pipelined
-          ∷ start pipelined 3 0 7
-          ∷ arrive 1 3 65536
-          ∷ tick pipelined
-          ∷ tick pipelined
-          ∷ tick pipelined
-          ∷ tick pipelined
-          ∷ release 2 1 1
+          ∷ book-rate 2 1 1
+          ∷ book-rate 1 2 1
+          ∷ arrive 3 3 74
+          ∷ arrive 2 1 61
+          ∷ arrive 2 2 89
+          ∷ arrive 3 2 81
           ∷ tick pipelined
           ∷ tick pipelined
           ∷ tick pipelined
-          ∷ release 2 3 8
           ∷ tick pipelined
-          ∷ release 3 1 3
-          ∷ tick pipelined
-          ∷ release 3 1 1
-          ∷ tick pipelined
-          ∷ book 4294967297 1 1
-          ∷ release-rate 1 3 1
-          ∷ tick pipelined
-          ∷ release 1 2 1
+          ∷ arrive 2 2 74
+          ∷ arrive 3 2 68
+          ∷ release 4294967297 1 1
+          ∷ headroom 1 1
           ∷ tick pipelined
           ∷ tick pipelined
+          ∷ arrive 3 1 86
+          ∷ release-rate 1 2 1
           ∷ tick pipelined
-          ∷ book 1 0 1
           ∷ tick pipelined
           ∷ tick pipelined
-          ∷ book-rate 3 1 1
-          ∷ release-rate 3 1 1
+          ∷ tick pipelined
+          ∷ tick pipelined
+          ∷ tick pipelined
+          ∷ tick pipelined
+          ∷ tick pipelined
+          ∷ tick pipelined
+          ∷ start pipelined 3 2 7
+          ∷ tick pipelined
+          ∷ tick pipelined
+          ∷ tick pipelined
           ∷ tick pipelined
           ∷ [];
       expected =
-          claim 1 1 1 0 0 1 0
-          ∷ claim 1 1 8 0 7 2 0
-          ∷ claim 1 1 15 0 6 0 0
+          claim 1 1 1 0 0 0 0
+          ∷ claim 1 1 7 0 5 0 0
+          ∷ claim 1 1 13 0 4 0 0
+          ∷ claim 1 1 19 0 4 0 0
           ∷ claim 1 2 1 0 0 0 0
-          ∷ claim 1 2 8 4 0 0 0
-          ∷ claim 1 2 15 4 0 0 0
+          ∷ claim 1 2 7 2 1 0 0
+          ∷ claim 1 2 13 1 1 0 0
+          ∷ claim 1 2 19 1 1 0 0
           ∷ claim 1 3 1 0 0 0 0
-          ∷ claim 1 3 8 0 4 0 0
-          ∷ claim 1 3 15 0 4 0 0
-          ∷ claim 2 1 1 0 0 1 0
-          ∷ claim 2 1 8 2 1 3 2
-          ∷ claim 2 1 15 1 1 0 0
-          ∷ claim 2 2 1 0 0 1 0
-          ∷ claim 2 2 8 0 6 2 0
-          ∷ claim 2 2 15 0 5 0 0
+          ∷ claim 1 3 7 1 2 0 0
+          ∷ claim 1 3 13 1 1 0 0
+          ∷ claim 1 3 19 1 1 0 0
+          ∷ claim 2 1 1 0 0 0 0
+          ∷ claim 2 1 7 2 0 6 2
+          ∷ claim 2 1 13 2 0 6 2
+          ∷ claim 2 1 19 2 0 2 2
+          ∷ claim 2 2 1 0 0 0 0
+          ∷ claim 2 2 7 0 4 6 0
+          ∷ claim 2 2 13 0 3 6 0
+          ∷ claim 2 2 19 0 3 2 0
           ∷ claim 2 3 1 0 0 0 0
-          ∷ claim 2 3 8 0 2 0 0
-          ∷ claim 2 3 15 0 1 0 0
+          ∷ claim 2 3 7 0 3 0 0
+          ∷ claim 2 3 13 0 3 0 0
+          ∷ claim 2 3 19 0 3 0 0
           ∷ claim 3 1 1 0 0 0 0
-          ∷ claim 3 1 8 1 2 0 0
-          ∷ claim 3 1 15 1 1 0 0
+          ∷ claim 3 1 7 0 2 2 0
+          ∷ claim 3 1 13 0 2 6 0
+          ∷ claim 3 1 19 0 2 2 0
           ∷ claim 3 2 1 0 0 0 0
-          ∷ claim 3 2 8 0 5 0 0
-          ∷ claim 3 2 15 0 5 0 0
+          ∷ claim 3 2 7 0 2 6 0
+          ∷ claim 3 2 13 0 1 6 0
+          ∷ claim 3 2 19 0 1 2 0
           ∷ claim 3 3 1 0 0 0 0
-          ∷ claim 3 3 8 0 1 0 0
-          ∷ claim 3 3 15 0 1 0 0
+          ∷ claim 3 3 7 0 1 6 0
+          ∷ claim 3 3 13 0 1 6 0
+          ∷ claim 3 3 19 0 1 2 0
+          ∷ [];
+      headrooms =
+          told 1 1 0 (pos 2)
+          ∷ told 1 2 0 (pos 4)
+          ∷ told 1 3 0 (pos 4)
+          ∷ told 2 1 0 (pos 4)
+          ∷ told 2 2 0 (pos 3)
+          ∷ told 2 3 0 (pos 3)
+          ∷ told 3 1 0 (pos 4)
+          ∷ told 3 2 0 (pos 5)
+          ∷ told 3 3 0 (pos 5)
+          ∷ told 4 1 5 (pos 0)
+          ∷ told 1 4294967297 5 (pos 0)
           ∷ [];
     }
 
 pub agrees-37 : first-wrong list-37 ≡ 0
-unfolding first-wrong entries apply Direct.start Direct.tick Pipelined.start Pipelined.tick book-words rate-words release-words release-rate-words arrive-words into-frame booking bookings row-sum column-sum sum least some-of word
+unfolding first-wrong entries apply Direct.start Direct.tick Pipelined.start Pipelined.tick book-words rate-words release-words release-rate-words headroom-refusal arrive-words into-frame booking bookings row-sum column-sum sum least some-of word
 agrees-37 = refl
+
+pub headroom-37 : first-wrong-headroom list-37 ≡ 0
+unfolding first-wrong-headroom final headroom-result pair-headroom headroom-over apply Direct.start Direct.tick Pipelined.start Pipelined.tick book-words rate-words release-words release-rate-words headroom-refusal arrive-words into-frame booking bookings row-sum column-sum sum least some-of word
+headroom-37 = refl
 
 abbrev list-38 : Case
 list-38 =
@@ -4010,113 +4527,136 @@ list-38 =
           ∷ arrive 2 2 12
           ∷ arrive 2 2 10
           ∷ arrive 3 3 11
+          ∷ arrive 2 1 6
           ∷ tick direct
           ∷ tick direct
           ∷ tick direct
-          ∷ arrive 3 3 11
-          ∷ arrive 1 3 7
-          ∷ tick direct
+          ∷ book-rate 1 3 1
           ∷ tick direct
           ∷ arrive 1 2 6
-          ∷ arrive 3 2 8
+          ∷ release-rate 3 1 1
+          ∷ book 1 1 1
+          ∷ release 1 3 1
+          ∷ tick direct
+          ∷ arrive 2 1 6
+          ∷ arrive 3 2 6
+          ∷ tick direct
+          ∷ tick direct
+          ∷ tick direct
+          ∷ tick direct
+          ∷ release 1 3 1
+          ∷ release 1 1 1
+          ∷ arrive 2 2 9
+          ∷ tick direct
+          ∷ tick direct
+          ∷ book 1 1 1
+          ∷ tick direct
           ∷ arrive 1 1 8
+          ∷ release 1 1 1
           ∷ tick direct
-          ∷ release-rate 3 1 1
-          ∷ tick direct
-          ∷ arrive 1 3 8
-          ∷ arrive 2 1 12
-          ∷ release-rate 2 2 1
+          ∷ release-rate 2 2 4
           ∷ tick direct
           ∷ tick direct
           ∷ tick direct
-          ∷ release-rate 2 4 1
           ∷ tick direct
           ∷ tick direct
-          ∷ arrive 1 1 9
+          ∷ headroom 2 4294967297
+          ∷ start direct 3 3 100000001
+          ∷ release-rate 3 1 2
+          ∷ book 2 1 1
           ∷ tick direct
-          ∷ tick direct
-          ∷ release-rate 3 1 1
-          ∷ tick direct
-          ∷ tick direct
-          ∷ tick direct
-          ∷ release-rate 2 2 3
-          ∷ release-rate 2 3 1
-          ∷ tick direct
-          ∷ book-rate 3 2 1
-          ∷ arrive 1 3 7
-          ∷ tick direct
+          ∷ arrive 2 3 8
+          ∷ arrive 3 1 8
+          ∷ headroom 2 3
           ∷ tick direct
           ∷ [];
       expected =
           claim 1 1 1 0 3 0 0
-          ∷ claim 1 1 4 0 3 1 0
-          ∷ claim 1 1 7 0 3 3 0
-          ∷ claim 1 1 10 0 3 3 0
-          ∷ claim 1 1 13 0 3 3 0
-          ∷ claim 1 1 16 0 2 3 0
+          ∷ claim 1 1 4 0 3 0 0
+          ∷ claim 1 1 7 0 2 0 0
+          ∷ claim 1 1 10 0 1 0 0
+          ∷ claim 1 1 13 0 1 3 0
+          ∷ claim 1 1 16 0 1 3 0
           ∷ claim 1 1 19 0 2 2 0
           ∷ claim 1 2 1 0 4 0 0
-          ∷ claim 1 2 4 0 4 1 0
-          ∷ claim 1 2 7 0 4 3 0
-          ∷ claim 1 2 10 0 4 3 0
-          ∷ claim 1 2 13 0 4 3 0
-          ∷ claim 1 2 16 0 4 3 0
-          ∷ claim 1 2 19 0 3 2 0
+          ∷ claim 1 2 4 0 4 2 0
+          ∷ claim 1 2 7 0 3 3 0
+          ∷ claim 1 2 10 0 2 3 0
+          ∷ claim 1 2 13 0 2 3 0
+          ∷ claim 1 2 16 0 0 3 0
+          ∷ claim 1 2 19 0 0 2 0
           ∷ claim 1 3 1 2 0 0 0
-          ∷ claim 1 3 4 2 0 3 2
-          ∷ claim 1 3 7 2 0 3 2
-          ∷ claim 1 3 10 2 0 3 2
-          ∷ claim 1 3 13 2 0 3 2
-          ∷ claim 1 3 16 2 0 3 2
-          ∷ claim 1 3 19 2 0 2 2
+          ∷ claim 1 3 4 2 0 0 0
+          ∷ claim 1 3 7 1 0 0 0
+          ∷ claim 1 3 10 0 0 0 0
+          ∷ claim 1 3 13 0 0 0 0
+          ∷ claim 1 3 16 0 0 0 0
+          ∷ claim 1 3 19 0 0 0 0
           ∷ claim 2 1 1 0 3 3 0
           ∷ claim 2 1 4 0 3 3 0
           ∷ claim 2 1 7 0 3 3 0
           ∷ claim 2 1 10 0 3 3 0
           ∷ claim 2 1 13 0 3 3 0
-          ∷ claim 2 1 16 0 2 3 0
-          ∷ claim 2 1 19 0 0 2 0
+          ∷ claim 2 1 16 0 1 3 0
+          ∷ claim 2 1 19 1 1 2 1
           ∷ claim 2 2 1 2 0 3 2
           ∷ claim 2 2 4 2 0 3 2
           ∷ claim 2 2 7 2 0 3 2
           ∷ claim 2 2 10 2 0 3 2
           ∷ claim 2 2 13 2 0 3 2
-          ∷ claim 2 2 16 2 0 3 2
+          ∷ claim 2 2 16 0 0 3 0
           ∷ claim 2 2 19 0 1 2 0
           ∷ claim 2 3 1 0 4 0 0
           ∷ claim 2 3 4 0 4 0 0
-          ∷ claim 2 3 7 0 4 0 0
-          ∷ claim 2 3 10 0 4 0 0
-          ∷ claim 2 3 13 0 4 0 0
-          ∷ claim 2 3 16 0 4 0 0
-          ∷ claim 2 3 19 0 2 0 0
+          ∷ claim 2 3 7 0 3 0 0
+          ∷ claim 2 3 10 0 2 0 0
+          ∷ claim 2 3 13 0 2 0 0
+          ∷ claim 2 3 16 0 0 0 0
+          ∷ claim 2 3 19 0 1 1 0
           ∷ claim 3 1 1 1 0 0 0
           ∷ claim 3 1 4 1 0 0 0
           ∷ claim 3 1 7 1 0 0 0
           ∷ claim 3 1 10 1 0 0 0
           ∷ claim 3 1 13 1 0 0 0
-          ∷ claim 3 1 16 0 0 0 0
-          ∷ claim 3 1 19 0 1 0 0
+          ∷ claim 3 1 16 1 0 0 0
+          ∷ claim 3 1 19 1 1 1 1
           ∷ claim 3 2 1 0 3 0 0
           ∷ claim 3 2 4 0 3 1 0
           ∷ claim 3 2 7 0 3 3 0
           ∷ claim 3 2 10 0 3 3 0
           ∷ claim 3 2 13 0 3 3 0
-          ∷ claim 3 2 16 0 2 3 0
-          ∷ claim 3 2 19 1 0 2 1
+          ∷ claim 3 2 16 0 1 3 0
+          ∷ claim 3 2 19 0 1 2 0
           ∷ claim 3 3 1 0 3 3 0
           ∷ claim 3 3 4 0 3 3 0
-          ∷ claim 3 3 7 0 3 3 0
-          ∷ claim 3 3 10 0 3 3 0
-          ∷ claim 3 3 13 0 3 3 0
-          ∷ claim 3 3 16 0 2 3 0
-          ∷ claim 3 3 19 0 3 2 0
+          ∷ claim 3 3 7 0 2 3 0
+          ∷ claim 3 3 10 0 1 2 0
+          ∷ claim 3 3 13 0 1 0 0
+          ∷ claim 3 3 16 0 1 0 0
+          ∷ claim 3 3 19 0 1 0 0
+          ∷ [];
+      headrooms =
+          told 1 1 0 (pos 1)
+          ∷ told 1 2 0 (pos 3)
+          ∷ told 1 3 0 (pos 3)
+          ∷ told 2 1 0 (pos 1)
+          ∷ told 2 2 0 (pos 2)
+          ∷ told 2 3 0 (pos 2)
+          ∷ told 3 1 0 (pos 1)
+          ∷ told 3 2 0 (pos 2)
+          ∷ told 3 3 0 (pos 2)
+          ∷ told 4 1 5 (pos 0)
+          ∷ told 1 4294967297 5 (pos 0)
           ∷ [];
     }
 
 pub agrees-38 : first-wrong list-38 ≡ 0
-unfolding first-wrong entries apply Direct.start Direct.tick Pipelined.start Pipelined.tick book-words rate-words release-words release-rate-words arrive-words into-frame booking bookings row-sum column-sum sum least some-of word
+unfolding first-wrong entries apply Direct.start Direct.tick Pipelined.start Pipelined.tick book-words rate-words release-words release-rate-words headroom-refusal arrive-words into-frame booking bookings row-sum column-sum sum least some-of word
 agrees-38 = refl
+
+pub headroom-38 : first-wrong-headroom list-38 ≡ 0
+unfolding first-wrong-headroom final headroom-result pair-headroom headroom-over apply Direct.start Direct.tick Pipelined.start Pipelined.tick book-words rate-words release-words release-rate-words headroom-refusal arrive-words into-frame booking bookings row-sum column-sum sum least some-of word
+headroom-38 = refl
 
 abbrev list-39 : Case
 list-39 =
@@ -4137,53 +4677,57 @@ list-39 =
           ∷ arrive 1 1 4
           ∷ tick pipelined
           ∷ tick pipelined
-          ∷ book-rate 1 1 16666666
-          ∷ release-rate 1 1 33333332
+          ∷ arrive 1 1 3
+          ∷ arrive 1 1 4
           ∷ tick pipelined
-          ∷ arrive 1 1 5
+          ∷ arrive 1 1 3
           ∷ tick pipelined
-          ∷ release-rate 1 1 1
-          ∷ tick pipelined
-          ∷ tick pipelined
+          ∷ arrive 1 1 2
           ∷ tick pipelined
           ∷ tick pipelined
-          ∷ start pipelined 0 2 100000000
           ∷ tick pipelined
           ∷ tick pipelined
-          ∷ release-rate 1 1 1
+          ∷ tick pipelined
+          ∷ tick pipelined
           ∷ tick pipelined
           ∷ tick pipelined
           ∷ arrive 1 1 3
-          ∷ release 2 1 1
-          ∷ arrive 1 1 5
-          ∷ tick pipelined
-          ∷ book 1 1 1
-          ∷ release-rate 1 1 1
-          ∷ tick pipelined
           ∷ tick pipelined
           ∷ arrive 1 1 5
           ∷ tick pipelined
-          ∷ book 1 1 1
+          ∷ tick pipelined
+          ∷ arrive 1 1 4
+          ∷ tick pipelined
+          ∷ arrive 1 1 2
           ∷ tick pipelined
           ∷ tick pipelined
           ∷ [];
       expected =
           claim 1 1 1 0 0 0 0
           ∷ claim 1 1 3 1 0 2 1
-          ∷ claim 1 1 5 0 0 2 0
-          ∷ claim 1 1 7 0 0 2 0
-          ∷ claim 1 1 9 0 0 2 0
-          ∷ claim 1 1 11 0 0 1 0
-          ∷ claim 1 1 13 0 0 0 0
-          ∷ claim 1 1 15 0 0 2 0
+          ∷ claim 1 1 5 1 0 2 1
+          ∷ claim 1 1 7 1 0 2 1
+          ∷ claim 1 1 9 1 0 2 1
+          ∷ claim 1 1 11 1 0 2 1
+          ∷ claim 1 1 13 1 0 2 1
+          ∷ claim 1 1 15 1 0 2 1
           ∷ claim 1 1 17 1 0 2 1
           ∷ claim 1 1 19 1 0 1 1
+          ∷ [];
+      headrooms =
+          told 1 1 0 (pos 1)
+          ∷ told 2 1 5 (pos 0)
+          ∷ told 1 0 5 (pos 0)
           ∷ [];
     }
 
 pub agrees-39 : first-wrong list-39 ≡ 0
-unfolding first-wrong entries apply Direct.start Direct.tick Pipelined.start Pipelined.tick book-words rate-words release-words release-rate-words arrive-words into-frame booking bookings row-sum column-sum sum least some-of word
+unfolding first-wrong entries apply Direct.start Direct.tick Pipelined.start Pipelined.tick book-words rate-words release-words release-rate-words headroom-refusal arrive-words into-frame booking bookings row-sum column-sum sum least some-of word
 agrees-39 = refl
+
+pub headroom-39 : first-wrong-headroom list-39 ≡ 0
+unfolding first-wrong-headroom final headroom-result pair-headroom headroom-over apply Direct.start Direct.tick Pipelined.start Pipelined.tick book-words rate-words release-words release-rate-words headroom-refusal arrive-words into-frame booking bookings row-sum column-sum sum least some-of word
+headroom-39 = refl
 
 abbrev list-40 : Case
 list-40 =
@@ -4219,63 +4763,83 @@ list-40 =
           ∷ arrive 3 3 3
           ∷ arrive 3 2 4
           ∷ arrive 2 2 3
-          ∷ release-rate 3 1 1
-          ∷ arrive 3 1 5
           ∷ tick direct
-          ∷ release 3 2 1
-          ∷ book 2 2 1
+          ∷ tick direct
+          ∷ tick direct
+          ∷ arrive 3 2 4
+          ∷ tick direct
+          ∷ release 1 2 3
+          ∷ release-rate 3 3 55
+          ∷ tick direct
+          ∷ arrive 3 1 4
+          ∷ tick direct
+          ∷ tick direct
+          ∷ arrive 2 1 4
+          ∷ release-rate 3 2 55
+          ∷ release 2 1 1
+          ∷ tick direct
+          ∷ release-rate 1 2 1
+          ∷ tick direct
+          ∷ tick direct
           ∷ release 3 1 1
-          ∷ arrive 1 1 5
           ∷ tick direct
+          ∷ arrive 2 2 65536
           ∷ tick direct
-          ∷ tick direct
-          ∷ tick direct
-          ∷ tick direct
-          ∷ tick direct
-          ∷ tick direct
-          ∷ tick direct
-          ∷ tick direct
-          ∷ tick direct
-          ∷ arrive 3 1 2
+          ∷ arrive 1 2 5
           ∷ arrive 1 2 2
-          ∷ arrive 2 3 3
-          ∷ tick direct
           ∷ tick direct
           ∷ [];
       expected =
           claim 1 1 1 0 2 6 0
-          ∷ claim 1 1 7 0 2 6 0
+          ∷ claim 1 1 7 0 2 1 0
           ∷ claim 1 1 13 0 2 0 0
           ∷ claim 1 2 1 0 3 0 0
-          ∷ claim 1 2 7 0 3 1 0
-          ∷ claim 1 2 13 0 3 1 0
+          ∷ claim 1 2 7 0 3 0 0
+          ∷ claim 1 2 13 0 2 1 0
           ∷ claim 1 3 1 0 1 0 0
-          ∷ claim 1 3 7 0 1 0 0
-          ∷ claim 1 3 13 0 1 0 0
+          ∷ claim 1 3 7 0 0 0 0
+          ∷ claim 1 3 13 0 0 0 0
           ∷ claim 2 1 1 2 1 0 0
-          ∷ claim 2 1 7 2 1 0 0
+          ∷ claim 2 1 7 2 1 4 2
           ∷ claim 2 1 13 2 1 0 0
           ∷ claim 2 2 1 1 4 5 1
           ∷ claim 2 2 7 1 4 0 0
-          ∷ claim 2 2 13 1 4 0 0
+          ∷ claim 2 2 13 1 3 0 0
           ∷ claim 2 3 1 0 4 3 0
-          ∷ claim 2 3 7 0 4 1 0
-          ∷ claim 2 3 13 0 4 1 0
-          ∷ claim 3 1 1 0 5 6 0
-          ∷ claim 3 1 7 0 5 6 0
-          ∷ claim 3 1 13 0 5 1 0
+          ∷ claim 2 3 7 0 3 0 0
+          ∷ claim 2 3 13 0 3 0 0
+          ∷ claim 3 1 1 0 5 1 0
+          ∷ claim 3 1 7 0 4 6 0
+          ∷ claim 3 1 13 0 3 1 0
           ∷ claim 3 2 1 2 2 6 2
-          ∷ claim 3 2 7 2 2 1 1
-          ∷ claim 3 2 13 2 2 0 0
+          ∷ claim 3 2 7 2 1 5 2
+          ∷ claim 3 2 13 1 1 0 0
           ∷ claim 3 3 1 1 2 5 1
-          ∷ claim 3 3 7 1 2 0 0
-          ∷ claim 3 3 13 1 2 0 0
+          ∷ claim 3 3 7 0 2 0 0
+          ∷ claim 3 3 13 0 1 0 0
+          ∷ [];
+      headrooms =
+          told 1 1 0 (pos 4)
+          ∷ told 1 2 0 (pos 4)
+          ∷ told 1 3 0 (pos 6)
+          ∷ told 2 1 0 (pos 3)
+          ∷ told 2 2 0 (pos 2)
+          ∷ told 2 3 0 (pos 3)
+          ∷ told 3 1 0 (pos 3)
+          ∷ told 3 2 0 (pos 4)
+          ∷ told 3 3 0 (pos 5)
+          ∷ told 4 1 5 (pos 0)
+          ∷ told 1 4294967297 5 (pos 0)
           ∷ [];
     }
 
 pub agrees-40 : first-wrong list-40 ≡ 0
-unfolding first-wrong entries apply Direct.start Direct.tick Pipelined.start Pipelined.tick book-words rate-words release-words release-rate-words arrive-words into-frame booking bookings row-sum column-sum sum least some-of word
+unfolding first-wrong entries apply Direct.start Direct.tick Pipelined.start Pipelined.tick book-words rate-words release-words release-rate-words headroom-refusal arrive-words into-frame booking bookings row-sum column-sum sum least some-of word
 agrees-40 = refl
+
+pub headroom-40 : first-wrong-headroom list-40 ≡ 0
+unfolding first-wrong-headroom final headroom-result pair-headroom headroom-over apply Direct.start Direct.tick Pipelined.start Pipelined.tick book-words rate-words release-words release-rate-words headroom-refusal arrive-words into-frame booking bookings row-sum column-sum sum least some-of word
+headroom-40 = refl
 
 abbrev list-41 : Case
 list-41 =
@@ -4299,30 +4863,45 @@ list-41 =
           ∷ arrive 1 3 7
           ∷ arrive 2 1 6
           ∷ tick pipelined
-          ∷ release-rate 1 2 1
           ∷ tick pipelined
-          ∷ release-rate 1 1 1
-          ∷ arrive 2 3 6
+          ∷ arrive 2 2 12
           ∷ tick pipelined
-          ∷ tick pipelined
-          ∷ tick pipelined
-          ∷ arrive 3 2 11
-          ∷ release-rate 3 3 1
-          ∷ release-rate 1 2 1
-          ∷ tick pipelined
-          ∷ tick pipelined
-          ∷ tick pipelined
-          ∷ tick pipelined
-          ∷ tick pipelined
-          ∷ book 1 3 5
-          ∷ arrive 2 1 8
-          ∷ tick pipelined
-          ∷ tick pipelined
+          ∷ release-rate 3 1 1
+          ∷ arrive 3 2 0
           ∷ tick pipelined
           ∷ tick pipelined
           ∷ tick pipelined
           ∷ arrive 2 1 11
           ∷ tick pipelined
+          ∷ tick pipelined
+          ∷ book-rate 3 3 83
+          ∷ arrive 1 2 12
+          ∷ tick pipelined
+          ∷ release 0 1 1
+          ∷ tick pipelined
+          ∷ arrive 2 3 12
+          ∷ tick pipelined
+          ∷ arrive 2 3 12
+          ∷ tick pipelined
+          ∷ book 2 2 2
+          ∷ release-rate 2 2 1
+          ∷ headroom 1 2
+          ∷ arrive 1 2 10
+          ∷ tick pipelined
+          ∷ release-rate 1 1 1
+          ∷ book-rate 2 3 83
+          ∷ arrive 2 1 7
+          ∷ tick pipelined
+          ∷ arrive 3 1 11
+          ∷ start pipelined 33 4 1000
+          ∷ tick pipelined
+          ∷ headroom 3 1
+          ∷ release-rate 2 3 83
+          ∷ release-rate 3 4294967297 1
+          ∷ tick pipelined
+          ∷ book 2 1 1
+          ∷ arrive 4294967297 2 1
+          ∷ arrive 3 1 8
           ∷ tick pipelined
           ∷ [];
       expected =
@@ -4334,8 +4913,8 @@ list-41 =
           ∷ claim 1 2 1 0 0 0 0
           ∷ claim 1 2 5 0 0 0 0
           ∷ claim 1 2 9 0 2 0 0
-          ∷ claim 1 2 13 0 2 0 0
-          ∷ claim 1 2 17 0 2 0 0
+          ∷ claim 1 2 13 0 2 2 0
+          ∷ claim 1 2 17 0 2 2 0
           ∷ claim 1 3 1 0 0 0 0
           ∷ claim 1 3 5 0 0 2 0
           ∷ claim 1 3 9 0 1 4 0
@@ -4344,17 +4923,17 @@ list-41 =
           ∷ claim 2 1 1 0 0 0 0
           ∷ claim 2 1 5 0 0 2 0
           ∷ claim 2 1 9 0 1 4 0
-          ∷ claim 2 1 13 0 1 1 0
+          ∷ claim 2 1 13 0 1 4 0
           ∷ claim 2 1 17 0 1 2 0
           ∷ claim 2 2 1 0 0 0 0
-          ∷ claim 2 2 5 0 0 0 0
-          ∷ claim 2 2 9 1 1 0 0
-          ∷ claim 2 2 13 1 1 0 0
-          ∷ claim 2 2 17 1 1 0 0
+          ∷ claim 2 2 5 0 0 1 0
+          ∷ claim 2 2 9 1 1 4 1
+          ∷ claim 2 2 13 1 1 4 1
+          ∷ claim 2 2 17 1 1 2 1
           ∷ claim 2 3 1 0 0 0 0
-          ∷ claim 2 3 5 0 0 1 0
-          ∷ claim 2 3 9 0 2 4 0
-          ∷ claim 2 3 13 0 2 4 0
+          ∷ claim 2 3 5 0 0 0 0
+          ∷ claim 2 3 9 0 2 0 0
+          ∷ claim 2 3 13 0 2 1 0
           ∷ claim 2 3 17 0 2 2 0
           ∷ claim 3 1 1 0 0 0 0
           ∷ claim 3 1 5 0 0 0 0
@@ -4363,20 +4942,37 @@ list-41 =
           ∷ claim 3 1 17 0 2 0 0
           ∷ claim 3 2 1 0 0 0 0
           ∷ claim 3 2 5 0 0 0 0
-          ∷ claim 3 2 9 1 2 3 1
-          ∷ claim 3 2 13 1 2 4 1
-          ∷ claim 3 2 17 1 2 2 1
+          ∷ claim 3 2 9 1 2 0 0
+          ∷ claim 3 2 13 1 2 0 0
+          ∷ claim 3 2 17 1 2 0 0
           ∷ claim 3 3 1 0 0 0 0
           ∷ claim 3 3 5 0 0 0 0
           ∷ claim 3 3 9 1 1 0 0
           ∷ claim 3 3 13 1 1 0 0
           ∷ claim 3 3 17 1 1 0 0
           ∷ [];
+      headrooms =
+          told 1 1 0 (pos 3)
+          ∷ told 1 2 0 (pos 2)
+          ∷ told 1 3 0 (pos 3)
+          ∷ told 2 1 0 (pos 2)
+          ∷ told 2 2 0 (pos 1)
+          ∷ told 2 3 0 (pos 1)
+          ∷ told 3 1 0 (pos 1)
+          ∷ told 3 2 0 (pos 1)
+          ∷ told 3 3 0 (pos 2)
+          ∷ told 4 1 5 (pos 0)
+          ∷ told 1 0 5 (pos 0)
+          ∷ [];
     }
 
 pub agrees-41 : first-wrong list-41 ≡ 0
-unfolding first-wrong entries apply Direct.start Direct.tick Pipelined.start Pipelined.tick book-words rate-words release-words release-rate-words arrive-words into-frame booking bookings row-sum column-sum sum least some-of word
+unfolding first-wrong entries apply Direct.start Direct.tick Pipelined.start Pipelined.tick book-words rate-words release-words release-rate-words headroom-refusal arrive-words into-frame booking bookings row-sum column-sum sum least some-of word
 agrees-41 = refl
+
+pub headroom-41 : first-wrong-headroom list-41 ≡ 0
+unfolding first-wrong-headroom final headroom-result pair-headroom headroom-over apply Direct.start Direct.tick Pipelined.start Pipelined.tick book-words rate-words release-words release-rate-words headroom-refusal arrive-words into-frame booking bookings row-sum column-sum sum least some-of word
+headroom-41 = refl
 
 abbrev list-42 : Case
 list-42 =
@@ -4399,47 +4995,61 @@ list-42 =
           ∷ arrive 1 1 8
           ∷ tick direct
           ∷ tick direct
+          ∷ release-rate 1 2 1
+          ∷ tick direct
+          ∷ release 2 1 1
+          ∷ tick direct
+          ∷ release 2 4294967297 1
+          ∷ book-rate 2 1 11111112
+          ∷ arrive 2 2 7
+          ∷ release-rate 2 1 11111111
           ∷ tick direct
           ∷ tick direct
-          ∷ book 2 1 1
+          ∷ arrive 1 1 12
+          ∷ arrive 1 1 8
           ∷ tick direct
           ∷ tick direct
           ∷ tick direct
-          ∷ book 2 1 1
-          ∷ tick direct
-          ∷ release 1 1 1
+          ∷ release-rate 1 2 1
           ∷ tick direct
           ∷ tick direct
-          ∷ arrive 2 1 8
-          ∷ book 1 2 1
-          ∷ book 2 2 1
-          ∷ tick direct
-          ∷ release 2 2 1
           ∷ tick direct
           ∷ [];
       expected =
           claim 1 1 1 1 1 3 1
           ∷ claim 1 1 4 1 1 3 1
-          ∷ claim 1 1 7 1 1 2 1
-          ∷ claim 1 1 10 0 1 0 0
+          ∷ claim 1 1 7 1 1 3 1
+          ∷ claim 1 1 10 1 1 3 1
           ∷ claim 1 2 1 0 1 0 0
           ∷ claim 1 2 4 0 1 0 0
           ∷ claim 1 2 7 0 1 0 0
-          ∷ claim 1 2 10 0 0 0 0
+          ∷ claim 1 2 10 0 1 0 0
           ∷ claim 2 1 1 1 1 0 0
           ∷ claim 2 1 4 1 1 0 0
           ∷ claim 2 1 7 1 1 0 0
-          ∷ claim 2 1 10 1 0 2 1
+          ∷ claim 2 1 10 1 1 0 0
           ∷ claim 2 2 1 0 1 3 0
           ∷ claim 2 2 4 0 1 3 0
           ∷ claim 2 2 7 0 1 3 0
-          ∷ claim 2 2 10 0 1 0 0
+          ∷ claim 2 2 10 0 1 3 0
+          ∷ [];
+      headrooms =
+          told 1 1 0 (pos 1)
+          ∷ told 1 2 0 (pos 2)
+          ∷ told 2 1 0 (pos 1)
+          ∷ told 2 2 0 (pos 2)
+          ∷ told 3 1 5 (pos 0)
+          ∷ told 1 0 5 (pos 0)
           ∷ [];
     }
 
 pub agrees-42 : first-wrong list-42 ≡ 0
-unfolding first-wrong entries apply Direct.start Direct.tick Pipelined.start Pipelined.tick book-words rate-words release-words release-rate-words arrive-words into-frame booking bookings row-sum column-sum sum least some-of word
+unfolding first-wrong entries apply Direct.start Direct.tick Pipelined.start Pipelined.tick book-words rate-words release-words release-rate-words headroom-refusal arrive-words into-frame booking bookings row-sum column-sum sum least some-of word
 agrees-42 = refl
+
+pub headroom-42 : first-wrong-headroom list-42 ≡ 0
+unfolding first-wrong-headroom final headroom-result pair-headroom headroom-over apply Direct.start Direct.tick Pipelined.start Pipelined.tick book-words rate-words release-words release-rate-words headroom-refusal arrive-words into-frame booking bookings row-sum column-sum sum least some-of word
+headroom-42 = refl
 
 abbrev list-43 : Case
 list-43 =
@@ -4483,83 +5093,99 @@ list-43 =
           ∷ arrive 2 2 4
           ∷ arrive 3 3 5
           ∷ tick pipelined
-          ∷ start pipelined 33 7 1000
-          ∷ tick pipelined
-          ∷ release 3 1 8
           ∷ tick pipelined
           ∷ tick pipelined
           ∷ tick pipelined
+          ∷ arrive 2 2 5
           ∷ tick pipelined
           ∷ tick pipelined
-          ∷ tick pipelined
-          ∷ tick pipelined
-          ∷ tick pipelined
+          ∷ arrive 1 1 2
           ∷ tick pipelined
           ∷ tick pipelined
           ∷ arrive 2 1 3
           ∷ tick pipelined
+          ∷ book-rate 1 2 47
           ∷ tick pipelined
-          ∷ tick pipelined
-          ∷ release-rate 1 2 96
-          ∷ book-rate 3 1 95
-          ∷ arrive 2 2 5
-          ∷ release 2 3 1
-          ∷ tick pipelined
-          ∷ tick pipelined
-          ∷ arrive 3 1 4
-          ∷ arrive 1 2 5
-          ∷ tick pipelined
-          ∷ tick pipelined
-          ∷ release-rate 1 3 47
+          ∷ arrive 1 1 4
           ∷ tick pipelined
           ∷ tick pipelined
           ∷ tick pipelined
-          ∷ arrive 2 3 5
+          ∷ tick pipelined
+          ∷ book 2 3 1
+          ∷ tick pipelined
+          ∷ tick pipelined
+          ∷ arrive 2 2 4
+          ∷ tick pipelined
+          ∷ tick pipelined
+          ∷ arrive 1 2 2
+          ∷ tick pipelined
+          ∷ release-rate 3 2 47
+          ∷ tick pipelined
+          ∷ tick pipelined
+          ∷ tick pipelined
+          ∷ book-rate 4294967297 1 1
           ∷ tick pipelined
           ∷ [];
       expected =
           claim 1 1 1 0 0 1 0
-          ∷ claim 1 1 8 0 2 2 0
-          ∷ claim 1 1 15 0 2 0 0
-          ∷ claim 1 1 22 0 1 0 0
+          ∷ claim 1 1 8 0 2 4 0
+          ∷ claim 1 1 15 0 2 5 0
+          ∷ claim 1 1 22 0 3 1 0
           ∷ claim 1 2 1 0 0 1 0
           ∷ claim 1 2 8 1 3 7 1
-          ∷ claim 1 2 15 1 3 0 0
-          ∷ claim 1 2 22 0 3 1 0
+          ∷ claim 1 2 15 1 3 1 1
+          ∷ claim 1 2 22 2 3 0 0
           ∷ claim 1 3 1 0 0 1 0
           ∷ claim 1 3 8 1 4 7 1
           ∷ claim 1 3 15 1 4 7 1
-          ∷ claim 1 3 22 1 2 1 1
+          ∷ claim 1 3 22 1 5 3 1
           ∷ claim 2 1 1 0 0 1 0
           ∷ claim 2 1 8 0 1 7 0
           ∷ claim 2 1 15 0 1 7 0
-          ∷ claim 2 1 22 0 0 1 0
+          ∷ claim 2 1 22 0 1 3 0
           ∷ claim 2 2 1 0 0 1 0
           ∷ claim 2 2 8 0 4 7 0
           ∷ claim 2 2 15 0 4 7 0
-          ∷ claim 2 2 22 0 2 3 0
+          ∷ claim 2 2 22 0 5 3 0
           ∷ claim 2 3 1 0 0 1 0
           ∷ claim 2 3 8 1 3 7 1
           ∷ claim 2 3 15 1 3 7 1
-          ∷ claim 2 3 22 0 3 3 0
+          ∷ claim 2 3 22 1 3 3 1
           ∷ claim 3 1 1 0 0 1 0
           ∷ claim 3 1 8 0 4 7 0
           ∷ claim 3 1 15 0 4 7 0
           ∷ claim 3 1 22 0 4 3 0
           ∷ claim 3 2 1 0 0 1 0
           ∷ claim 3 2 8 2 3 7 2
-          ∷ claim 3 2 15 2 3 2 2
-          ∷ claim 3 2 22 2 2 0 0
+          ∷ claim 3 2 15 2 3 3 2
+          ∷ claim 3 2 22 2 4 0 0
           ∷ claim 3 3 1 0 0 1 0
           ∷ claim 3 3 8 2 4 7 2
           ∷ claim 3 3 15 2 4 7 2
-          ∷ claim 3 3 22 2 3 3 2
+          ∷ claim 3 3 22 2 4 3 1
+          ∷ [];
+      headrooms =
+          told 1 1 0 (pos 4)
+          ∷ told 1 2 0 (pos 2)
+          ∷ told 1 3 0 (pos 1)
+          ∷ told 2 1 0 (pos 6)
+          ∷ told 2 2 0 (pos 2)
+          ∷ told 2 3 0 (pos 3)
+          ∷ told 3 1 0 (pos 3)
+          ∷ told 3 2 0 (pos 1)
+          ∷ told 3 3 0 (pos 1)
+          ∷ told 4 1 5 (pos 0)
+          ∷ told 1 0 5 (pos 0)
           ∷ [];
     }
 
 pub agrees-43 : first-wrong list-43 ≡ 0
-unfolding first-wrong entries apply Direct.start Direct.tick Pipelined.start Pipelined.tick book-words rate-words release-words release-rate-words arrive-words into-frame booking bookings row-sum column-sum sum least some-of word
+unfolding first-wrong entries apply Direct.start Direct.tick Pipelined.start Pipelined.tick book-words rate-words release-words release-rate-words headroom-refusal arrive-words into-frame booking bookings row-sum column-sum sum least some-of word
 agrees-43 = refl
+
+pub headroom-43 : first-wrong-headroom list-43 ≡ 0
+unfolding first-wrong-headroom final headroom-result pair-headroom headroom-over apply Direct.start Direct.tick Pipelined.start Pipelined.tick book-words rate-words release-words release-rate-words headroom-refusal arrive-words into-frame booking bookings row-sum column-sum sum least some-of word
+headroom-43 = refl
 
 abbrev list-44 : Case
 list-44 =
@@ -4582,137 +5208,99 @@ list-44 =
           ∷ arrive 1 1 8
           ∷ arrive 1 1 7
           ∷ release 1 1 1
+          ∷ arrive 1 1 7
           ∷ tick direct
           ∷ tick direct
-          ∷ release-rate 1 1 250
-          ∷ arrive 1 1 6
-          ∷ tick direct
-          ∷ release-rate 1 1 82
+          ∷ arrive 1 1 10
+          ∷ book-rate 1 1 1001
           ∷ tick direct
           ∷ tick direct
-          ∷ start direct 3 7 1000
-          ∷ book 2 1 1
-          ∷ book-rate 2 1 95
-          ∷ book-rate 2 1 47
-          ∷ book-rate 3 3 142
-          ∷ book-rate 3 3 142
-          ∷ book 2 3 1
-          ∷ book 3 2 1
-          ∷ book 1 2 1
-          ∷ book-rate 2 1 47
-          ∷ book-rate 2 3 142
-          ∷ book-rate 2 3 95
-          ∷ book-rate 2 3 48
-          ∷ book-rate 2 3 47
-          ∷ book-rate 1 3 48
-          ∷ book-rate 1 3 142
-          ∷ book-rate 1 3 142
-          ∷ arrive 1 3 65535
-          ∷ arrive 1 3 65535
-          ∷ arrive 1 3 65535
-          ∷ arrive 1 3 65535
-          ∷ arrive 1 3 65535
-          ∷ arrive 1 3 65535
-          ∷ arrive 1 3 65535
-          ∷ arrive 1 3 65535
-          ∷ arrive 1 3 65535
-          ∷ arrive 1 3 65535
-          ∷ arrive 1 3 65535
-          ∷ arrive 1 3 65535
-          ∷ arrive 1 3 65535
-          ∷ arrive 1 3 65535
-          ∷ arrive 1 3 65535
-          ∷ arrive 1 3 16976
-          ∷ arrive 1 3 16975
-          ∷ arrive 1 3 1
+          ∷ tick direct
+          ∷ start direct 2 2 100000000
+          ∷ book-rate 2 1 16666667
+          ∷ book-rate 2 2 33333333
+          ∷ book-rate 2 2 16666666
+          ∷ book-rate 2 1 50000000
+          ∷ book-rate 2 1 50000000
           ∷ arrive 1 1 2
-          ∷ arrive 3 3 1
+          ∷ arrive 2 1 1
+          ∷ arrive 2 2 2
           ∷ arrive 1 1 1
-          ∷ arrive 1 3 1
-          ∷ arrive 3 3 2
-          ∷ arrive 2 1 1
-          ∷ arrive 1 2 2
-          ∷ arrive 2 1 2
           ∷ tick direct
-          ∷ release 2 1 1
           ∷ tick direct
-          ∷ arrive 1 1 2
-          ∷ arrive 2 1 2
-          ∷ arrive 3 2 1
-          ∷ arrive 1 2 2
+          ∷ tick direct
+          ∷ arrive 4294967297 1 1
+          ∷ tick direct
+          ∷ book-rate 1 1 100000001
+          ∷ tick direct
+          ∷ tick direct
+          ∷ start direct 2 2 100000001
+          ∷ arrive 2 2 1
+          ∷ tick direct
+          ∷ tick direct
+          ∷ book-rate 2 1 33333333
+          ∷ headroom 1 2
+          ∷ release-rate 2 1 50000000
+          ∷ tick direct
+          ∷ tick direct
+          ∷ arrive 2 2 1
+          ∷ tick direct
+          ∷ arrive 2 2 1
+          ∷ book-rate 2 1 100000001
+          ∷ tick direct
+          ∷ start direct 2 2 100000001
+          ∷ arrive 1 1 1
           ∷ release-rate 2 2 1
-          ∷ release 1 2 1
           ∷ tick direct
-          ∷ arrive 2 3 1
-          ∷ arrive 2 3 2
-          ∷ arrive 2 1 2
-          ∷ release-rate 1 3 47
-          ∷ arrive 2 1 1
-          ∷ tick direct
-          ∷ book-rate 2 2 96
-          ∷ arrive 2 1 1
-          ∷ arrive 3 3 2
-          ∷ release-rate 2 2 96
-          ∷ tick direct
-          ∷ release-rate 1 3 2
-          ∷ book-rate 3 1 95
-          ∷ tick direct
-          ∷ tick direct
-          ∷ arrive 1 2 2
-          ∷ tick direct
-          ∷ tick direct
-          ∷ tick direct
-          ∷ tick direct
-          ∷ tick direct
-          ∷ book-rate 2 3 48
-          ∷ arrive 2 1 65536
-          ∷ arrive 3 1 2
-          ∷ arrive 3 3 2
-          ∷ release-rate 2 3 1
-          ∷ tick direct
-          ∷ release 1 1 0
-          ∷ book 1 1 1
-          ∷ tick direct
-          ∷ tick direct
-          ∷ book 2 2 1
-          ∷ tick direct
-          ∷ book 2 1 1
           ∷ tick direct
           ∷ [];
       expected =
-          claim 1 1 1 0 5 7 0
-          ∷ claim 1 1 8 0 4 3 0
-          ∷ claim 1 1 15 1 4 0 0
-          ∷ claim 1 2 1 1 2 7 1
-          ∷ claim 1 2 8 0 2 7 0
-          ∷ claim 1 2 15 0 3 0 0
-          ∷ claim 1 3 1 1 4 7 1
-          ∷ claim 1 3 8 1 3 7 1
-          ∷ claim 1 3 15 1 4 3 1
-          ∷ claim 2 1 1 3 1 7 3
-          ∷ claim 2 1 8 2 2 7 2
-          ∷ claim 2 1 15 2 3 1 1
-          ∷ claim 2 2 1 0 6 0 0
-          ∷ claim 2 2 8 0 4 0 0
-          ∷ claim 2 2 15 0 4 0 0
-          ∷ claim 2 3 1 1 6 4 1
-          ∷ claim 2 3 8 1 5 0 0
-          ∷ claim 2 3 15 1 5 0 0
-          ∷ claim 3 1 1 0 6 0 0
-          ∷ claim 3 1 8 1 5 2 1
-          ∷ claim 3 1 15 1 6 2 1
-          ∷ claim 3 2 1 1 3 1 1
-          ∷ claim 3 2 8 1 3 0 0
-          ∷ claim 3 2 15 1 3 0 0
-          ∷ claim 3 3 1 2 3 7 2
-          ∷ claim 3 3 8 2 4 6 2
-          ∷ claim 3 3 15 2 4 3 1
+          claim 1 1 1 0 1 2 0
+          ∷ claim 1 1 3 0 1 2 0
+          ∷ claim 1 1 5 0 1 0 0
+          ∷ claim 1 1 7 0 1 0 0
+          ∷ claim 1 1 9 0 0 0 0
+          ∷ claim 1 1 11 0 0 0 0
+          ∷ claim 1 1 13 0 0 1 0
+          ∷ claim 1 2 1 0 0 0 0
+          ∷ claim 1 2 3 0 0 0 0
+          ∷ claim 1 2 5 0 0 0 0
+          ∷ claim 1 2 7 0 0 0 0
+          ∷ claim 1 2 9 0 0 0 0
+          ∷ claim 1 2 11 0 0 0 0
+          ∷ claim 1 2 13 0 0 0 0
+          ∷ claim 2 1 1 1 0 1 1
+          ∷ claim 2 1 3 1 0 0 0
+          ∷ claim 2 1 5 1 0 0 0
+          ∷ claim 2 1 7 1 0 0 0
+          ∷ claim 2 1 9 0 0 0 0
+          ∷ claim 2 1 11 0 0 0 0
+          ∷ claim 2 1 13 0 0 0 0
+          ∷ claim 2 2 1 0 1 2 0
+          ∷ claim 2 2 3 0 1 1 0
+          ∷ claim 2 2 5 0 1 0 0
+          ∷ claim 2 2 7 0 1 1 0
+          ∷ claim 2 2 9 0 0 0 0
+          ∷ claim 2 2 11 0 0 2 0
+          ∷ claim 2 2 13 0 0 0 0
+          ∷ [];
+      headrooms =
+          told 1 1 0 (pos 2)
+          ∷ told 1 2 0 (pos 2)
+          ∷ told 2 1 0 (pos 2)
+          ∷ told 2 2 0 (pos 2)
+          ∷ told 3 1 5 (pos 0)
+          ∷ told 1 4294967297 5 (pos 0)
           ∷ [];
     }
 
 pub agrees-44 : first-wrong list-44 ≡ 0
-unfolding first-wrong entries apply Direct.start Direct.tick Pipelined.start Pipelined.tick book-words rate-words release-words release-rate-words arrive-words into-frame booking bookings row-sum column-sum sum least some-of word
+unfolding first-wrong entries apply Direct.start Direct.tick Pipelined.start Pipelined.tick book-words rate-words release-words release-rate-words headroom-refusal arrive-words into-frame booking bookings row-sum column-sum sum least some-of word
 agrees-44 = refl
+
+pub headroom-44 : first-wrong-headroom list-44 ≡ 0
+unfolding first-wrong-headroom final headroom-result pair-headroom headroom-over apply Direct.start Direct.tick Pipelined.start Pipelined.tick book-words rate-words release-words release-rate-words headroom-refusal arrive-words into-frame booking bookings row-sum column-sum sum least some-of word
+headroom-44 = refl
 
 abbrev list-45 : Case
 list-45 =
@@ -4761,27 +5349,32 @@ list-45 =
           ∷ tick pipelined
           ∷ tick pipelined
           ∷ book-rate 3 1 11111111
-          ∷ release-rate 2 3 11111112
+          ∷ tick pipelined
+          ∷ tick pipelined
+          ∷ arrive 3 3 64
           ∷ tick pipelined
           ∷ tick pipelined
           ∷ tick pipelined
-          ∷ release-rate 2 3 11111111
           ∷ tick pipelined
           ∷ tick pipelined
           ∷ tick pipelined
-          ∷ arrive 3 3 53
+          ∷ arrive 3 2 70
           ∷ tick pipelined
-          ∷ release 1 1 0
-          ∷ start pipelined 3 2 99999999
-          ∷ release-rate 2 3 22222221
+          ∷ arrive 1 3 53
+          ∷ arrive 3 1 79
           ∷ tick pipelined
-          ∷ tick pipelined
-          ∷ tick pipelined
+          ∷ release-rate 1 2 11111112
+          ∷ book-rate 1 2 11111112
+          ∷ book-rate 4 1 1
+          ∷ arrive 2 1 68
           ∷ arrive 2 3 50
-          ∷ release-rate 3 1 11111111
           ∷ tick pipelined
+          ∷ book-rate 1 3 33333333
+          ∷ book 2 2 2
+          ∷ release 1 2 1
+          ∷ book 1 1 1
           ∷ tick pipelined
-          ∷ release-rate 3 3 1
+          ∷ arrive 2 2 65536
           ∷ tick pipelined
           ∷ [];
       expected =
@@ -4800,33 +5393,33 @@ list-45 =
           ∷ claim 1 3 1 0 0 0 0
           ∷ claim 1 3 4 0 0 0 0
           ∷ claim 1 3 7 0 4 3 0
-          ∷ claim 1 3 10 0 3 3 0
-          ∷ claim 1 3 13 0 3 3 0
-          ∷ claim 1 3 16 0 2 1 0
+          ∷ claim 1 3 10 0 4 3 0
+          ∷ claim 1 3 13 0 4 3 0
+          ∷ claim 1 3 16 0 4 1 0
           ∷ claim 2 1 1 0 0 0 0
           ∷ claim 2 1 4 0 0 0 0
           ∷ claim 2 1 7 0 2 3 0
-          ∷ claim 2 1 10 0 2 3 0
-          ∷ claim 2 1 13 0 2 3 0
-          ∷ claim 2 1 16 0 1 1 0
+          ∷ claim 2 1 10 0 3 3 0
+          ∷ claim 2 1 13 0 3 3 0
+          ∷ claim 2 1 16 0 3 1 0
           ∷ claim 2 2 1 0 0 0 0
           ∷ claim 2 2 4 0 0 0 0
           ∷ claim 2 2 7 0 4 3 0
-          ∷ claim 2 2 10 0 3 3 0
-          ∷ claim 2 2 13 0 3 3 0
-          ∷ claim 2 2 16 0 2 1 0
+          ∷ claim 2 2 10 0 4 3 0
+          ∷ claim 2 2 13 0 4 3 0
+          ∷ claim 2 2 16 0 4 1 0
           ∷ claim 2 3 1 0 0 0 0
           ∷ claim 2 3 4 0 0 0 0
           ∷ claim 2 3 7 2 0 3 2
-          ∷ claim 2 3 10 1 0 3 1
-          ∷ claim 2 3 13 1 0 3 1
-          ∷ claim 2 3 16 0 0 1 0
+          ∷ claim 2 3 10 2 0 3 2
+          ∷ claim 2 3 13 2 0 3 2
+          ∷ claim 2 3 16 2 0 1 1
           ∷ claim 3 1 1 0 0 0 0
           ∷ claim 3 1 4 0 0 0 0
           ∷ claim 3 1 7 0 0 0 0
           ∷ claim 3 1 10 1 0 0 0
           ∷ claim 3 1 13 1 0 0 0
-          ∷ claim 3 1 16 1 0 0 0
+          ∷ claim 3 1 16 1 0 1 1
           ∷ claim 3 2 1 0 0 0 0
           ∷ claim 3 2 4 0 0 0 0
           ∷ claim 3 2 7 0 2 3 0
@@ -4836,15 +5429,32 @@ list-45 =
           ∷ claim 3 3 1 0 0 0 0
           ∷ claim 3 3 4 0 0 0 0
           ∷ claim 3 3 7 0 2 3 0
-          ∷ claim 3 3 10 0 2 3 0
-          ∷ claim 3 3 13 0 2 3 0
-          ∷ claim 3 3 16 0 1 1 0
+          ∷ claim 3 3 10 0 3 3 0
+          ∷ claim 3 3 13 0 3 3 0
+          ∷ claim 3 3 16 0 3 1 0
+          ∷ [];
+      headrooms =
+          told 1 1 0 (pos 0)
+          ∷ told 1 2 0 (pos 1)
+          ∷ told 1 3 0 (negsuc 0)
+          ∷ told 2 1 0 (negsuc 0)
+          ∷ told 2 2 0 (pos 0)
+          ∷ told 2 3 0 (pos 1)
+          ∷ told 3 1 0 (pos 1)
+          ∷ told 3 2 0 (pos 1)
+          ∷ told 3 3 0 (pos 0)
+          ∷ told 4 1 5 (pos 0)
+          ∷ told 1 0 5 (pos 0)
           ∷ [];
     }
 
 pub agrees-45 : first-wrong list-45 ≡ 0
-unfolding first-wrong entries apply Direct.start Direct.tick Pipelined.start Pipelined.tick book-words rate-words release-words release-rate-words arrive-words into-frame booking bookings row-sum column-sum sum least some-of word
+unfolding first-wrong entries apply Direct.start Direct.tick Pipelined.start Pipelined.tick book-words rate-words release-words release-rate-words headroom-refusal arrive-words into-frame booking bookings row-sum column-sum sum least some-of word
 agrees-45 = refl
+
+pub headroom-45 : first-wrong-headroom list-45 ≡ 0
+unfolding first-wrong-headroom final headroom-result pair-headroom headroom-over apply Direct.start Direct.tick Pipelined.start Pipelined.tick book-words rate-words release-words release-rate-words headroom-refusal arrive-words into-frame booking bookings row-sum column-sum sum least some-of word
+headroom-45 = refl
 
 abbrev list-46 : Case
 list-46 =
@@ -4872,59 +5482,75 @@ list-46 =
           ∷ arrive 2 1 10
           ∷ arrive 2 2 8
           ∷ arrive 2 1 8
-          ∷ release-rate 2 1 44444445
-          ∷ tick direct
-          ∷ release 2 2 2
-          ∷ arrive 1 2 8
-          ∷ tick direct
+          ∷ arrive 2 1 9
+          ∷ book-rate 1 2 22222223
+          ∷ release-rate 2 2 1
           ∷ tick direct
           ∷ tick direct
+          ∷ release-rate 1 1 100000000
           ∷ tick direct
-          ∷ release-rate 1 1 1
           ∷ arrive 2 1 8
           ∷ release 1 1 1
           ∷ tick direct
           ∷ arrive 1 1 8
-          ∷ release-rate 2 1 1
-          ∷ start direct 23 32 99999999
+          ∷ arrive 2 3 1
           ∷ tick direct
           ∷ tick direct
           ∷ tick direct
-          ∷ release-rate 2 1 1
+          ∷ release 2 1 1
+          ∷ release 2 2 1
+          ∷ book-rate 1 1 11111111
+          ∷ book 2 2 1
+          ∷ arrive 1 2 6
+          ∷ arrive 1 2 10
+          ∷ release-rate 2 2 100000000
           ∷ tick direct
           ∷ tick direct
           ∷ tick direct
-          ∷ arrive 1 1 7
+          ∷ tick direct
+          ∷ tick direct
           ∷ tick direct
           ∷ tick direct
           ∷ [];
       expected =
-          claim 1 1 1 0 0 3 0
-          ∷ claim 1 1 4 0 0 3 0
-          ∷ claim 1 1 7 0 0 3 0
-          ∷ claim 1 1 10 0 0 3 0
-          ∷ claim 1 1 13 0 0 2 0
-          ∷ claim 1 2 1 0 0 3 0
-          ∷ claim 1 2 4 0 0 3 0
-          ∷ claim 1 2 7 0 0 3 0
-          ∷ claim 1 2 10 0 0 3 0
-          ∷ claim 1 2 13 0 0 2 0
-          ∷ claim 2 1 1 0 0 3 0
-          ∷ claim 2 1 4 0 0 3 0
-          ∷ claim 2 1 7 0 0 3 0
-          ∷ claim 2 1 10 0 0 3 0
-          ∷ claim 2 1 13 0 0 2 0
-          ∷ claim 2 2 1 0 0 3 0
-          ∷ claim 2 2 4 0 0 3 0
-          ∷ claim 2 2 7 0 0 3 0
-          ∷ claim 2 2 10 0 0 3 0
-          ∷ claim 2 2 13 0 0 2 0
+          claim 1 1 1 0 3 3 0
+          ∷ claim 1 1 4 0 3 3 0
+          ∷ claim 1 1 7 0 3 3 0
+          ∷ claim 1 1 10 0 3 3 0
+          ∷ claim 1 1 13 0 3 2 0
+          ∷ claim 1 2 1 1 0 3 1
+          ∷ claim 1 2 4 1 0 3 1
+          ∷ claim 1 2 7 1 0 3 1
+          ∷ claim 1 2 10 1 0 3 1
+          ∷ claim 1 2 13 1 0 2 1
+          ∷ claim 2 1 1 2 0 3 2
+          ∷ claim 2 1 4 2 0 3 2
+          ∷ claim 2 1 7 2 0 3 2
+          ∷ claim 2 1 10 2 0 3 2
+          ∷ claim 2 1 13 2 0 2 2
+          ∷ claim 2 2 1 0 3 3 0
+          ∷ claim 2 2 4 0 3 3 0
+          ∷ claim 2 2 7 0 3 3 0
+          ∷ claim 2 2 10 0 3 3 0
+          ∷ claim 2 2 13 0 3 2 0
+          ∷ [];
+      headrooms =
+          told 1 1 0 (pos 0)
+          ∷ told 1 2 0 (pos 2)
+          ∷ told 2 1 0 (pos 1)
+          ∷ told 2 2 0 (pos 0)
+          ∷ told 3 1 5 (pos 0)
+          ∷ told 1 0 5 (pos 0)
           ∷ [];
     }
 
 pub agrees-46 : first-wrong list-46 ≡ 0
-unfolding first-wrong entries apply Direct.start Direct.tick Pipelined.start Pipelined.tick book-words rate-words release-words release-rate-words arrive-words into-frame booking bookings row-sum column-sum sum least some-of word
+unfolding first-wrong entries apply Direct.start Direct.tick Pipelined.start Pipelined.tick book-words rate-words release-words release-rate-words headroom-refusal arrive-words into-frame booking bookings row-sum column-sum sum least some-of word
 agrees-46 = refl
+
+pub headroom-46 : first-wrong-headroom list-46 ≡ 0
+unfolding first-wrong-headroom final headroom-result pair-headroom headroom-over apply Direct.start Direct.tick Pipelined.start Pipelined.tick book-words rate-words release-words release-rate-words headroom-refusal arrive-words into-frame booking bookings row-sum column-sum sum least some-of word
+headroom-46 = refl
 
 abbrev list-47 : Case
 list-47 =
@@ -4966,49 +5592,45 @@ list-47 =
           ∷ arrive 1 2 85
           ∷ arrive 3 2 87
           ∷ release-rate 1 2 251
-          ∷ book-rate 2 1 84
           ∷ tick pipelined
           ∷ tick pipelined
-          ∷ release 2 2 2
+          ∷ headroom 3 3
+          ∷ release-rate 3 3 83
           ∷ tick pipelined
-          ∷ arrive 2 2 66
-          ∷ tick pipelined
-          ∷ book-rate 4 1 1
-          ∷ tick pipelined
-          ∷ release-rate 3 3 84
-          ∷ arrive 2 1 71
-          ∷ release-rate 2 1 166
+          ∷ arrive 2 2 89
           ∷ tick pipelined
           ∷ tick pipelined
           ∷ tick pipelined
-          ∷ arrive 2 1 83
-          ∷ tick pipelined
-          ∷ release 1 2 1
           ∷ tick pipelined
           ∷ tick pipelined
+          ∷ arrive 1 1 83
           ∷ tick pipelined
-          ∷ arrive 3 1 68
-          ∷ arrive 4 2 1
+          ∷ release-rate 1 2 165
+          ∷ start pipelined 3 0 1000
           ∷ tick pipelined
+          ∷ release-rate 2 1 335
+          ∷ arrive 2 2 77
           ∷ tick pipelined
-          ∷ book 4 2 1
+          ∷ book 3 2 2
+          ∷ release-rate 3 1 1
           ∷ tick pipelined
+          ∷ release-rate 1 3 1
+          ∷ tick pipelined
+          ∷ book-rate 2 3 166
           ∷ book 3 3 1
-          ∷ release-rate 0 1 1
-          ∷ tick pipelined
-          ∷ release-rate 1 2 83
-          ∷ tick pipelined
-          ∷ release 3 3 1
-          ∷ book-rate 2 2 251
-          ∷ arrive 1 2 73
           ∷ tick pipelined
           ∷ tick pipelined
           ∷ tick pipelined
-          ∷ release 1 3 1
-          ∷ book 1 3 1
-          ∷ arrive 2 2 61
-          ∷ book-rate 1 1 166
           ∷ tick pipelined
+          ∷ arrive 2 1 79
+          ∷ tick pipelined
+          ∷ start pipelined 3 4 100000001
+          ∷ tick pipelined
+          ∷ tick pipelined
+          ∷ release 4 2 1
+          ∷ book 1 2 1
+          ∷ tick pipelined
+          ∷ release-rate 1 3 1
           ∷ tick pipelined
           ∷ tick pipelined
           ∷ [];
@@ -5016,63 +5638,80 @@ list-47 =
           claim 1 1 1 0 0 0 0
           ∷ claim 1 1 5 0 0 0 0
           ∷ claim 1 1 9 0 3 0 0
-          ∷ claim 1 1 13 0 3 0 0
-          ∷ claim 1 1 17 0 3 0 0
-          ∷ claim 1 1 21 0 3 0 0
+          ∷ claim 1 1 13 0 3 2 0
+          ∷ claim 1 1 17 0 0 4 0
+          ∷ claim 1 1 21 0 0 4 0
           ∷ claim 1 2 1 0 0 0 0
           ∷ claim 1 2 5 0 0 2 0
           ∷ claim 1 2 9 1 0 4 1
           ∷ claim 1 2 13 1 0 4 1
-          ∷ claim 1 2 17 1 0 4 1
-          ∷ claim 1 2 21 1 0 4 1
+          ∷ claim 1 2 17 0 0 4 0
+          ∷ claim 1 2 21 0 2 4 0
           ∷ claim 1 3 1 0 0 0 0
           ∷ claim 1 3 5 0 0 0 0
-          ∷ claim 1 3 9 0 2 0 0
-          ∷ claim 1 3 13 0 2 0 0
-          ∷ claim 1 3 17 0 2 0 0
-          ∷ claim 1 3 21 0 2 0 0
+          ∷ claim 1 3 9 0 1 0 0
+          ∷ claim 1 3 13 0 1 0 0
+          ∷ claim 1 3 17 0 0 0 0
+          ∷ claim 1 3 21 0 1 0 0
           ∷ claim 2 1 1 0 0 0 0
           ∷ claim 2 1 5 0 0 2 0
           ∷ claim 2 1 9 2 0 4 2
           ∷ claim 2 1 13 2 0 4 2
-          ∷ claim 2 1 17 2 0 4 2
-          ∷ claim 2 1 21 2 0 4 2
+          ∷ claim 2 1 17 0 0 4 0
+          ∷ claim 2 1 21 0 1 4 0
           ∷ claim 2 2 1 0 0 0 0
           ∷ claim 2 2 5 0 0 2 0
           ∷ claim 2 2 9 0 3 4 0
           ∷ claim 2 2 13 0 3 4 0
-          ∷ claim 2 2 17 0 3 4 0
+          ∷ claim 2 2 17 0 0 4 0
           ∷ claim 2 2 21 0 3 4 0
           ∷ claim 2 3 1 0 0 0 0
           ∷ claim 2 3 5 0 0 2 0
-          ∷ claim 2 3 9 0 3 4 0
-          ∷ claim 2 3 13 0 3 4 0
-          ∷ claim 2 3 17 0 3 4 0
-          ∷ claim 2 3 21 0 3 4 0
+          ∷ claim 2 3 9 0 2 4 0
+          ∷ claim 2 3 13 0 2 4 0
+          ∷ claim 2 3 17 0 0 4 0
+          ∷ claim 2 3 21 1 0 4 1
           ∷ claim 3 1 1 0 0 0 0
           ∷ claim 3 1 5 0 0 0 0
-          ∷ claim 3 1 9 0 3 0 0
-          ∷ claim 3 1 13 0 3 0 0
-          ∷ claim 3 1 17 0 3 4 0
-          ∷ claim 3 1 21 0 3 4 0
+          ∷ claim 3 1 9 0 2 0 0
+          ∷ claim 3 1 13 0 2 0 0
+          ∷ claim 3 1 17 0 0 0 0
+          ∷ claim 3 1 21 0 2 0 0
           ∷ claim 3 2 1 0 0 0 0
           ∷ claim 3 2 5 0 0 2 0
-          ∷ claim 3 2 9 0 2 4 0
-          ∷ claim 3 2 13 0 2 4 0
-          ∷ claim 3 2 17 0 2 4 0
-          ∷ claim 3 2 21 0 2 4 0
+          ∷ claim 3 2 9 0 1 4 0
+          ∷ claim 3 2 13 0 1 4 0
+          ∷ claim 3 2 17 0 0 4 0
+          ∷ claim 3 2 21 2 0 4 2
           ∷ claim 3 3 1 0 0 0 0
           ∷ claim 3 3 5 0 0 0 0
-          ∷ claim 3 3 9 1 0 0 0
-          ∷ claim 3 3 13 1 0 0 0
-          ∷ claim 3 3 17 1 0 0 0
-          ∷ claim 3 3 21 1 0 0 0
+          ∷ claim 3 3 9 0 0 0 0
+          ∷ claim 3 3 13 0 0 0 0
+          ∷ claim 3 3 17 0 0 0 0
+          ∷ claim 3 3 21 0 3 0 0
+          ∷ [];
+      headrooms =
+          told 1 1 0 (pos 4)
+          ∷ told 1 2 0 (pos 2)
+          ∷ told 1 3 0 (pos 3)
+          ∷ told 2 1 0 (pos 3)
+          ∷ told 2 2 0 (pos 1)
+          ∷ told 2 3 0 (pos 3)
+          ∷ told 3 1 0 (pos 2)
+          ∷ told 3 2 0 (pos 2)
+          ∷ told 3 3 0 (pos 1)
+          ∷ told 4 1 5 (pos 0)
+          ∷ told 1 0 5 (pos 0)
           ∷ [];
     }
 
 pub agrees-47 : first-wrong list-47 ≡ 0
-unfolding first-wrong entries apply Direct.start Direct.tick Pipelined.start Pipelined.tick book-words rate-words release-words release-rate-words arrive-words into-frame booking bookings row-sum column-sum sum least some-of word
+unfolding first-wrong entries apply Direct.start Direct.tick Pipelined.start Pipelined.tick book-words rate-words release-words release-rate-words headroom-refusal arrive-words into-frame booking bookings row-sum column-sum sum least some-of word
 agrees-47 = refl
+
+pub headroom-47 : first-wrong-headroom list-47 ≡ 0
+unfolding first-wrong-headroom final headroom-result pair-headroom headroom-over apply Direct.start Direct.tick Pipelined.start Pipelined.tick book-words rate-words release-words release-rate-words headroom-refusal arrive-words into-frame booking bookings row-sum column-sum sum least some-of word
+headroom-47 = refl
 
 abbrev list-48 : Case
 list-48 =
@@ -5092,121 +5731,94 @@ list-48 =
           ∷ arrive 1 1 1
           ∷ arrive 1 1 2
           ∷ tick direct
+          ∷ arrive 1 1 2
+          ∷ headroom 4294967297 1
+          ∷ headroom 1 1
+          ∷ tick direct
+          ∷ release-rate 1 1 1
+          ∷ book-rate 1 1 4761904
+          ∷ arrive 0 1 1
+          ∷ arrive 1 1 2
+          ∷ tick direct
+          ∷ release-rate 1 1 4761905
+          ∷ tick direct
+          ∷ start direct 1 6 1000
+          ∷ book-rate 1 1 56
+          ∷ book-rate 1 1 111
+          ∷ book-rate 1 1 56
+          ∷ arrive 1 1 2
+          ∷ arrive 1 1 2
+          ∷ book-rate 1 1 167
           ∷ tick direct
           ∷ arrive 1 1 2
           ∷ tick direct
-          ∷ release-rate 1 1 1
           ∷ tick direct
-          ∷ start direct 3 3 99999999
-          ∷ book 2 3 1
-          ∷ book-rate 3 2 11111111
-          ∷ book-rate 3 2 11111111
-          ∷ book 3 2 2
-          ∷ book-rate 1 2 11111111
-          ∷ book-rate 1 2 11111111
-          ∷ arrive 1 1 4
-          ∷ arrive 3 2 3
-          ∷ arrive 2 3 2
-          ∷ arrive 2 1 3
-          ∷ arrive 3 2 5
-          ∷ arrive 2 1 5
-          ∷ arrive 3 3 3
-          ∷ arrive 2 2 4
-          ∷ arrive 3 3 2
-          ∷ arrive 2 2 4
-          ∷ arrive 1 2 3
-          ∷ arrive 3 2 2
-          ∷ arrive 2 1 4
-          ∷ arrive 2 2 4
+          ∷ book 1 2 1
+          ∷ book-rate 1 0 1
+          ∷ release-rate 1 1 391
+          ∷ release-rate 1 1 55
+          ∷ arrive 1 1 2
           ∷ tick direct
-          ∷ book-rate 4294967297 1 1
+          ∷ release-rate 1 1 336
           ∷ tick direct
-          ∷ arrive 1 1 4
+          ∷ release-rate 1 1 56
           ∷ tick direct
           ∷ tick direct
+          ∷ arrive 1 1 2
+          ∷ release-rate 1 1 280
+          ∷ tick direct
+          ∷ arrive 1 1 2
           ∷ tick direct
           ∷ tick direct
+          ∷ book 1 1 1
+          ∷ arrive 1 1 2
+          ∷ book 1 1 1
+          ∷ release 1 1 1
+          ∷ arrive 1 1 1
+          ∷ headroom 1 1
+          ∷ arrive 1 1 2
+          ∷ arrive 1 1 1
           ∷ tick direct
-          ∷ arrive 2 3 2
+          ∷ arrive 1 1 1
+          ∷ arrive 1 1 1
           ∷ tick direct
+          ∷ book 1 1 1
+          ∷ release-rate 1 1 56
+          ∷ headroom 1 1
           ∷ tick direct
-          ∷ book-rate 2 3 100000000
-          ∷ tick direct
-          ∷ book-rate 1 1 11111111
-          ∷ book 3 3 1
-          ∷ tick direct
-          ∷ book-rate 0 2 1
-          ∷ arrive 1 2 5
-          ∷ tick direct
-          ∷ arrive 1 2 2
+          ∷ release 1 1 1
           ∷ tick direct
           ∷ tick direct
           ∷ tick direct
+          ∷ arrive 1 0 1
+          ∷ release-rate 1 1 55
           ∷ tick direct
+          ∷ arrive 1 1 1
+          ∷ tick direct
+          ∷ book-rate 1 1 56
           ∷ tick direct
           ∷ tick direct
           ∷ [];
       expected =
-          claim 1 1 1 0 1 3 0
-          ∷ claim 1 1 4 0 1 3 0
-          ∷ claim 1 1 7 0 1 3 0
-          ∷ claim 1 1 10 0 1 2 0
-          ∷ claim 1 1 13 1 1 0 0
-          ∷ claim 1 1 16 1 1 0 0
-          ∷ claim 1 2 1 1 1 3 1
-          ∷ claim 1 2 4 1 1 3 1
-          ∷ claim 1 2 7 1 1 1 1
-          ∷ claim 1 2 10 1 1 1 1
-          ∷ claim 1 2 13 1 2 3 1
-          ∷ claim 1 2 16 1 2 3 1
-          ∷ claim 1 3 1 0 2 0 0
-          ∷ claim 1 3 4 0 2 0 0
-          ∷ claim 1 3 7 0 2 0 0
-          ∷ claim 1 3 10 0 2 0 0
-          ∷ claim 1 3 13 0 4 0 0
-          ∷ claim 1 3 16 0 4 0 0
-          ∷ claim 2 1 1 0 1 3 0
-          ∷ claim 2 1 4 0 1 3 0
-          ∷ claim 2 1 7 0 1 3 0
-          ∷ claim 2 1 10 0 1 3 0
-          ∷ claim 2 1 13 0 2 3 0
-          ∷ claim 2 1 16 0 2 3 0
-          ∷ claim 2 2 1 0 3 3 0
-          ∷ claim 2 2 4 0 3 3 0
-          ∷ claim 2 2 7 0 3 3 0
-          ∷ claim 2 2 10 0 3 3 0
-          ∷ claim 2 2 13 0 3 3 0
-          ∷ claim 2 2 16 0 3 3 0
-          ∷ claim 2 3 1 1 0 2 1
-          ∷ claim 2 3 4 1 0 0 0
-          ∷ claim 2 3 7 1 0 2 1
-          ∷ claim 2 3 10 1 0 1 1
-          ∷ claim 2 3 13 1 1 0 0
-          ∷ claim 2 3 16 1 1 0 0
-          ∷ claim 3 1 1 0 1 0 0
-          ∷ claim 3 1 4 0 1 0 0
-          ∷ claim 3 1 7 0 1 0 0
-          ∷ claim 3 1 10 0 1 0 0
-          ∷ claim 3 1 13 0 3 0 0
-          ∷ claim 3 1 16 0 3 0 0
-          ∷ claim 3 2 1 1 1 3 1
-          ∷ claim 3 2 4 1 1 3 1
-          ∷ claim 3 2 7 1 1 3 1
-          ∷ claim 3 2 10 1 1 3 1
-          ∷ claim 3 2 13 1 2 3 1
-          ∷ claim 3 2 16 1 2 3 1
-          ∷ claim 3 3 1 0 2 3 0
-          ∷ claim 3 3 4 0 2 3 0
-          ∷ claim 3 3 7 0 2 3 0
-          ∷ claim 3 3 10 0 2 0 0
-          ∷ claim 3 3 13 1 2 0 0
-          ∷ claim 3 3 16 1 2 0 0
+          claim 1 1 1 3 0 6 3
+          ∷ claim 1 1 7 2 0 6 2
+          ∷ claim 1 1 13 3 0 6 3
+          ∷ claim 1 1 19 2 0 2 2
+          ∷ [];
+      headrooms =
+          told 1 1 0 (pos 4)
+          ∷ told 2 1 5 (pos 0)
+          ∷ told 1 0 5 (pos 0)
           ∷ [];
     }
 
 pub agrees-48 : first-wrong list-48 ≡ 0
-unfolding first-wrong entries apply Direct.start Direct.tick Pipelined.start Pipelined.tick book-words rate-words release-words release-rate-words arrive-words into-frame booking bookings row-sum column-sum sum least some-of word
+unfolding first-wrong entries apply Direct.start Direct.tick Pipelined.start Pipelined.tick book-words rate-words release-words release-rate-words headroom-refusal arrive-words into-frame booking bookings row-sum column-sum sum least some-of word
 agrees-48 = refl
+
+pub headroom-48 : first-wrong-headroom list-48 ≡ 0
+unfolding first-wrong-headroom final headroom-result pair-headroom headroom-over apply Direct.start Direct.tick Pipelined.start Pipelined.tick book-words rate-words release-words release-rate-words headroom-refusal arrive-words into-frame booking bookings row-sum column-sum sum least some-of word
+headroom-48 = refl
 
 abbrev list-49 : Case
 list-49 =
@@ -5234,31 +5846,32 @@ list-49 =
           ∷ arrive 1 1 5
           ∷ arrive 2 2 3
           ∷ arrive 2 2 5
-          ∷ arrive 1 1 4
-          ∷ tick pipelined
-          ∷ arrive 1 2 2
+          ∷ book-rate 1 1 16666666
           ∷ tick pipelined
           ∷ tick pipelined
-          ∷ arrive 2 2 4
-          ∷ arrive 1 3 1
+          ∷ arrive 1 2 4
+          ∷ headroom 2 2
           ∷ tick pipelined
+          ∷ tick pipelined
+          ∷ arrive 1 2 4
+          ∷ headroom 2 1
+          ∷ tick pipelined
+          ∷ book 2 0 1
           ∷ arrive 2 1 3
-          ∷ arrive 1 1 5
-          ∷ arrive 2 1 3
+          ∷ tick pipelined
+          ∷ arrive 1 1 3
           ∷ tick pipelined
           ∷ tick pipelined
-          ∷ tick pipelined
-          ∷ release-rate 1 1 50000000
-          ∷ tick pipelined
+          ∷ book 3 2 1
           ∷ tick pipelined
           ∷ tick pipelined
           ∷ [];
       expected =
           claim 1 1 1 0 0 0 0
           ∷ claim 1 1 5 2 0 4 2
-          ∷ claim 1 1 9 2 0 3 2
+          ∷ claim 1 1 9 2 0 2 2
           ∷ claim 1 2 1 0 0 0 0
-          ∷ claim 1 2 5 0 2 3 0
+          ∷ claim 1 2 5 0 2 2 0
           ∷ claim 1 2 9 0 2 3 0
           ∷ claim 2 1 1 0 0 0 0
           ∷ claim 2 1 5 0 2 4 0
@@ -5267,11 +5880,23 @@ list-49 =
           ∷ claim 2 2 5 0 0 4 0
           ∷ claim 2 2 9 0 0 3 0
           ∷ [];
+      headrooms =
+          told 1 1 0 (pos 2)
+          ∷ told 1 2 0 (pos 2)
+          ∷ told 2 1 0 (pos 2)
+          ∷ told 2 2 0 (pos 4)
+          ∷ told 3 1 5 (pos 0)
+          ∷ told 1 4294967297 5 (pos 0)
+          ∷ [];
     }
 
 pub agrees-49 : first-wrong list-49 ≡ 0
-unfolding first-wrong entries apply Direct.start Direct.tick Pipelined.start Pipelined.tick book-words rate-words release-words release-rate-words arrive-words into-frame booking bookings row-sum column-sum sum least some-of word
+unfolding first-wrong entries apply Direct.start Direct.tick Pipelined.start Pipelined.tick book-words rate-words release-words release-rate-words headroom-refusal arrive-words into-frame booking bookings row-sum column-sum sum least some-of word
 agrees-49 = refl
+
+pub headroom-49 : first-wrong-headroom list-49 ≡ 0
+unfolding first-wrong-headroom final headroom-result pair-headroom headroom-over apply Direct.start Direct.tick Pipelined.start Pipelined.tick book-words rate-words release-words release-rate-words headroom-refusal arrive-words into-frame booking bookings row-sum column-sum sum least some-of word
+headroom-49 = refl
 
 abbrev list-50 : Case
 list-50 =
@@ -5303,116 +5928,112 @@ list-50 =
           ∷ arrive 1 1 3
           ∷ arrive 3 3 4
           ∷ arrive 1 2 2
+          ∷ book-rate 1 2 333
+          ∷ release 1 2 0
+          ∷ tick direct
+          ∷ release-rate 3 1 500
           ∷ tick direct
           ∷ tick direct
-          ∷ arrive 2 1 5
-          ∷ tick direct
-          ∷ start direct 3 5 1000
-          ∷ book-rate 3 3 67
-          ∷ book-rate 3 3 67
-          ∷ book-rate 2 2 66
-          ∷ book-rate 2 2 66
-          ∷ book-rate 2 2 67
-          ∷ book 3 2 1
-          ∷ book-rate 3 3 200
-          ∷ book 1 3 1
-          ∷ book-rate 1 3 67
-          ∷ book-rate 1 3 134
-          ∷ book-rate 1 3 66
-          ∷ book-rate 1 3 134
-          ∷ book-rate 1 3 200
-          ∷ book-rate 2 3 66
-          ∷ arrive 1 3 2
-          ∷ arrive 2 2 5
-          ∷ arrive 3 2 3
-          ∷ arrive 1 1 5
-          ∷ arrive 1 2 2
-          ∷ arrive 3 1 4
-          ∷ arrive 1 3 3
-          ∷ arrive 2 1 3
-          ∷ arrive 3 2 3
-          ∷ arrive 1 2 3
-          ∷ arrive 1 2 3
-          ∷ arrive 1 1 3
-          ∷ arrive 2 3 3
-          ∷ arrive 3 3 3
-          ∷ arrive 2 1 2
-          ∷ arrive 1 3 2
-          ∷ arrive 1 3 3
-          ∷ release-rate 2 2 66
-          ∷ tick direct
-          ∷ tick direct
-          ∷ arrive 1 2 3
-          ∷ arrive 3 3 2
-          ∷ book-rate 4 3 1
+          ∷ start direct 3 6 99999999
+          ∷ book-rate 2 1 16666667
+          ∷ book-rate 2 1 5555555
+          ∷ book-rate 2 1 5555555
+          ∷ book-rate 2 1 16666667
+          ∷ book 1 2 1
+          ∷ book-rate 1 2 5555555
+          ∷ book-rate 1 2 5555556
+          ∷ book-rate 3 2 5555556
+          ∷ book-rate 2 2 5555556
+          ∷ book-rate 2 2 11111111
+          ∷ book-rate 2 2 5555556
+          ∷ arrive 2 2 47
+          ∷ arrive 3 2 76
+          ∷ arrive 2 1 66
+          ∷ arrive 2 3 85
+          ∷ arrive 1 1 77
           ∷ tick direct
           ∷ tick direct
           ∷ tick direct
-          ∷ tick direct
-          ∷ book-rate 4 2 1
-          ∷ tick direct
-          ∷ tick direct
+          ∷ book-rate 1 1 5555555
+          ∷ release-rate 1 2 11111111
           ∷ tick direct
           ∷ tick direct
+          ∷ release-rate 3 2 5555556
+          ∷ tick direct
+          ∷ arrive 3 3 49
+          ∷ book-rate 1 2 5555555
           ∷ tick direct
           ∷ tick direct
-          ∷ arrive 2 1 4
+          ∷ arrive 1 3 54
+          ∷ book-rate 2 2 5555555
+          ∷ tick direct
+          ∷ release 1 2 1
+          ∷ tick direct
+          ∷ release-rate 3 3 1
+          ∷ tick direct
+          ∷ arrive 2 1 66
           ∷ tick direct
           ∷ tick direct
-          ∷ release-rate 1 1 1
+          ∷ book-rate 1 3 0
           ∷ tick direct
+          ∷ release-rate 2 1 44444445
+          ∷ book 1 2 1
+          ∷ release 1 2 1
+          ∷ release-rate 2 1 44444444
           ∷ tick direct
-          ∷ tick direct
-          ∷ tick direct
-          ∷ release 3 2 3
-          ∷ tick direct
-          ∷ book-rate 1 2 133
-          ∷ book 1 3 1
           ∷ tick direct
           ∷ [];
       expected =
-          claim 1 1 1 0 1 5 0
-          ∷ claim 1 1 6 0 1 5 0
-          ∷ claim 1 1 11 0 1 0 0
-          ∷ claim 1 1 16 0 1 0 0
-          ∷ claim 1 2 1 0 3 5 0
-          ∷ claim 1 2 6 0 3 5 0
-          ∷ claim 1 2 11 0 3 5 0
-          ∷ claim 1 2 16 0 3 5 0
-          ∷ claim 1 3 1 1 2 5 1
-          ∷ claim 1 3 6 1 2 5 1
-          ∷ claim 1 3 11 1 2 5 1
-          ∷ claim 1 3 16 1 2 5 1
-          ∷ claim 2 1 1 0 1 5 0
-          ∷ claim 2 1 6 0 1 5 0
-          ∷ claim 2 1 11 0 1 5 0
-          ∷ claim 2 1 16 0 1 4 0
-          ∷ claim 2 2 1 1 1 5 1
-          ∷ claim 2 2 6 1 1 1 1
-          ∷ claim 2 2 11 1 1 0 0
-          ∷ claim 2 2 16 1 1 0 0
-          ∷ claim 2 3 1 0 4 5 0
-          ∷ claim 2 3 6 0 4 5 0
-          ∷ claim 2 3 11 0 4 0 0
-          ∷ claim 2 3 16 0 4 0 0
-          ∷ claim 3 1 1 0 3 5 0
-          ∷ claim 3 1 6 0 3 5 0
-          ∷ claim 3 1 11 0 3 5 0
-          ∷ claim 3 1 16 0 3 5 0
-          ∷ claim 3 2 1 1 3 5 1
-          ∷ claim 3 2 6 1 3 5 1
-          ∷ claim 3 2 11 1 3 5 1
-          ∷ claim 3 2 16 1 3 5 1
-          ∷ claim 3 3 1 2 2 5 2
-          ∷ claim 3 3 6 2 2 4 2
-          ∷ claim 3 3 11 2 2 0 0
-          ∷ claim 3 3 16 2 2 0 0
+          claim 1 1 1 0 5 6 0
+          ∷ claim 1 1 7 0 5 6 0
+          ∷ claim 1 1 13 0 4 4 0
+          ∷ claim 1 2 1 2 1 0 0
+          ∷ claim 1 2 7 2 0 0 0
+          ∷ claim 1 2 13 1 0 0 0
+          ∷ claim 1 3 1 0 2 0 0
+          ∷ claim 1 3 7 0 2 4 0
+          ∷ claim 1 3 13 0 1 4 0
+          ∷ claim 2 1 1 3 0 6 3
+          ∷ claim 2 1 7 3 0 6 3
+          ∷ claim 2 1 13 3 0 4 3
+          ∷ claim 2 2 1 0 6 6 0
+          ∷ claim 2 2 7 0 5 6 0
+          ∷ claim 2 2 13 0 4 4 0
+          ∷ claim 2 3 1 0 3 6 0
+          ∷ claim 2 3 7 0 3 6 0
+          ∷ claim 2 3 13 0 3 4 0
+          ∷ claim 3 1 1 0 4 0 0
+          ∷ claim 3 1 7 0 3 0 0
+          ∷ claim 3 1 13 0 3 0 0
+          ∷ claim 3 2 1 1 2 6 1
+          ∷ claim 3 2 7 0 2 6 0
+          ∷ claim 3 2 13 0 1 4 0
+          ∷ claim 3 3 1 0 1 0 0
+          ∷ claim 3 3 7 0 0 6 0
+          ∷ claim 3 3 13 0 0 4 0
+          ∷ [];
+      headrooms =
+          told 1 1 0 (pos 5)
+          ∷ told 1 2 0 (pos 5)
+          ∷ told 1 3 0 (pos 5)
+          ∷ told 2 1 0 (pos 6)
+          ∷ told 2 2 0 (pos 5)
+          ∷ told 2 3 0 (pos 6)
+          ∷ told 3 1 0 (pos 6)
+          ∷ told 3 2 0 (pos 5)
+          ∷ told 3 3 0 (pos 6)
+          ∷ told 4 1 5 (pos 0)
+          ∷ told 1 0 5 (pos 0)
           ∷ [];
     }
 
 pub agrees-50 : first-wrong list-50 ≡ 0
-unfolding first-wrong entries apply Direct.start Direct.tick Pipelined.start Pipelined.tick book-words rate-words release-words release-rate-words arrive-words into-frame booking bookings row-sum column-sum sum least some-of word
+unfolding first-wrong entries apply Direct.start Direct.tick Pipelined.start Pipelined.tick book-words rate-words release-words release-rate-words headroom-refusal arrive-words into-frame booking bookings row-sum column-sum sum least some-of word
 agrees-50 = refl
+
+pub headroom-50 : first-wrong-headroom list-50 ≡ 0
+unfolding first-wrong-headroom final headroom-result pair-headroom headroom-over apply Direct.start Direct.tick Pipelined.start Pipelined.tick book-words rate-words release-words release-rate-words headroom-refusal arrive-words into-frame booking bookings row-sum column-sum sum least some-of word
+headroom-50 = refl
 
 abbrev list-51 : Case
 list-51 =
@@ -5434,23 +6055,21 @@ list-51 =
           ∷ arrive 1 1 2
           ∷ arrive 1 2 5
           ∷ tick pipelined
-          ∷ arrive 2 2 65536
           ∷ tick pipelined
           ∷ tick pipelined
-          ∷ arrive 2 2 5
+          ∷ tick pipelined
+          ∷ arrive 1 2 2
+          ∷ tick pipelined
           ∷ tick pipelined
           ∷ start pipelined 2 1 100000000
+          ∷ tick pipelined
+          ∷ arrive 2 2 4
           ∷ book-rate 1 2 9523809
-          ∷ release 2 2 1
-          ∷ tick pipelined
-          ∷ tick pipelined
-          ∷ arrive 2 1 2
-          ∷ tick pipelined
-          ∷ start pipelined 2 7 100000001
+          ∷ arrive 2 2 2
+          ∷ book 2 1 1
           ∷ tick pipelined
           ∷ tick pipelined
           ∷ tick pipelined
-          ∷ release 1 1 1
           ∷ tick pipelined
           ∷ tick pipelined
           ∷ [];
@@ -5458,17 +6077,29 @@ list-51 =
           claim 1 1 1 0 0 2 0
           ∷ claim 1 1 8 0 1 0 0
           ∷ claim 1 2 1 0 0 3 0
-          ∷ claim 1 2 8 0 1 5 0
+          ∷ claim 1 2 8 0 1 6 0
           ∷ claim 2 1 1 0 0 0 0
-          ∷ claim 2 1 8 1 1 2 1
-          ∷ claim 2 2 1 0 0 1 0
-          ∷ claim 2 2 8 1 1 6 1
+          ∷ claim 2 1 8 1 1 0 0
+          ∷ claim 2 2 1 0 0 0 0
+          ∷ claim 2 2 8 1 1 3 1
+          ∷ [];
+      headrooms =
+          told 1 1 0 (pos 4)
+          ∷ told 1 2 0 (pos 5)
+          ∷ told 2 1 0 (pos 4)
+          ∷ told 2 2 0 (pos 3)
+          ∷ told 3 1 5 (pos 0)
+          ∷ told 1 0 5 (pos 0)
           ∷ [];
     }
 
 pub agrees-51 : first-wrong list-51 ≡ 0
-unfolding first-wrong entries apply Direct.start Direct.tick Pipelined.start Pipelined.tick book-words rate-words release-words release-rate-words arrive-words into-frame booking bookings row-sum column-sum sum least some-of word
+unfolding first-wrong entries apply Direct.start Direct.tick Pipelined.start Pipelined.tick book-words rate-words release-words release-rate-words headroom-refusal arrive-words into-frame booking bookings row-sum column-sum sum least some-of word
 agrees-51 = refl
+
+pub headroom-51 : first-wrong-headroom list-51 ≡ 0
+unfolding first-wrong-headroom final headroom-result pair-headroom headroom-over apply Direct.start Direct.tick Pipelined.start Pipelined.tick book-words rate-words release-words release-rate-words headroom-refusal arrive-words into-frame booking bookings row-sum column-sum sum least some-of word
+headroom-51 = refl
 
 abbrev list-52 : Case
 list-52 =
@@ -5488,52 +6119,66 @@ list-52 =
           ∷ arrive 1 1 1
           ∷ arrive 1 1 2
           ∷ tick direct
+          ∷ tick direct
+          ∷ tick direct
           ∷ arrive 1 1 2
+          ∷ release-rate 1 1 1
+          ∷ arrive 1 1 2
+          ∷ tick direct
+          ∷ book 1 1 1
+          ∷ arrive 1 1 1
+          ∷ headroom 1 1
+          ∷ tick direct
+          ∷ release-rate 1 1 1
+          ∷ headroom 1 1
+          ∷ tick direct
+          ∷ tick direct
+          ∷ release-rate 1 1 1
+          ∷ arrive 1 1 2
+          ∷ headroom 1 1
+          ∷ tick direct
+          ∷ tick direct
+          ∷ release-rate 1 1 1
+          ∷ release-rate 1 1 1
+          ∷ tick direct
+          ∷ tick direct
+          ∷ start direct 1 3 100000001
+          ∷ release-rate 1 1 1
           ∷ tick direct
           ∷ arrive 1 1 1
-          ∷ arrive 1 1 2
           ∷ tick direct
-          ∷ tick direct
-          ∷ tick direct
-          ∷ tick direct
-          ∷ arrive 4294967297 1 1
-          ∷ tick direct
+          ∷ release 1 1 1
           ∷ tick direct
           ∷ book 1 1 1
           ∷ tick direct
           ∷ tick direct
-          ∷ tick direct
-          ∷ arrive 1 1 1
-          ∷ tick direct
-          ∷ release-rate 1 1 1
-          ∷ tick direct
-          ∷ book 1 1 2
-          ∷ arrive 1 1 1
+          ∷ release-rate 1 1 1001
           ∷ tick direct
           ∷ release-rate 1 1 1
-          ∷ arrive 1 1 1
-          ∷ book-rate 1 1 1001
-          ∷ tick direct
-          ∷ arrive 1 1 2
-          ∷ release-rate 0 1 1
-          ∷ tick direct
-          ∷ arrive 1 1 1
-          ∷ tick direct
           ∷ tick direct
           ∷ [];
       expected =
           claim 1 1 1 1 0 3 1
           ∷ claim 1 1 4 1 0 3 1
-          ∷ claim 1 1 7 1 0 2 1
+          ∷ claim 1 1 7 2 0 3 2
           ∷ claim 1 1 10 2 0 1 1
-          ∷ claim 1 1 13 2 0 2 2
-          ∷ claim 1 1 16 2 0 3 2
+          ∷ claim 1 1 13 2 0 1 1
+          ∷ claim 1 1 16 2 0 0 0
+          ∷ [];
+      headrooms =
+          told 1 1 0 (pos 1)
+          ∷ told 2 1 5 (pos 0)
+          ∷ told 1 0 5 (pos 0)
           ∷ [];
     }
 
 pub agrees-52 : first-wrong list-52 ≡ 0
-unfolding first-wrong entries apply Direct.start Direct.tick Pipelined.start Pipelined.tick book-words rate-words release-words release-rate-words arrive-words into-frame booking bookings row-sum column-sum sum least some-of word
+unfolding first-wrong entries apply Direct.start Direct.tick Pipelined.start Pipelined.tick book-words rate-words release-words release-rate-words headroom-refusal arrive-words into-frame booking bookings row-sum column-sum sum least some-of word
 agrees-52 = refl
+
+pub headroom-52 : first-wrong-headroom list-52 ≡ 0
+unfolding first-wrong-headroom final headroom-result pair-headroom headroom-over apply Direct.start Direct.tick Pipelined.start Pipelined.tick book-words rate-words release-words release-rate-words headroom-refusal arrive-words into-frame booking bookings row-sum column-sum sum least some-of word
+headroom-52 = refl
 
 abbrev list-53 : Case
 list-53 =
@@ -5559,53 +6204,63 @@ list-53 =
           ∷ arrive 1 1 2
           ∷ arrive 1 2 2
           ∷ arrive 1 1 1
-          ∷ arrive 2 1 1
-          ∷ arrive 2 2 1
-          ∷ release-rate 1 1 33333335
-          ∷ arrive 1 1 2
+          ∷ release-rate 1 1 22222222
           ∷ tick pipelined
           ∷ tick pipelined
           ∷ tick pipelined
-          ∷ tick pipelined
-          ∷ release-rate 2 2 1
-          ∷ start pipelined 0 3 99999999
-          ∷ release-rate 1 1 1
-          ∷ book 1 4294967297 1
-          ∷ tick pipelined
-          ∷ tick pipelined
+          ∷ release-rate 1 1 11111114
           ∷ arrive 1 2 1
+          ∷ start pipelined 30 32 99999999
+          ∷ headroom 2 1
+          ∷ tick pipelined
+          ∷ tick pipelined
+          ∷ headroom 2 1
+          ∷ tick pipelined
+          ∷ arrive 1 1 1
+          ∷ arrive 2 1 1
+          ∷ headroom 2 1
+          ∷ release-rate 1 1 11111114
           ∷ tick pipelined
           ∷ tick pipelined
           ∷ tick pipelined
           ∷ tick pipelined
-          ∷ release-rate 2 2 1
-          ∷ book-rate 1 1 22222223
-          ∷ start pipelined 9 32 99999999
           ∷ tick pipelined
           ∷ [];
       expected =
           claim 1 1 1 0 0 0 0
           ∷ claim 1 1 4 0 0 2 0
-          ∷ claim 1 1 7 0 0 3 0
-          ∷ claim 1 1 10 0 0 0 0
+          ∷ claim 1 1 7 1 0 1 1
+          ∷ claim 1 1 10 1 0 1 1
           ∷ claim 1 2 1 0 0 0 0
           ∷ claim 1 2 4 0 0 2 0
-          ∷ claim 1 2 7 0 2 3 0
-          ∷ claim 1 2 10 0 2 3 0
+          ∷ claim 1 2 7 0 3 3 0
+          ∷ claim 1 2 10 0 3 1 0
           ∷ claim 2 1 1 0 0 0 0
-          ∷ claim 2 1 4 0 0 2 0
-          ∷ claim 2 1 7 0 2 3 0
-          ∷ claim 2 1 10 0 2 1 0
+          ∷ claim 2 1 4 0 0 0 0
+          ∷ claim 2 1 7 0 3 0 0
+          ∷ claim 2 1 10 0 3 1 0
           ∷ claim 2 2 1 0 0 0 0
-          ∷ claim 2 2 4 0 0 1 0
+          ∷ claim 2 2 4 0 0 0 0
           ∷ claim 2 2 7 2 0 0 0
           ∷ claim 2 2 10 2 0 0 0
+          ∷ [];
+      headrooms =
+          told 1 1 0 (pos 2)
+          ∷ told 1 2 0 (pos 0)
+          ∷ told 2 1 0 (pos 0)
+          ∷ told 2 2 0 (pos 1)
+          ∷ told 3 1 5 (pos 0)
+          ∷ told 1 4294967297 5 (pos 0)
           ∷ [];
     }
 
 pub agrees-53 : first-wrong list-53 ≡ 0
-unfolding first-wrong entries apply Direct.start Direct.tick Pipelined.start Pipelined.tick book-words rate-words release-words release-rate-words arrive-words into-frame booking bookings row-sum column-sum sum least some-of word
+unfolding first-wrong entries apply Direct.start Direct.tick Pipelined.start Pipelined.tick book-words rate-words release-words release-rate-words headroom-refusal arrive-words into-frame booking bookings row-sum column-sum sum least some-of word
 agrees-53 = refl
+
+pub headroom-53 : first-wrong-headroom list-53 ≡ 0
+unfolding first-wrong-headroom final headroom-result pair-headroom headroom-over apply Direct.start Direct.tick Pipelined.start Pipelined.tick book-words rate-words release-words release-rate-words headroom-refusal arrive-words into-frame booking bookings row-sum column-sum sum least some-of word
+headroom-53 = refl
 
 abbrev list-54 : Case
 list-54 =
@@ -5632,112 +6287,126 @@ list-54 =
           ∷ arrive 2 3 3
           ∷ arrive 2 3 4
           ∷ tick direct
-          ∷ tick direct
-          ∷ tick direct
-          ∷ release-rate 2 3 8333333
-          ∷ release-rate 3 1 8333334
-          ∷ tick direct
-          ∷ tick direct
-          ∷ tick direct
+          ∷ release 3 0 1
           ∷ release 1 1 1
+          ∷ release-rate 3 3 1
+          ∷ release-rate 3 1 24999999
+          ∷ arrive 3 2 2
           ∷ tick direct
-          ∷ tick direct
-          ∷ start direct 3 4 100000001
-          ∷ arrive 3 1 2
-          ∷ book 2 4 1
-          ∷ tick direct
-          ∷ tick direct
-          ∷ tick direct
-          ∷ tick direct
-          ∷ tick direct
-          ∷ tick direct
-          ∷ tick direct
-          ∷ release 1 1 5
-          ∷ release-rate 3 1 16666665
-          ∷ arrive 2 3 0
-          ∷ tick direct
-          ∷ release-rate 1 3 1
-          ∷ release 1 1 1
-          ∷ start direct 0 4 99999999
-          ∷ tick direct
-          ∷ tick direct
-          ∷ arrive 1 2 4
-          ∷ tick direct
-          ∷ release-rate 3 2 1
-          ∷ arrive 1 1 2
-          ∷ tick direct
-          ∷ arrive 1 2 4
-          ∷ tick direct
-          ∷ tick direct
-          ∷ tick direct
-          ∷ arrive 1 1 65536
-          ∷ release-rate 3 2 1
-          ∷ release 2 2 1
           ∷ release-rate 3 1 1
-          ∷ release 2 1 1
+          ∷ release 2 2 1
+          ∷ arrive 2 3 2
+          ∷ tick direct
+          ∷ tick direct
+          ∷ release 2 1 5
+          ∷ tick direct
+          ∷ release 2 0 1
+          ∷ book 3 2 1
+          ∷ release-rate 3 1 1
+          ∷ start direct 3 4 100000001
+          ∷ tick direct
+          ∷ tick direct
+          ∷ release-rate 2 3 8333334
+          ∷ tick direct
+          ∷ tick direct
+          ∷ headroom 2 4
+          ∷ tick direct
+          ∷ tick direct
+          ∷ tick direct
+          ∷ tick direct
+          ∷ tick direct
+          ∷ tick direct
+          ∷ tick direct
+          ∷ release 3 2 1
+          ∷ release-rate 2 3 8333333
+          ∷ tick direct
+          ∷ tick direct
+          ∷ tick direct
+          ∷ tick direct
+          ∷ book 1 2 2
+          ∷ tick direct
+          ∷ tick direct
+          ∷ tick direct
           ∷ tick direct
           ∷ [];
       expected =
           claim 1 1 1 1 1 0 0
-          ∷ claim 1 1 5 1 1 0 0
-          ∷ claim 1 1 9 0 1 0 0
-          ∷ claim 1 1 13 0 1 0 0
-          ∷ claim 1 1 17 0 0 1 0
-          ∷ claim 1 1 21 0 0 1 0
+          ∷ claim 1 1 5 0 0 0 0
+          ∷ claim 1 1 9 0 0 0 0
+          ∷ claim 1 1 13 0 0 0 0
+          ∷ claim 1 1 17 0 0 0 0
+          ∷ claim 1 1 21 0 2 0 0
           ∷ claim 1 2 1 0 1 4 0
-          ∷ claim 1 2 5 0 1 0 0
-          ∷ claim 1 2 9 0 0 0 0
-          ∷ claim 1 2 13 0 0 0 0
-          ∷ claim 1 2 17 0 0 2 0
-          ∷ claim 1 2 21 0 0 4 0
+          ∷ claim 1 2 5 0 0 0 0
+          ∷ claim 1 2 9 0 1 0 0
+          ∷ claim 1 2 13 0 1 0 0
+          ∷ claim 1 2 17 0 0 0 0
+          ∷ claim 1 2 21 2 0 0 0
           ∷ claim 1 3 1 0 2 0 0
           ∷ claim 1 3 5 0 1 0 0
-          ∷ claim 1 3 9 0 0 0 0
-          ∷ claim 1 3 13 0 0 0 0
+          ∷ claim 1 3 9 0 1 0 0
+          ∷ claim 1 3 13 0 1 0 0
           ∷ claim 1 3 17 0 0 0 0
-          ∷ claim 1 3 21 0 0 0 0
+          ∷ claim 1 3 21 0 2 0 0
           ∷ claim 2 1 1 0 3 0 0
-          ∷ claim 2 1 5 0 2 0 0
+          ∷ claim 2 1 5 0 1 0 0
           ∷ claim 2 1 9 0 1 0 0
           ∷ claim 2 1 13 0 1 0 0
           ∷ claim 2 1 17 0 0 0 0
           ∷ claim 2 1 21 0 0 0 0
           ∷ claim 2 2 1 0 1 0 0
-          ∷ claim 2 2 5 0 0 0 0
-          ∷ claim 2 2 9 0 0 0 0
-          ∷ claim 2 2 13 0 0 0 0
+          ∷ claim 2 2 5 0 1 0 0
+          ∷ claim 2 2 9 0 2 0 0
+          ∷ claim 2 2 13 0 2 0 0
           ∷ claim 2 2 17 0 0 0 0
-          ∷ claim 2 2 21 0 0 0 0
+          ∷ claim 2 2 21 0 2 0 0
           ∷ claim 2 3 1 1 0 4 1
-          ∷ claim 2 3 5 0 0 3 0
-          ∷ claim 2 3 9 0 0 0 0
-          ∷ claim 2 3 13 0 0 0 0
+          ∷ claim 2 3 5 1 0 4 1
+          ∷ claim 2 3 9 1 0 1 1
+          ∷ claim 2 3 13 1 0 0 0
           ∷ claim 2 3 17 0 0 0 0
           ∷ claim 2 3 21 0 0 0 0
           ∷ claim 3 1 1 1 1 0 0
-          ∷ claim 3 1 5 1 1 0 0
-          ∷ claim 3 1 9 1 0 2 1
-          ∷ claim 3 1 13 1 0 0 0
+          ∷ claim 3 1 5 0 0 0 0
+          ∷ claim 3 1 9 0 1 0 0
+          ∷ claim 3 1 13 0 1 0 0
           ∷ claim 3 1 17 0 0 0 0
           ∷ claim 3 1 21 0 0 0 0
-          ∷ claim 3 2 1 0 1 0 0
-          ∷ claim 3 2 5 0 1 0 0
-          ∷ claim 3 2 9 0 1 0 0
-          ∷ claim 3 2 13 0 1 0 0
+          ∷ claim 3 2 1 0 1 3 0
+          ∷ claim 3 2 5 0 0 2 0
+          ∷ claim 3 2 9 1 0 0 0
+          ∷ claim 3 2 13 1 0 0 0
           ∷ claim 3 2 17 0 0 0 0
-          ∷ claim 3 2 21 0 0 0 0
+          ∷ claim 3 2 21 0 2 0 0
           ∷ claim 3 3 1 0 2 0 0
           ∷ claim 3 3 5 0 1 0 0
-          ∷ claim 3 3 9 0 1 0 0
-          ∷ claim 3 3 13 0 1 0 0
+          ∷ claim 3 3 9 0 2 0 0
+          ∷ claim 3 3 13 0 2 0 0
           ∷ claim 3 3 17 0 0 0 0
           ∷ claim 3 3 21 0 0 0 0
+          ∷ [];
+      headrooms =
+          told 1 1 0 (pos 2)
+          ∷ told 1 2 0 (pos 2)
+          ∷ told 1 3 0 (pos 2)
+          ∷ told 2 1 0 (pos 4)
+          ∷ told 2 2 0 (pos 2)
+          ∷ told 2 3 0 (pos 4)
+          ∷ told 3 1 0 (pos 4)
+          ∷ told 3 2 0 (pos 2)
+          ∷ told 3 3 0 (pos 4)
+          ∷ told 4 1 5 (pos 0)
+          ∷ told 1 0 5 (pos 0)
           ∷ [];
     }
 
 pub agrees-54 : first-wrong list-54 ≡ 0
-unfolding first-wrong entries apply Direct.start Direct.tick Pipelined.start Pipelined.tick book-words rate-words release-words release-rate-words arrive-words into-frame booking bookings row-sum column-sum sum least some-of word
+unfolding first-wrong entries apply Direct.start Direct.tick Pipelined.start Pipelined.tick book-words rate-words release-words release-rate-words headroom-refusal arrive-words into-frame booking bookings row-sum column-sum sum least some-of word
 agrees-54 = refl
+
+pub headroom-54 : first-wrong-headroom list-54 ≡ 0
+unfolding first-wrong-headroom final headroom-result pair-headroom headroom-over apply Direct.start Direct.tick Pipelined.start Pipelined.tick book-words rate-words release-words release-rate-words headroom-refusal arrive-words into-frame booking bookings row-sum column-sum sum least some-of word
+headroom-54 = refl
 
 abbrev list-55 : Case
 list-55 =
@@ -5779,60 +6448,59 @@ list-55 =
           ∷ arrive 2 2 12
           ∷ arrive 2 2 11
           ∷ tick pipelined
-          ∷ release 2 3 1
           ∷ tick pipelined
-          ∷ book 0 3 1
-          ∷ tick pipelined
-          ∷ tick pipelined
-          ∷ book-rate 2 1 9523809
-          ∷ tick pipelined
-          ∷ arrive 3 3 11
+          ∷ book 3 2 4
           ∷ tick pipelined
           ∷ tick pipelined
-          ∷ release-rate 1 3 23809523
-          ∷ release-rate 3 2 1
           ∷ tick pipelined
-          ∷ release-rate 1 1 19047619
+          ∷ release-rate 1 1 9523809
           ∷ tick pipelined
+          ∷ book 2 1 1
+          ∷ release 2 1 1
+          ∷ arrive 3 1 8
+          ∷ tick pipelined
+          ∷ tick pipelined
+          ∷ release-rate 1 1 4761905
           ∷ tick pipelined
           ∷ tick pipelined
           ∷ tick pipelined
           ∷ tick pipelined
           ∷ tick pipelined
+          ∷ arrive 1 3 7
+          ∷ arrive 1 2 10
+          ∷ tick pipelined
+          ∷ release 2 1 3
+          ∷ release-rate 2 2 4761904
           ∷ tick pipelined
           ∷ tick pipelined
           ∷ tick pipelined
           ∷ tick pipelined
-          ∷ arrive 2 2 8
-          ∷ release-rate 1 2 1
-          ∷ arrive 2 3 11
           ∷ tick pipelined
-          ∷ release 3 3 1
-          ∷ arrive 2 2 10
+          ∷ release-rate 2 2 2
           ∷ tick pipelined
           ∷ [];
       expected =
           claim 1 1 1 0 0 1 0
           ∷ claim 1 1 8 2 2 7 2
-          ∷ claim 1 1 15 2 3 7 2
+          ∷ claim 1 1 15 1 2 7 1
           ∷ claim 1 2 1 0 0 1 0
           ∷ claim 1 2 8 0 5 7 0
-          ∷ claim 1 2 15 0 5 7 0
+          ∷ claim 1 2 15 0 4 7 0
           ∷ claim 1 3 1 0 0 1 0
           ∷ claim 1 3 8 2 2 7 2
-          ∷ claim 1 3 15 2 2 7 2
+          ∷ claim 1 3 15 2 1 7 2
           ∷ claim 2 1 1 0 0 0 0
           ∷ claim 2 1 8 0 3 0 0
-          ∷ claim 2 1 15 1 3 0 0
+          ∷ claim 2 1 15 0 2 0 0
           ∷ claim 2 2 1 0 0 1 0
           ∷ claim 2 2 8 1 0 7 1
-          ∷ claim 2 2 15 1 1 7 1
+          ∷ claim 2 2 15 1 0 7 1
           ∷ claim 2 3 1 0 0 1 0
           ∷ claim 2 3 8 0 3 7 0
-          ∷ claim 2 3 15 0 4 7 0
+          ∷ claim 2 3 15 0 3 7 0
           ∷ claim 3 1 1 0 0 1 0
           ∷ claim 3 1 8 0 2 7 0
-          ∷ claim 3 1 15 0 3 7 0
+          ∷ claim 3 1 15 0 1 7 0
           ∷ claim 3 2 1 0 0 1 0
           ∷ claim 3 2 8 0 1 7 0
           ∷ claim 3 2 15 0 1 7 0
@@ -5840,11 +6508,28 @@ list-55 =
           ∷ claim 3 3 8 0 2 7 0
           ∷ claim 3 3 15 0 2 7 0
           ∷ [];
+      headrooms =
+          told 1 1 0 (pos 4)
+          ∷ told 1 2 0 (pos 3)
+          ∷ told 1 3 0 (pos 4)
+          ∷ told 2 1 0 (pos 5)
+          ∷ told 2 2 0 (pos 6)
+          ∷ told 2 3 0 (pos 4)
+          ∷ told 3 1 0 (pos 6)
+          ∷ told 3 2 0 (pos 6)
+          ∷ told 3 3 0 (pos 5)
+          ∷ told 4 1 5 (pos 0)
+          ∷ told 1 0 5 (pos 0)
+          ∷ [];
     }
 
 pub agrees-55 : first-wrong list-55 ≡ 0
-unfolding first-wrong entries apply Direct.start Direct.tick Pipelined.start Pipelined.tick book-words rate-words release-words release-rate-words arrive-words into-frame booking bookings row-sum column-sum sum least some-of word
+unfolding first-wrong entries apply Direct.start Direct.tick Pipelined.start Pipelined.tick book-words rate-words release-words release-rate-words headroom-refusal arrive-words into-frame booking bookings row-sum column-sum sum least some-of word
 agrees-55 = refl
+
+pub headroom-55 : first-wrong-headroom list-55 ≡ 0
+unfolding first-wrong-headroom final headroom-result pair-headroom headroom-over apply Direct.start Direct.tick Pipelined.start Pipelined.tick book-words rate-words release-words release-rate-words headroom-refusal arrive-words into-frame booking bookings row-sum column-sum sum least some-of word
+headroom-55 = refl
 
 abbrev list-56 : Case
 list-56 =
@@ -5871,52 +6556,77 @@ list-56 =
           ∷ arrive 2 2 45
           ∷ arrive 1 2 57
           ∷ arrive 2 1 63
+          ∷ headroom 2 1
+          ∷ start direct 2 10001 7
+          ∷ release-rate 1 2 1
           ∷ tick direct
-          ∷ book-rate 1 1 1
+          ∷ release-rate 2 1 1
+          ∷ book 2 2 1
+          ∷ book-rate 1 2 8
+          ∷ arrive 1 1 53
+          ∷ release-rate 1 2 1
+          ∷ release-rate 2 1 1
+          ∷ arrive 1 1 52
+          ∷ arrive 2 2 67
           ∷ tick direct
-          ∷ release-rate 2 1 4
+          ∷ release-rate 2 1 1
+          ∷ release-rate 2 2 1
           ∷ tick direct
-          ∷ tick direct
-          ∷ arrive 1 1 77
-          ∷ arrive 2 1 58
-          ∷ tick direct
-          ∷ tick direct
-          ∷ book-rate 2 1 1
+          ∷ arrive 1 1 90
+          ∷ arrive 1 1 49
           ∷ tick direct
           ∷ tick direct
           ∷ tick direct
           ∷ tick direct
           ∷ tick direct
+          ∷ tick direct
+          ∷ tick direct
+          ∷ release-rate 1 1 1
+          ∷ tick direct
+          ∷ tick direct
+          ∷ arrive 2 1 66
+          ∷ release-rate 1 2 1
+          ∷ tick direct
+          ∷ book 1 1 1
+          ∷ book-rate 1 2 2
           ∷ release 1 1 1
-          ∷ start direct 2 4 100000001
-          ∷ tick direct
-          ∷ tick direct
-          ∷ release 1 2 1
           ∷ tick direct
           ∷ [];
       expected =
           claim 1 1 1 0 2 4 0
-          ∷ claim 1 1 5 0 2 4 0
-          ∷ claim 1 1 9 0 2 4 0
-          ∷ claim 1 1 13 0 2 2 0
+          ∷ claim 1 1 5 0 0 4 0
+          ∷ claim 1 1 9 0 0 4 0
+          ∷ claim 1 1 13 0 0 2 0
           ∷ claim 1 2 1 0 0 4 0
           ∷ claim 1 2 5 0 0 4 0
           ∷ claim 1 2 9 0 0 4 0
           ∷ claim 1 2 13 0 0 2 0
           ∷ claim 2 1 1 2 0 4 2
-          ∷ claim 2 1 5 2 0 4 2
-          ∷ claim 2 1 9 2 0 4 2
-          ∷ claim 2 1 13 2 0 2 2
+          ∷ claim 2 1 5 0 0 4 0
+          ∷ claim 2 1 9 0 0 4 0
+          ∷ claim 2 1 13 0 0 2 0
           ∷ claim 2 2 1 0 2 4 0
-          ∷ claim 2 2 5 0 2 4 0
-          ∷ claim 2 2 9 0 2 4 0
-          ∷ claim 2 2 13 0 2 2 0
+          ∷ claim 2 2 5 0 0 4 0
+          ∷ claim 2 2 9 0 0 4 0
+          ∷ claim 2 2 13 0 0 2 0
+          ∷ [];
+      headrooms =
+          told 1 1 0 (pos 4)
+          ∷ told 1 2 0 (pos 4)
+          ∷ told 2 1 0 (pos 4)
+          ∷ told 2 2 0 (pos 4)
+          ∷ told 3 1 5 (pos 0)
+          ∷ told 1 0 5 (pos 0)
           ∷ [];
     }
 
 pub agrees-56 : first-wrong list-56 ≡ 0
-unfolding first-wrong entries apply Direct.start Direct.tick Pipelined.start Pipelined.tick book-words rate-words release-words release-rate-words arrive-words into-frame booking bookings row-sum column-sum sum least some-of word
+unfolding first-wrong entries apply Direct.start Direct.tick Pipelined.start Pipelined.tick book-words rate-words release-words release-rate-words headroom-refusal arrive-words into-frame booking bookings row-sum column-sum sum least some-of word
 agrees-56 = refl
+
+pub headroom-56 : first-wrong-headroom list-56 ≡ 0
+unfolding first-wrong-headroom final headroom-result pair-headroom headroom-over apply Direct.start Direct.tick Pipelined.start Pipelined.tick book-words rate-words release-words release-rate-words headroom-refusal arrive-words into-frame booking bookings row-sum column-sum sum least some-of word
+headroom-56 = refl
 
 abbrev list-57 : Case
 list-57 =
@@ -5946,27 +6656,31 @@ list-57 =
           ∷ arrive 1 1 2
           ∷ arrive 1 1 4
           ∷ arrive 1 2 4
+          ∷ start pipelined 33 3 100000000
+          ∷ tick pipelined
+          ∷ release 2 2 1
+          ∷ tick pipelined
+          ∷ arrive 2 1 5
           ∷ tick pipelined
           ∷ tick pipelined
-          ∷ tick pipelined
-          ∷ tick pipelined
-          ∷ tick pipelined
-          ∷ release-rate 3 3 11111111
-          ∷ tick pipelined
-          ∷ tick pipelined
-          ∷ arrive 2 1 0
-          ∷ book-rate 3 3 33333333
+          ∷ release-rate 1 2 33333334
           ∷ arrive 3 3 5
           ∷ tick pipelined
           ∷ tick pipelined
-          ∷ tick pipelined
-          ∷ release 3 3 1
-          ∷ tick pipelined
+          ∷ arrive 3 1 3
           ∷ tick pipelined
           ∷ tick pipelined
           ∷ tick pipelined
           ∷ tick pipelined
-          ∷ arrive 2 3 0
+          ∷ arrive 3 2 2
+          ∷ tick pipelined
+          ∷ tick pipelined
+          ∷ release-rate 1 2 11111111
+          ∷ arrive 2 3 5
+          ∷ tick pipelined
+          ∷ tick pipelined
+          ∷ tick pipelined
+          ∷ book 3 3 1
           ∷ tick pipelined
           ∷ [];
       expected =
@@ -5979,9 +6693,9 @@ list-57 =
           ∷ claim 1 2 1 0 0 0 0
           ∷ claim 1 2 4 0 0 0 0
           ∷ claim 1 2 7 1 2 3 1
-          ∷ claim 1 2 10 1 2 3 1
-          ∷ claim 1 2 13 1 2 3 1
-          ∷ claim 1 2 16 1 2 0 0
+          ∷ claim 1 2 10 1 1 3 1
+          ∷ claim 1 2 13 1 1 3 1
+          ∷ claim 1 2 16 1 1 0 0
           ∷ claim 1 3 1 0 0 0 0
           ∷ claim 1 3 4 0 0 0 0
           ∷ claim 1 3 7 1 2 0 0
@@ -5990,22 +6704,22 @@ list-57 =
           ∷ claim 1 3 16 1 2 0 0
           ∷ claim 2 1 1 0 0 0 0
           ∷ claim 2 1 4 0 0 0 0
-          ∷ claim 2 1 7 0 1 0 0
-          ∷ claim 2 1 10 0 1 0 0
-          ∷ claim 2 1 13 0 1 0 0
-          ∷ claim 2 1 16 0 1 0 0
+          ∷ claim 2 1 7 0 1 2 0
+          ∷ claim 2 1 10 0 0 3 0
+          ∷ claim 2 1 13 0 0 3 0
+          ∷ claim 2 1 16 0 0 2 0
           ∷ claim 2 2 1 0 0 0 0
           ∷ claim 2 2 4 0 0 0 0
           ∷ claim 2 2 7 1 1 0 0
-          ∷ claim 2 2 10 1 1 0 0
-          ∷ claim 2 2 13 1 1 0 0
-          ∷ claim 2 2 16 1 1 0 0
+          ∷ claim 2 2 10 0 1 0 0
+          ∷ claim 2 2 13 0 1 0 0
+          ∷ claim 2 2 16 0 1 0 0
           ∷ claim 2 3 1 0 0 0 0
           ∷ claim 2 3 4 0 0 0 0
           ∷ claim 2 3 7 0 3 3 0
-          ∷ claim 2 3 10 0 3 3 0
-          ∷ claim 2 3 13 0 3 1 0
-          ∷ claim 2 3 16 0 3 0 0
+          ∷ claim 2 3 10 0 2 3 0
+          ∷ claim 2 3 13 0 2 3 0
+          ∷ claim 2 3 16 0 2 2 0
           ∷ claim 3 1 1 0 0 0 0
           ∷ claim 3 1 4 0 0 0 0
           ∷ claim 3 1 7 0 1 3 0
@@ -6015,21 +6729,38 @@ list-57 =
           ∷ claim 3 2 1 0 0 0 0
           ∷ claim 3 2 4 0 0 0 0
           ∷ claim 3 2 7 0 3 0 0
-          ∷ claim 3 2 10 0 3 0 0
-          ∷ claim 3 2 13 0 3 0 0
-          ∷ claim 3 2 16 0 3 0 0
+          ∷ claim 3 2 10 0 2 0 0
+          ∷ claim 3 2 13 0 2 1 0
+          ∷ claim 3 2 16 0 2 2 0
           ∷ claim 3 3 1 0 0 0 0
           ∷ claim 3 3 4 0 0 0 0
-          ∷ claim 3 3 7 1 1 0 0
-          ∷ claim 3 3 10 1 1 1 1
+          ∷ claim 3 3 7 1 1 1 1
+          ∷ claim 3 3 10 1 1 3 1
           ∷ claim 3 3 13 1 1 3 1
-          ∷ claim 3 3 16 1 1 2 1
+          ∷ claim 3 3 16 1 1 0 0
+          ∷ [];
+      headrooms =
+          told 1 1 0 (pos 1)
+          ∷ told 1 2 0 (pos 1)
+          ∷ told 1 3 0 (pos 0)
+          ∷ told 2 1 0 (pos 3)
+          ∷ told 2 2 0 (pos 2)
+          ∷ told 2 3 0 (pos 1)
+          ∷ told 3 1 0 (pos 2)
+          ∷ told 3 2 0 (pos 1)
+          ∷ told 3 3 0 (pos 1)
+          ∷ told 4 1 5 (pos 0)
+          ∷ told 1 0 5 (pos 0)
           ∷ [];
     }
 
 pub agrees-57 : first-wrong list-57 ≡ 0
-unfolding first-wrong entries apply Direct.start Direct.tick Pipelined.start Pipelined.tick book-words rate-words release-words release-rate-words arrive-words into-frame booking bookings row-sum column-sum sum least some-of word
+unfolding first-wrong entries apply Direct.start Direct.tick Pipelined.start Pipelined.tick book-words rate-words release-words release-rate-words headroom-refusal arrive-words into-frame booking bookings row-sum column-sum sum least some-of word
 agrees-57 = refl
+
+pub headroom-57 : first-wrong-headroom list-57 ≡ 0
+unfolding first-wrong-headroom final headroom-result pair-headroom headroom-over apply Direct.start Direct.tick Pipelined.start Pipelined.tick book-words rate-words release-words release-rate-words headroom-refusal arrive-words into-frame booking bookings row-sum column-sum sum least some-of word
+headroom-57 = refl
 
 abbrev list-58 : Case
 list-58 =
@@ -6054,78 +6785,90 @@ list-58 =
           ∷ arrive 1 2 4
           ∷ arrive 1 2 3
           ∷ arrive 1 2 4
+          ∷ arrive 2 2 3
           ∷ tick direct
           ∷ tick direct
           ∷ tick direct
           ∷ tick direct
-          ∷ release-rate 2 1 111
+          ∷ tick direct
+          ∷ tick direct
           ∷ tick direct
           ∷ tick direct
           ∷ tick direct
           ∷ tick direct
           ∷ book-rate 1 2 222
-          ∷ release-rate 2 2 112
-          ∷ arrive 1 1 4
           ∷ tick direct
           ∷ tick direct
           ∷ tick direct
-          ∷ release 3 2 1
-          ∷ book 2 2 2
           ∷ tick direct
           ∷ release-rate 1 1 1
-          ∷ tick direct
-          ∷ tick direct
-          ∷ tick direct
-          ∷ arrive 2 2 4
+          ∷ book-rate 1 2 111
+          ∷ book 2 1 0
           ∷ tick direct
           ∷ tick direct
           ∷ tick direct
           ∷ tick direct
-          ∷ arrive 2 2 2
-          ∷ book 1 1 1
+          ∷ headroom 1 1
+          ∷ release 2 1 1
+          ∷ arrive 2 2 3
+          ∷ tick direct
+          ∷ headroom 1 2
           ∷ tick direct
           ∷ tick direct
+          ∷ release-rate 1 2 333
           ∷ tick direct
           ∷ [];
       expected =
           claim 1 1 1 0 1 0 0
           ∷ claim 1 1 4 0 1 0 0
-          ∷ claim 1 1 7 0 1 1 0
-          ∷ claim 1 1 10 0 2 3 0
-          ∷ claim 1 1 13 0 2 2 0
+          ∷ claim 1 1 7 0 1 0 0
+          ∷ claim 1 1 10 0 1 0 0
+          ∷ claim 1 1 13 0 2 0 0
           ∷ claim 1 1 16 0 2 0 0
           ∷ claim 1 1 19 0 2 0 0
-          ∷ claim 1 1 22 1 2 0 0
+          ∷ claim 1 1 22 0 1 0 0
           ∷ claim 1 2 1 0 1 3 0
           ∷ claim 1 2 4 0 1 3 0
           ∷ claim 1 2 7 0 1 3 0
-          ∷ claim 1 2 10 1 1 3 1
-          ∷ claim 1 2 13 1 1 3 1
+          ∷ claim 1 2 10 0 1 3 0
+          ∷ claim 1 2 13 1 1 2 1
           ∷ claim 1 2 16 1 1 0 0
           ∷ claim 1 2 19 1 1 0 0
-          ∷ claim 1 2 22 1 2 0 0
+          ∷ claim 1 2 22 0 1 0 0
           ∷ claim 2 1 1 1 1 3 1
-          ∷ claim 2 1 4 1 1 2 1
-          ∷ claim 2 1 7 1 1 0 0
+          ∷ claim 2 1 4 1 1 3 1
+          ∷ claim 2 1 7 1 1 1 1
           ∷ claim 2 1 10 1 1 0 0
           ∷ claim 2 1 13 1 1 0 0
           ∷ claim 2 1 16 1 1 0 0
           ∷ claim 2 1 19 1 1 0 0
-          ∷ claim 2 1 22 1 2 0 0
-          ∷ claim 2 2 1 1 1 0 0
-          ∷ claim 2 2 4 1 1 0 0
-          ∷ claim 2 2 7 1 1 0 0
-          ∷ claim 2 2 10 1 2 0 0
+          ∷ claim 2 1 22 1 1 0 0
+          ∷ claim 2 2 1 1 1 3 1
+          ∷ claim 2 2 4 1 1 3 1
+          ∷ claim 2 2 7 1 1 2 1
+          ∷ claim 2 2 10 1 1 0 0
           ∷ claim 2 2 13 1 2 0 0
-          ∷ claim 2 2 16 1 2 3 1
+          ∷ claim 2 2 16 1 2 0 0
           ∷ claim 2 2 19 1 2 3 1
-          ∷ claim 2 2 22 1 2 0 0
+          ∷ claim 2 2 22 1 1 0 0
+          ∷ [];
+      headrooms =
+          told 1 1 0 (pos 2)
+          ∷ told 1 2 0 (pos 2)
+          ∷ told 2 1 0 (pos 1)
+          ∷ told 2 2 0 (pos 1)
+          ∷ told 3 1 5 (pos 0)
+          ∷ told 1 0 5 (pos 0)
           ∷ [];
     }
 
 pub agrees-58 : first-wrong list-58 ≡ 0
-unfolding first-wrong entries apply Direct.start Direct.tick Pipelined.start Pipelined.tick book-words rate-words release-words release-rate-words arrive-words into-frame booking bookings row-sum column-sum sum least some-of word
+unfolding first-wrong entries apply Direct.start Direct.tick Pipelined.start Pipelined.tick book-words rate-words release-words release-rate-words headroom-refusal arrive-words into-frame booking bookings row-sum column-sum sum least some-of word
 agrees-58 = refl
+
+pub headroom-58 : first-wrong-headroom list-58 ≡ 0
+unfolding first-wrong-headroom final headroom-result pair-headroom headroom-over apply Direct.start Direct.tick Pipelined.start Pipelined.tick book-words rate-words release-words release-rate-words headroom-refusal arrive-words into-frame booking bookings row-sum column-sum sum least some-of word
+headroom-58 = refl
 
 abbrev list-59 : Case
 list-59 =
@@ -6158,44 +6901,39 @@ list-59 =
           ∷ arrive 1 3 69
           ∷ arrive 3 1 87
           ∷ arrive 1 3 88
-          ∷ release-rate 2 3 5555556
-          ∷ arrive 3 2 64
-          ∷ book 2 1 1
+          ∷ tick pipelined
+          ∷ tick pipelined
+          ∷ arrive 1 3 45
           ∷ tick pipelined
           ∷ tick pipelined
           ∷ tick pipelined
+          ∷ release-rate 2 1 1
+          ∷ release 2 2 1
+          ∷ book 3 2 1
           ∷ tick pipelined
           ∷ tick pipelined
-          ∷ arrive 3 3 77
+          ∷ release-rate 1 3 1
+          ∷ arrive 2 2 81
+          ∷ book-rate 3 1 11111111
+          ∷ book 3 3 1
+          ∷ release 2 1 3
+          ∷ tick pipelined
+          ∷ tick pipelined
+          ∷ book-rate 4294967297 3 1
           ∷ tick pipelined
           ∷ tick pipelined
           ∷ tick pipelined
-          ∷ tick pipelined
-          ∷ tick pipelined
-          ∷ release-rate 3 2 11111112
-          ∷ tick pipelined
-          ∷ tick pipelined
-          ∷ arrive 1 3 71
-          ∷ book 2 1 1
-          ∷ tick pipelined
-          ∷ tick pipelined
-          ∷ tick pipelined
-          ∷ book-rate 1 3 5555555
-          ∷ tick pipelined
-          ∷ tick pipelined
-          ∷ arrive 3 3 48
-          ∷ arrive 3 2 90
           ∷ arrive 1 3 90
-          ∷ arrive 2 2 49
-          ∷ book-rate 2 1 5555556
+          ∷ book-rate 2 2 5555555
+          ∷ tick pipelined
+          ∷ tick pipelined
+          ∷ tick pipelined
           ∷ arrive 3 3 73
-          ∷ arrive 4 1 1
-          ∷ arrive 3 2 51
-          ∷ arrive 2 3 76
-          ∷ release-rate 2 3 11111110
-          ∷ arrive 2 1 60
-          ∷ arrive 3 1 90
-          ∷ arrive 2 3 86
+          ∷ release-rate 1 1 5555556
+          ∷ tick pipelined
+          ∷ tick pipelined
+          ∷ release 3 1 7
+          ∷ arrive 1 2 72
           ∷ tick pipelined
           ∷ [];
       expected =
@@ -6205,42 +6943,59 @@ list-59 =
           ∷ claim 1 1 19 1 0 0 0
           ∷ claim 1 2 1 0 0 0 0
           ∷ claim 1 2 7 0 4 0 0
-          ∷ claim 1 2 13 0 4 0 0
-          ∷ claim 1 2 19 0 3 0 0
+          ∷ claim 1 2 13 0 3 0 0
+          ∷ claim 1 2 19 0 4 0 0
           ∷ claim 1 3 1 0 0 0 0
           ∷ claim 1 3 7 0 4 6 0
           ∷ claim 1 3 13 0 4 6 0
           ∷ claim 1 3 19 0 4 1 0
           ∷ claim 2 1 1 0 0 0 0
           ∷ claim 2 1 7 0 4 0 0
-          ∷ claim 2 1 13 0 4 0 0
+          ∷ claim 2 1 13 0 3 0 0
           ∷ claim 2 1 19 0 4 0 0
           ∷ claim 2 2 1 0 0 0 0
           ∷ claim 2 2 7 2 2 0 0
-          ∷ claim 2 2 13 2 2 0 0
-          ∷ claim 2 2 19 2 1 0 0
+          ∷ claim 2 2 13 1 2 6 1
+          ∷ claim 2 2 19 2 2 1 1
           ∷ claim 2 3 1 0 0 0 0
           ∷ claim 2 3 7 1 4 0 0
-          ∷ claim 2 3 13 1 4 0 0
+          ∷ claim 2 3 13 1 3 0 0
           ∷ claim 2 3 19 1 4 0 0
           ∷ claim 3 1 1 0 0 0 0
           ∷ claim 3 1 7 0 4 6 0
           ∷ claim 3 1 13 0 4 6 0
-          ∷ claim 3 1 19 0 3 1 0
+          ∷ claim 3 1 19 0 4 1 0
           ∷ claim 3 2 1 0 0 0 0
-          ∷ claim 3 2 7 1 4 6 1
-          ∷ claim 3 2 13 1 4 6 1
-          ∷ claim 3 2 19 0 4 1 0
+          ∷ claim 3 2 7 1 4 0 0
+          ∷ claim 3 2 13 1 3 0 0
+          ∷ claim 3 2 19 1 4 0 0
           ∷ claim 3 3 1 0 0 0 0
-          ∷ claim 3 3 7 2 2 3 2
-          ∷ claim 3 3 13 2 2 6 2
-          ∷ claim 3 3 19 2 1 1 1
+          ∷ claim 3 3 7 2 2 0 0
+          ∷ claim 3 3 13 2 2 0 0
+          ∷ claim 3 3 19 2 2 0 0
+          ∷ [];
+      headrooms =
+          told 1 1 0 (pos 6)
+          ∷ told 1 2 0 (pos 3)
+          ∷ told 1 3 0 (pos 3)
+          ∷ told 2 1 0 (pos 3)
+          ∷ told 2 2 0 (pos 2)
+          ∷ told 2 3 0 (pos 1)
+          ∷ told 3 1 0 (pos 3)
+          ∷ told 3 2 0 (pos 1)
+          ∷ told 3 3 0 (pos 2)
+          ∷ told 4 1 5 (pos 0)
+          ∷ told 1 4294967297 5 (pos 0)
           ∷ [];
     }
 
 pub agrees-59 : first-wrong list-59 ≡ 0
-unfolding first-wrong entries apply Direct.start Direct.tick Pipelined.start Pipelined.tick book-words rate-words release-words release-rate-words arrive-words into-frame booking bookings row-sum column-sum sum least some-of word
+unfolding first-wrong entries apply Direct.start Direct.tick Pipelined.start Pipelined.tick book-words rate-words release-words release-rate-words headroom-refusal arrive-words into-frame booking bookings row-sum column-sum sum least some-of word
 agrees-59 = refl
+
+pub headroom-59 : first-wrong-headroom list-59 ≡ 0
+unfolding first-wrong-headroom final headroom-result pair-headroom headroom-over apply Direct.start Direct.tick Pipelined.start Pipelined.tick book-words rate-words release-words release-rate-words headroom-refusal arrive-words into-frame booking bookings row-sum column-sum sum least some-of word
+headroom-59 = refl
 
 abbrev list-60 : Case
 list-60 =
@@ -6272,44 +7027,47 @@ list-60 =
           ∷ arrive 2 2 9
           ∷ tick direct
           ∷ arrive 2 1 11
+          ∷ tick direct
+          ∷ arrive 1 1 9
           ∷ book 2 1 1
-          ∷ tick direct
-          ∷ start direct 26 32 1000
-          ∷ arrive 1 2 9
-          ∷ release-rate 4294967297 1 1
-          ∷ tick direct
-          ∷ tick direct
-          ∷ tick direct
-          ∷ tick direct
-          ∷ start direct 2 0 1000
+          ∷ release-rate 1 1 1
           ∷ release-rate 1 1 1
           ∷ tick direct
-          ∷ release-rate 2 2 1
-          ∷ book-rate 2 2 112
           ∷ tick direct
-          ∷ release 1 2 1
-          ∷ arrive 1 2 10
-          ∷ release-rate 2 2 112
-          ∷ tick direct
-          ∷ tick direct
-          ∷ tick direct
-          ∷ tick direct
+          ∷ arrive 2 2 12
+          ∷ arrive 1 1 9
+          ∷ book-rate 1 2 222
           ∷ tick direct
           ∷ book 1 1 1
           ∷ tick direct
-          ∷ start direct 7 32 1000
+          ∷ tick direct
+          ∷ release-rate 2 1 1
+          ∷ arrive 1 2 7
+          ∷ book 1 2 1
+          ∷ release 1 2 4
           ∷ tick direct
           ∷ tick direct
-          ∷ book-rate 1 2 111
+          ∷ tick direct
+          ∷ tick direct
+          ∷ tick direct
+          ∷ tick direct
+          ∷ arrive 1 1 7
+          ∷ tick direct
+          ∷ release 2 4294967297 1
+          ∷ release-rate 1 1 1
+          ∷ arrive 2 1 12
+          ∷ tick direct
+          ∷ release-rate 3 1 1
+          ∷ tick direct
           ∷ tick direct
           ∷ [];
       expected =
           claim 1 1 1 2 0 3 2
           ∷ claim 1 1 4 2 0 3 2
-          ∷ claim 1 1 7 2 0 0 0
-          ∷ claim 1 1 10 2 0 0 0
-          ∷ claim 1 1 13 2 0 0 0
-          ∷ claim 1 1 16 2 0 0 0
+          ∷ claim 1 1 7 2 0 3 2
+          ∷ claim 1 1 10 2 0 3 2
+          ∷ claim 1 1 13 2 0 3 2
+          ∷ claim 1 1 16 2 0 2 2
           ∷ claim 1 2 1 0 2 3 0
           ∷ claim 1 2 4 0 2 3 0
           ∷ claim 1 2 7 0 2 3 0
@@ -6329,8 +7087,20 @@ list-60 =
           ∷ claim 2 2 13 0 0 3 0
           ∷ claim 2 2 16 0 0 2 0
           ∷ [];
+      headrooms =
+          told 1 1 0 (pos 1)
+          ∷ told 1 2 0 (pos 1)
+          ∷ told 2 1 0 (pos 1)
+          ∷ told 2 2 0 (pos 3)
+          ∷ told 3 1 5 (pos 0)
+          ∷ told 1 0 5 (pos 0)
+          ∷ [];
     }
 
 pub agrees-60 : first-wrong list-60 ≡ 0
-unfolding first-wrong entries apply Direct.start Direct.tick Pipelined.start Pipelined.tick book-words rate-words release-words release-rate-words arrive-words into-frame booking bookings row-sum column-sum sum least some-of word
+unfolding first-wrong entries apply Direct.start Direct.tick Pipelined.start Pipelined.tick book-words rate-words release-words release-rate-words headroom-refusal arrive-words into-frame booking bookings row-sum column-sum sum least some-of word
 agrees-60 = refl
+
+pub headroom-60 : first-wrong-headroom list-60 ≡ 0
+unfolding first-wrong-headroom final headroom-result pair-headroom headroom-over apply Direct.start Direct.tick Pipelined.start Pipelined.tick book-words rate-words release-words release-rate-words headroom-refusal arrive-words into-frame booking bookings row-sum column-sum sum least some-of word
+headroom-60 = refl

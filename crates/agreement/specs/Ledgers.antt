@@ -1,9 +1,13 @@
--- What the ledger of a list of calls says of every pair in every frame, in numbers, and where another such list differs from it. Assumes nothing.
+-- What the ledger of a list of calls says of every pair in every frame, in numbers, and where another such list differs from it; the same of the
+-- headrooms of pairs after the list. Assumes nothing.
 use mathlib.Core.Bool.{Bool, true, false, _&&_}
 use mathlib.Core.List.{List, [], _∷_, _++_}
 use Prim.Native.Nat.{ℕ, zero, suc}
 use lib.Dec.{eqb}
-use Rattle.wsgs.specs.Switch.{Switch, Call}
+use lib.IntN.{ℤ}
+use Rattle.wsgs.specs.Basics.{same-integer}
+use Rattle.wsgs.specs.Headroom.{headroom-result}
+use Rattle.wsgs.specs.Switch.{Switch, Call, final}
 use Rattle.wsgs.specs.Ledger.{Ledger, ledger-of, slot-of-tick, begins-frame, reading, others, waited, served}
 
 -- of a pair in the frame that begins with slot first: a, m, b, and how often pass one serves it
@@ -46,13 +50,35 @@ first-difference k [] (d ∷ ds) = k
 first-difference k (c ∷ cs) [] = k
 first-difference k (c ∷ cs) (d ∷ ds) = elim (same-claim c d) [ true ↦ first-difference (suc k) cs ds | false ↦ k ]
 
--- a list of calls on a switch, and the claims that another hand has of it
+-- what the call for the headroom of a pair tells: its refusal, and the number
+pub data Told : Type 0 where
+  told : (input output refusal : ℕ) → (number : ℤ) → Told
+
+unfoldable pub is-told : Switch → Told → Bool
+unfolding headroom-result
+is-told s (told i j r z) =
+    let h = headroom-result (s .clock) (s .book) i j in
+    eqb (h .refusal) r && same-integer (h .headroom) z
+
+-- the number of the first headroom of a switch that is not as told, the first being k; 0 where all are
+unfoldable pub first-untold : ℕ → Switch → List Told → ℕ
+unfolding is-told
+first-untold k s [] = 0
+first-untold k s (t ∷ ts) = elim (is-told s t) [ true ↦ first-untold (suc k) s ts | false ↦ k ]
+
+-- a list of calls on a switch, and what another hand has of it: the claims, and headrooms of the switch that it leaves
 pub record Case : Type 0 where
   pub switch : Switch
   pub calls : List Call
   pub expected : List Claim
+  pub headrooms : List Told
 
 -- the number of the first claim that is not as the ledger of the calls has it; 0 where all are
 unfoldable pub first-wrong : Case → ℕ
 unfolding ledger-of claims first-difference
 first-wrong c = first-difference 1 (claims (ledger-of (c .calls) (c .switch))) (c .expected)
+
+-- the number of the first headroom that is not as the definition has it after the calls; 0 where all are
+unfoldable pub first-wrong-headroom : Case → ℕ
+unfolding first-untold final
+first-wrong-headroom c = first-untold 1 (final (c .calls) (c .switch)) (c .headrooms)
