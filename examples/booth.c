@@ -56,6 +56,10 @@ static uint32_t release_rate(Switch *s, unsigned input, unsigned output, unsigne
     return kivdrag_release_rate(s->clock, s->slots, PAIRS, s->rates, PAIRS, input, output, rate);
 }
 
+static uint32_t headroom(const Switch *s, unsigned input, unsigned output, int64_t *number) {
+    return kivdrag_headroom(s->clock, s->slots, PAIRS, s->rates, PAIRS, input, output, number);
+}
+
 static uint32_t arrive(Switch *s, unsigned input, unsigned output, unsigned packets) {
     return kivdrag_arrive(s->clock, s->queues, PAIRS, input, output, packets);
 }
@@ -84,6 +88,16 @@ static void say(const char *what, uint32_t refusal) {
     }
 }
 
+static void print_headroom(const Switch *s, const char *pair, unsigned input, unsigned output) {
+    int64_t number;
+    uint32_t refusal = headroom(s, input, output, &number);
+    if (refusal == KIVDRAG_ACCEPTED) {
+        printf("headroom %s: %lld\n", pair, (long long)number);
+    } else {
+        say("headroom", refusal);
+    }
+}
+
 static void print_pairs(unsigned slot, const Pairs *p) {
     unsigned count = 0;
     printf("slot %u:", slot);
@@ -109,6 +123,9 @@ static void direct(void) {
     }
     /* the desk would have 5 slots booked, and 2 * 5 is above 8 + 1 */
     say("book 3 slots from the archive to the desk", book(&s, ARCHIVE, DESK, 3));
+    /* the panel has 2 slots booked, and so have the desk and the wall: 8 - (2 + 2 - 2), and 8 - (2 + 2 - 0) */
+    print_headroom(&s, "from the panel to the desk", PANEL, DESK);
+    print_headroom(&s, "from the panel to the wall", PANEL, WALL);
     say("queue 6 packets of a film from the player to the wall", arrive(&s, PLAYER, WALL, 6));
     say("queue 9 packets of a film from the archive to the desk", arrive(&s, ARCHIVE, DESK, 9));
     for (unsigned slot = 1; slot <= FRAME; slot++) {
