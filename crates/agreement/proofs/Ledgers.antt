@@ -1,6 +1,6 @@
--- After random lists of calls the definition of the ledger says what the second program's ledger says, and the definition of headroom gives the
--- numbers that the second program gives. A theorem that is refused tells the list, and where the checker prints what it computed, the number of
--- the first claim or headroom that differs. Written by tools/ledgers: do not edit. Assumes nothing.
+-- After random lists of calls the definition of the ledger says what the second program's ledger says, and the definition of headroom
+-- gives what the second program gives. A theorem that is refused tells the list, and where the checker prints what it computed, the number of the
+-- first claim or headroom that differs. Written by tools/ledgers: do not edit. Assumes nothing.
 use mathlib.Core.Path.{_≡_, refl}
 use mathlib.Core.List.{List, [], _∷_}
 use lib.IntN.{pos, negsuc}

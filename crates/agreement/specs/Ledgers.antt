@@ -1,5 +1,5 @@
--- What the ledger of a list of calls says of every pair in every frame, in numbers, and where another such list differs from it; the same of the
--- headrooms of pairs after the list. Assumes nothing.
+-- What the ledger of a list of calls says of every pair in every frame, in numbers, and what headroom the pairs have after the list; and where
+-- another hand's numbers differ. Assumes nothing.
 use mathlib.Core.Bool.{Bool, true, false, _&&_}
 use mathlib.Core.List.{List, [], _∷_, _++_}
 use Prim.Native.Nat.{ℕ, zero, suc}
