@@ -26,7 +26,6 @@ use Rattle.wsgs.specs.Direct
 use Rattle.wsgs.specs.Pipelined
 use Rattle.wsgs.specs.Answers.{start-effect, tick-effect, start-outcome, tick-outcome, matching-of}
 use Rattle.wsgs.specs.Switch.{Switch, direct, pipelined, start, book, book-rate, release, release-rate, headroom, arrive, tick, apply, direct-runs, pipelined-runs, of-direct, of-pipelined, of-asking, of-book, of-queues}
-use Rattle.wsgs.specs.Switch as Switches
 use Rattle.wsgs.proofs.Laws.Tests.{between-port}
 use Rattle.wsgs.proofs.Laws.Listed.{listed-length, listed-at}
 use Rattle.wsgs.proofs.Laws.Marked.{marked-lt, marked-bit}

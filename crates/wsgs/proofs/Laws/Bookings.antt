@@ -50,7 +50,7 @@ module _ (f b : ℕ) where
       go (no d) = rw (ne-eqb b 0 d) (div-eq-of-lt {n = 0 * f + (b - 1)} {m = b} (omega (arith, mul-comm 0 f)))
 
   -- a higher rate takes no less
-  pub rate-slots-mono : (r t : ℕ) → r ≤ t → rate-slots f b r ≤ rate-slots f b t
+  rate-slots-mono : (r t : ℕ) → r ≤ t → rate-slots f b r ≤ rate-slots f b t
   unfolding rate-slots
   rate-slots-mono r t h = go (ℕ-discrete b 0)
     where
@@ -62,7 +62,7 @@ module _ (f b : ℕ) where
           (le-div-iff-mul-le {k = b} {x = x / b} {y = t * f + (b - 1)} (omega arith) .1 (omega (arith, div-mul-le-self x b, mul-le-mul-right f h)))
 
   -- one that takes at most k slots is at most what k slots carry
-  pub rate-carried : (r k : ℕ) → 1 ≤ b → rate-slots f b r ≤ k → r * f ≤ k * b
+  rate-carried : (r k : ℕ) → 1 ≤ b → rate-slots f b r ≤ k → r * f ≤ k * b
   unfolding rate-slots
   rate-carried r k p h =
       let e : rate-slots f b r ≡ (r * f + (b - 1)) / b = rw (ne-eqb b 0 (λ z. omega arith)) in
