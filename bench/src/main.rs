@@ -1,5 +1,5 @@
 //! Times the proved library against the plain Rust scheduler, in one run: `cargo run --release -- FOLDER` after `rt staticlib kivdrag_c`.
-//! Writes three tables into the folder, each as Markdown and as comma-separated values: ticks, frames (the ticks that read the book), bookings.
+//! Writes three tables into the folder, each as Markdown and as comma-separated values: ticks, frames (the ticks that read the book), bookings (with headroom).
 
 mod plain;
 mod switch;
@@ -159,50 +159,65 @@ fn frame_ticks(pipelined: bool, n: usize, reads: bool, rates: bool) -> [Work<'st
     [Box::new(by_library), Box::new(by_hand)]
 }
 
-/// Accepted bookings, by slots and by rate, on a book without rates and on one with a rate for every pair.
+/// The calls on the book that take the sums of an input and of an output.
+#[derive(Clone, Copy)]
+enum OnSums {
+    BySlots,
+    ByRate,
+    Headroom,
+}
+
+/// Accepted calls, on a book without rates and on one with a rate for every pair.
 fn bookings() -> Table {
     let mut table = Table::new(
-        "| booking | rates in the book | N | proved, million a second | plain Rust, million a second | ratio |",
-        "booking,rates,ports,proved_ns,plain_ns",
+        "| call | rates in the book | N | proved, million a second | plain Rust, million a second | ratio |",
+        "call,rates,ports,proved_ns,plain_ns",
     );
-    for by_rate in [false, true] {
-        for rates in [false, true] {
+    for (call, name) in [(OnSums::BySlots, "booking by slots"), (OnSums::ByRate, "booking by rate"), (OnSums::Headroom, "headroom")] {
+        for (held, rates) in [(0, "none"), (1_000, "all pairs")] {
             for n in PORTS {
-                let t = booking_calls(n, by_rate, rates);
-                let (by, held) = (if by_rate { "by rate" } else { "by slots" }, if rates { "all pairs" } else { "none" });
-                writeln!(table.markdown, "| {by} | {held} | {n} | {:.1} | {:.1} | {:.2} |", 1e3 / t[0], 1e3 / t[1], t[1] / t[0]).unwrap();
-                writeln!(table.values, "{by},{held},{n},{:.1},{:.1}", t[0], t[1]).unwrap();
+                let t = calls_on_sums(n, call, held);
+                writeln!(table.markdown, "| {name} | {rates} | {n} | {:.1} | {:.1} | {:.2} |", 1e3 / t[0], 1e3 / t[1], t[1] / t[0]).unwrap();
+                writeln!(table.values, "{name},{rates},{n},{:.1},{:.1}", t[0], t[1]).unwrap();
             }
         }
     }
     table
 }
 
-/// Nanoseconds of a booking for the pair (1, 1), whose words are set back before each: proved, and plain.
-fn booking_calls(n: usize, by_rate: bool, rates: bool) -> Vec<f64> {
-    let held = if rates { 1_000 } else { 0 };
+/// Nanoseconds of a call for the pair (1, 1), whose words are set back before each: proved, and plain. Every pair holds the rate.
+fn calls_on_sums(n: usize, call: OnSums, held: u32) -> Vec<f64> {
     let clock = [n as u32, 10_000, 0, LINE];
     let book = (vec![0u32; n * n], vec![held; n * n]);
     let (mut a, mut b) = (book.clone(), book);
     let mut by_library = || {
         (a.0[0], a.1[0]) = (0, held);
-        let (slots, rates) = (&mut a.0, &mut a.1);
+        let (slots, rates, mut headroom) = (&mut a.0, &mut a.1, 0);
+        let (k, u, v) = (clock.as_ptr(), slots.len(), rates.len());
         let refusal = unsafe {
-            if by_rate {
-                kivdrag_book_rate(clock.as_ptr(), slots.as_ptr(), slots.len(), rates.as_mut_ptr(), rates.len(), 1, 1, 950)
-            } else {
-                kivdrag_book(clock.as_ptr(), slots.as_mut_ptr(), slots.len(), rates.as_ptr(), rates.len(), 1, 1, 9)
+            match call {
+                OnSums::BySlots => kivdrag_book(k, slots.as_mut_ptr(), u, rates.as_ptr(), v, 1, 1, 9),
+                OnSums::ByRate => kivdrag_book_rate(k, slots.as_ptr(), u, rates.as_mut_ptr(), v, 1, 1, 950),
+                OnSums::Headroom => kivdrag_headroom(k, slots.as_ptr(), u, rates.as_ptr(), v, 1, 1, &mut headroom),
             }
         };
-        black_box((refusal, slots[0], rates[0]))
+        black_box((refusal, slots[0], rates[0], headroom))
     };
     let mut by_hand = || {
         (b.0[0], b.1[0]) = (0, held);
-        let refusal =
-            if by_rate { plain::book_rate(&clock, &b.0, &mut b.1, 1, 1, 950) } else { plain::book(&clock, &mut b.0, &b.1, 1, 1, 9) };
-        black_box((refusal, b.0[0], b.1[0]))
+        let (refusal, headroom) = match call {
+            OnSums::BySlots => (plain::book(&clock, &mut b.0, &b.1, 1, 1, 9), 0),
+            OnSums::ByRate => (plain::book_rate(&clock, &b.0, &mut b.1, 1, 1, 950), 0),
+            OnSums::Headroom => plain::headroom(&clock, &b.0, &b.1, 1, 1),
+        };
+        black_box((refusal, b.0[0], b.1[0], headroom))
     };
-    let expected = if by_rate { (0, 0, held + 950) } else { (0, 9, held) };
+    let booked = (held as u64 * 10_000).div_ceil(LINE as u64) as i64;
+    let expected = match call {
+        OnSums::BySlots => (0, 9, held, 0),
+        OnSums::ByRate => (0, 0, held + 950, 0),
+        OnSums::Headroom => (0, 0, held, 10_000 - (2 * n as i64 - 1) * booked),
+    };
     assert_eq!((by_library(), by_hand()), (expected, expected));
     nanoseconds(20_000, vec![Box::new(|| _ = by_library()), Box::new(|| _ = by_hand())])
 }

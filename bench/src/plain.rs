@@ -235,15 +235,28 @@ fn sum<'a>(clock: &Clock, slots: impl Iterator<Item = &'a u32>, rates: impl Iter
     }
 }
 
-/// The questions on the sums of row i and column j, with d more.
+/// The sum of row i, and of column j.
+#[inline(always)]
+fn row_sum(clock: &Clock, slots: &[u32], rates: &[u32], i: usize) -> u64 {
+    let n = clock[0] as usize;
+    let row = i * n..(i + 1) * n;
+    sum(clock, slots[row.clone()].iter(), rates[row].iter())
+}
+
+#[inline(always)]
+fn column_sum(clock: &Clock, slots: &[u32], rates: &[u32], j: usize) -> u64 {
+    let n = clock[0] as usize;
+    sum(clock, slots[j..n * n].iter().step_by(n), rates[j..n * n].iter().step_by(n))
+}
+
+/// The questions on these sums, with d more.
 #[inline(always)]
 fn sums_admit(clock: &Clock, slots: &[u32], rates: &[u32], (i, j): (usize, usize), d: u64) -> Result<(), u32> {
-    let (n, limit) = (clock[0] as usize, clock[1] as u64 + 1);
-    let row = i * n..(i + 1) * n;
-    if 2 * (sum(clock, slots[row.clone()].iter(), rates[row].iter()) + d) > limit {
+    let limit = clock[1] as u64 + 1;
+    if 2 * (row_sum(clock, slots, rates, i) + d) > limit {
         return Err(8);
     }
-    if 2 * (sum(clock, slots[j..n * n].iter().step_by(n), rates[j..n * n].iter().step_by(n)) + d) > limit {
+    if 2 * (column_sum(clock, slots, rates, j) + d) > limit {
         return Err(9);
     }
     Ok(())
@@ -277,4 +290,15 @@ pub fn book(clock: &Clock, slots: &mut [u32], rates: &[u32], input: u64, output:
 
 pub fn book_rate(clock: &Clock, slots: &[u32], rates: &mut [u32], input: u64, output: u64, rate: u64) -> u32 {
     try_book_rate(clock, slots, rates, input, output, rate).err().unwrap_or(0)
+}
+
+fn try_headroom(clock: &Clock, slots: &[u32], rates: &[u32], input: u64, output: u64) -> Result<i64, u32> {
+    let (i, j) = on_pair(clock, slots, rates, input, output)?;
+    let at = i * clock[0] as usize + j;
+    let taken = row_sum(clock, slots, rates, i) + column_sum(clock, slots, rates, j) - booking(clock, slots[at], rates[at]);
+    Ok(clock[1] as i64 - taken as i64)
+}
+
+pub fn headroom(clock: &Clock, slots: &[u32], rates: &[u32], input: u64, output: u64) -> (u32, i64) {
+    try_headroom(clock, slots, rates, input, output).map_or_else(|no| (no, 0), |number| (0, number))
 }
