@@ -5,9 +5,8 @@ use mathlib.Core.List.{List, [], _∷_, _++_}
 use Prim.Native.Nat.{ℕ, zero, suc}
 use lib.Dec.{eqb}
 use lib.IntN.{ℤ}
-use Rattle.wsgs.specs.Basics.{same-integer}
-use Rattle.wsgs.specs.Headroom.{headroom-result}
 use Rattle.wsgs.specs.Switch.{Switch, Call, final}
+use Rattle.wsgs.specs.Edges.{headroom-is}
 use Rattle.wsgs.specs.Ledger.{Ledger, ledger-of, slot-of-tick, begins-frame, reading, others, waited, served}
 
 -- of a pair in the frame that begins with slot first: a, m, b, and how often pass one serves it
@@ -55,10 +54,8 @@ pub data Told : Type 0 where
   told : (input output refusal : ℕ) → (number : ℤ) → Told
 
 unfoldable pub is-told : Switch → Told → Bool
-unfolding headroom-result
-is-told s (told i j r z) =
-    let h = headroom-result (s .clock) (s .book) i j in
-    eqb (h .refusal) r && same-integer (h .headroom) z
+unfolding headroom-is
+is-told s (told i j r z) = headroom-is s i j r z
 
 -- the number of the first headroom of a switch that is not as told, the first being k; 0 where all are
 unfoldable pub first-untold : ℕ → Switch → List Told → ℕ

@@ -1,4 +1,4 @@
--- Laws of places, sums, differences, amounts, pairs in reach and calls.
+-- Laws of places, sums, differences, pairs in reach, headroom, amounts and calls.
 pub mod Places
 pub mod Sums
 pub mod Differences

@@ -11,7 +11,7 @@ use lib.Signed.{_≤ℤ_, _<ℤ_, leZ-yes, clashℤ}
 use borrow.Author.Tests.{lt-ltb, le-ltb}
 use Rattle.wsgs.specs.declared.Clock.{Clock}
 use Rattle.wsgs.specs.Basics.{Port}
-use Rattle.wsgs.specs.Bookings.{row-sum, column-sum}
+use Rattle.wsgs.specs.Bookings.{bookings, row-sum, column-sum}
 use Rattle.wsgs.specs.Headroom.{headroom-over, pair-headroom, headroom-refusal, headroom-result}
 use Rattle.wsgs.specs.Switch.{Switch, Form, final}
 use Rattle.wsgs.specs.Ledger.{Ledger, booked, ledger-of}
@@ -89,20 +89,28 @@ module _ (m : Form) (l : Ledger) (h : Seen) (now : Switch) (t : Trace m l h now)
   told =
       rw (asked, t .clock) (headroom-ext (l .ports) (l .frame) _ _ i j pi pj (tells-bookings (ledger-clock l) (now .book) (l .slots) (l .rates) (t .tells)))
 
-  pub headroom-told : Headroom l (headroom-result c (now .book) i j) i j
+  -- the pair's booking is the ledger's too
+  booked-alike : bookings (c .ports) (c .frame) (c .line) (now .book) i j ≡ booked l i j
+  booked-alike = rw (t .clock) (tells-bookings (ledger-clock l) (now .book) (l .slots) (l .rates) (t .tells) i j pi pj)
+
+  abbrev a : ℕ
+  a = bookings (c .ports) (c .frame) (c .line) (now .book) i j
+
+  pub headroom-told : Headroom l (headroom-result c (now .book) i j) a i j
   unfolding headroom-result
   headroom-told =
       record {
         accepted = asked;
+        booking = booked-alike;
         number = told;
         of-booked = fits;
-        below-zero = λ z. go (decLe 1 (booked l i j)) z;
+        below-zero = λ z. go (decLe 1 a) z;
       }
     where
-      fits : 1 ≤ booked l i j → pos 0 ≤ℤ headroom-result c (now .book) i j .headroom
-      fits b = rw told (booked-fits (l .ports) (l .frame) (booked l) i j pj (t .bounded) pi b)
+      fits : 1 ≤ a → pos 0 ≤ℤ headroom-result c (now .book) i j .headroom
+      fits b = rw told (booked-fits (l .ports) (l .frame) (booked l) i j pj (t .bounded) pi (omega (arith, b, booked-alike)))
 
-      go : Dec (1 ≤ booked l i j) → headroom-result c (now .book) i j .headroom <ℤ pos 0 → booked l i j ≡ 0
+      go : Dec (1 ≤ a) → headroom-result c (now .book) i j .headroom <ℤ pos 0 → a ≡ 0
       go (yes b) z = clashℤ z (fits b)
       go (no b) z = omega arith
 
