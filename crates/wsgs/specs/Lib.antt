@@ -8,6 +8,7 @@ pub mod Steps
 pub mod Questions
 pub mod Book
 pub mod Headroom
+pub mod Preview
 pub mod Direct
 pub mod Pipelined
 pub mod Answers

@@ -44,6 +44,14 @@ pub struct HeadroomResult {
     pub headroom: i64,
 }
 
+// What a preview gives back: the refusal that the operation would get, 0 for none, and the sums of bookings that would follow, of the input's row
+// and of the output's column.
+pub struct PreviewResult {
+    pub refusal: u32,
+    pub row: u64,
+    pub column: u64,
+}
+
 // What a tick gives back: the refusal, 0 for none; the clock afterwards; the output of each input from 1 on, 0 for none; and a word whose bit
 // i - 1 tells that input i was served by pass one.
 pub struct TickResult {
