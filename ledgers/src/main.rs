@@ -5,8 +5,10 @@
 //! - `clock N F SLOT LINE` and `run NAME WORD ..`: the switch that the list finds, of any words, in runs for three ports;
 //! - `call REFUSAL CALL`: the calls in turn, written as crates/wsgs/specs/Switch.antt has them;
 //! - `claim I J FIRST A M B SERVED`: every pair in every frame since the last accepted start;
-//! - `headroom I J REFUSAL NUMBER`: every pair after the last call, and two that the switch has not.
+//! - `headroom I J REFUSAL NUMBER`: every pair after the last call, and two that the switch has not;
+//! - `preview OPERATION I J AMOUNT REFUSAL ROW COLUMN`: ten operations after the last call, of every kind.
 
+use second::book::Preview;
 use second::ledger::Ledger;
 use second::switch::{used, EVERY_RUN, MAX_FRAME, MAX_LINE_RATE, MAX_PACKETS, MAX_PORTS, MAX_QUEUE};
 use second::{Answer, Clock, Form, Rules, Run, Switch, Words};
@@ -42,6 +44,58 @@ impl Random {
     }
 }
 
+/// The operations on the book, named as crates/wsgs/specs/Preview.antt names them.
+#[derive(Clone, Copy)]
+enum Operation {
+    SlotsBooking,
+    RateBooking,
+    SlotsRelease,
+    RateRelease,
+}
+
+const OPERATIONS: [Operation; 4] = [Operation::SlotsBooking, Operation::RateBooking, Operation::SlotsRelease, Operation::RateRelease];
+
+impl fmt::Display for Operation {
+    fn fmt(&self, to: &mut fmt::Formatter) -> fmt::Result {
+        to.write_str(match self {
+            Operation::SlotsBooking => "slots-booking",
+            Operation::RateBooking => "rate-booking",
+            Operation::SlotsRelease => "slots-release",
+            Operation::RateRelease => "rate-release",
+        })
+    }
+}
+
+impl Operation {
+    /// The call that does it.
+    fn call(self, (input, output): (u64, u64), amount: u64) -> Call {
+        match self {
+            Operation::SlotsBooking => Call::Book { input, output, slots: amount },
+            Operation::RateBooking => Call::BookRate { input, output, rate: amount },
+            Operation::SlotsRelease => Call::Release { input, output, slots: amount },
+            Operation::RateRelease => Call::ReleaseRate { input, output, rate: amount },
+        }
+    }
+
+    /// What the second program shows of it.
+    fn preview(self, form: Form, s: &Switch, (input, output): (u64, u64), amount: u64) -> Preview {
+        match self {
+            Operation::SlotsBooking => s.preview_book(form, input, output, amount),
+            Operation::RateBooking => s.preview_book_rate(form, input, output, 0, amount),
+            Operation::SlotsRelease => s.preview_release(input, output, amount),
+            Operation::RateRelease => s.preview_release_rate(input, output, amount),
+        }
+    }
+
+    /// The most that question 6 lets through.
+    fn most(self, s: &Switch) -> u64 {
+        match self {
+            Operation::SlotsBooking | Operation::SlotsRelease => s.f(),
+            Operation::RateBooking | Operation::RateRelease => s.clock.line as u64,
+        }
+    }
+}
+
 #[derive(Clone, Copy)]
 enum Call {
     Start { form: Form, ports: u64, frame: u64, line: u64 },
@@ -50,6 +104,7 @@ enum Call {
     Release { input: u64, output: u64, slots: u64 },
     ReleaseRate { input: u64, output: u64, rate: u64 },
     Headroom { input: u64, output: u64 },
+    Preview { operation: Operation, pair: (u64, u64), amount: u64 },
     Arrive { input: u64, output: u64, packets: u64 },
     Tick { form: Form },
 }
@@ -70,6 +125,7 @@ impl fmt::Display for Call {
             Call::Release { input, output, slots } => write!(to, "release {input} {output} {slots}"),
             Call::ReleaseRate { input, output, rate } => write!(to, "release-rate {input} {output} {rate}"),
             Call::Headroom { input, output } => write!(to, "headroom {input} {output}"),
+            Call::Preview { operation, pair: (input, output), amount } => write!(to, "preview {operation} {input} {output} {amount}"),
             Call::Arrive { input, output, packets } => write!(to, "arrive {input} {output} {packets}"),
             Call::Tick { form } => write!(to, "tick {}", name(form)),
         }
@@ -98,6 +154,7 @@ impl List {
             Call::Release { input, output, slots } => number(s.release(input, output, slots)),
             Call::ReleaseRate { input, output, rate } => number(s.release_rate(input, output, rate)),
             Call::Headroom { input, output } => number(s.headroom(input, output).0),
+            Call::Preview { operation, pair, amount } => number(operation.preview(form, s, pair, amount).refusal),
             Call::Arrive { input, output, packets } => number(s.arrive(input, output, packets)),
             Call::Tick { form: Form::Direct } => s.tick_direct(),
             Call::Tick { form: Form::Pipelined } => s.tick_pipelined(),
@@ -111,7 +168,7 @@ impl List {
             (Call::BookRate { input, output, rate }, Some(l)) => l.book_rate(no, input, output, 0, rate),
             (Call::Release { input, output, slots }, Some(l)) => l.release(no, input, output, slots),
             (Call::ReleaseRate { input, output, rate }, Some(l)) => l.release_rate(no, input, output, rate),
-            (Call::Headroom { .. }, _) => (),
+            (Call::Headroom { .. } | Call::Preview { .. }, _) => (),
             (Call::Arrive { input, output, packets }, Some(l)) => l.arrive(no, input, output, packets),
             (Call::Tick { .. }, Some(l)) => l.tick(answer),
         }
@@ -138,21 +195,11 @@ impl List {
         self.put(Call::Start { form: self.form, ports, frame, line });
     }
 
-    fn book(&mut self) {
-        let (input, output, slots) = (self.port(), self.port(), self.slots());
-        self.put(Call::Book { input, output, slots });
-    }
-
     /// A rate of a third of a slot or more, or a little above, within the line rate.
     fn rate(&mut self) -> u64 {
         let (line, f) = (self.switch.clock.line as u64, self.switch.f());
         let thirds = self.random.of(&[1, 1, 1, 1, 2, 3]);
         (line * thirds / (3 * f) + self.random.of(&[0, 0, 1])).clamp(1, line.max(1))
-    }
-
-    fn book_rate(&mut self) {
-        let (input, output, rate) = (self.port(), self.port(), self.rate());
-        self.put(Call::BookRate { input, output, rate });
     }
 
     /// Several small rates on one pair, which share slots.
@@ -171,18 +218,30 @@ impl List {
         if holding.is_empty() || self.random.one_in(4) { (self.port(), self.port()) } else { self.random.of(&holding) }
     }
 
-    fn release(&mut self) {
-        let ((input, output), slots) = (self.pair(Run::Slots), self.slots());
-        self.put(Call::Release { input, output, slots });
+    /// A pair and an amount for an operation, mostly in range. A rate to release is a part of what the pair holds, all of it, or a little more.
+    fn drawn(&mut self, operation: Operation) -> ((u64, u64), u64) {
+        match operation {
+            Operation::SlotsBooking => ((self.port(), self.port()), self.slots()),
+            Operation::RateBooking => ((self.port(), self.port()), self.rate()),
+            Operation::SlotsRelease => (self.pair(Run::Slots), self.slots()),
+            Operation::RateRelease => {
+                let (input, output) = self.pair(Run::Rates);
+                let held = self.switch.words.rates[self.switch.at(input, output)] as u64;
+                let part = self.rate().min(held.max(1));
+                ((input, output), self.random.of(&[part, part, part, held.max(1), held + 1]))
+            }
+        }
     }
 
-    /// A part of what the pair holds, all of it, or a little more.
-    fn release_rate(&mut self) {
-        let (input, output) = self.pair(Run::Rates);
-        let held = self.switch.words.rates[self.switch.at(input, output)] as u64;
-        let part = self.rate().min(held.max(1));
-        let rate = self.random.of(&[part, part, part, held.max(1), held + 1]);
-        self.put(Call::ReleaseRate { input, output, rate });
+    fn operate(&mut self, operation: Operation) {
+        let (pair, amount) = self.drawn(operation);
+        self.put(operation.call(pair, amount));
+    }
+
+    fn preview(&mut self) {
+        let operation = self.random.of(&OPERATIONS);
+        let (pair, amount) = self.drawn(operation);
+        self.put(Call::Preview { operation, pair, amount });
     }
 
     fn headroom(&mut self) {
@@ -204,7 +263,9 @@ impl List {
         let far = r.of(&[0, n + 1, (1 << 32) + 1]);
         let (i, j) = r.of(&[(input, far), (far, output)]);
         let short = if form == Form::Pipelined { n - 1 } else { 0 };
-        let call = match r.within(0, 14) {
+        let operation = r.of(&OPERATIONS);
+        let (most, pair) = (operation.most(&self.switch), (input, output));
+        let call = match r.within(0, 16) {
             0 => Call::Start { form, ports: r.of(&[0, MAX_PORTS + 1]), frame: f, line },
             1 => Call::Start { form, ports: n, frame: r.of(&[0, short, short, MAX_FRAME + 1]), line },
             2 => Call::Start { form, ports: r.within(MOST_PORTS + 1, MAX_PORTS), frame: MAX_PORTS, line },
@@ -219,6 +280,8 @@ impl List {
             11 => Call::ReleaseRate { input, output, rate: r.of(&[0, line + 1]) },
             12 => Call::Arrive { input: i, output: j, packets: 1 },
             13 => Call::Headroom { input: i, output: j },
+            14 => Call::Preview { operation, pair: (i, j), amount: 1 },
+            15 => Call::Preview { operation, pair, amount: r.of(&[0, most + 1]) },
             _ => Call::Arrive { input, output, packets: r.of(&[0, MAX_PACKETS + 1, MAX_PACKETS + 1]) },
         };
         self.put(call);
@@ -241,9 +304,9 @@ impl List {
         let most = self.random.of(&[2, 5, 12, 90]);
         for _ in 0..self.random.within(self.switch.n(), pairs) {
             match self.random.within(1, 4) {
-                1 => self.book_rate(),
+                1 => self.operate(Operation::RateBooking),
                 2 | 3 => self.streams(),
-                _ => self.book(),
+                _ => self.operate(Operation::SlotsBooking),
             }
         }
         if self.random.one_in(12) {
@@ -254,20 +317,40 @@ impl List {
         }
         let mut run = 0;
         while run < ticks {
-            match self.random.within(1, 28) {
-                1 => self.book(),
-                2 => self.book_rate(),
-                3 => self.release(),
-                4..=6 => self.release_rate(),
-                7 | 8 => self.out_of_range(),
-                9..=12 => self.arrive(most),
-                13 => self.headroom(),
+            match self.random.within(1, 32) {
+                1 | 2 => self.operate(Operation::SlotsBooking),
+                3 | 4 => self.operate(Operation::RateBooking),
+                5 => self.operate(Operation::SlotsRelease),
+                6 | 7 => self.operate(Operation::RateRelease),
+                8 | 9 => self.out_of_range(),
+                10..=13 => self.arrive(most),
+                14 => self.headroom(),
+                15 | 16 => self.preview(),
                 _ => {
                     self.put(Call::Tick { form: self.form });
                     run += 1;
                 }
             }
         }
+    }
+
+    /// What is previewed after the last call: each operation as it is drawn for a call, and with up to half of the largest amount; and two with a
+    /// pair or an amount out of range.
+    fn previewed(&mut self) -> Vec<(Operation, (u64, u64), u64)> {
+        let mut all = Vec::new();
+        for operation in OPERATIONS {
+            let (pair, amount) = self.drawn(operation);
+            all.push((operation, pair, amount));
+            let (pair, most) = (self.drawn(operation).0, operation.most(&self.switch).div_ceil(2));
+            all.push((operation, pair, self.random.within(1, most.max(1))));
+        }
+        let (operation, (input, output)) = (self.random.of(&OPERATIONS), (self.port(), self.port()));
+        let far = self.random.of(&[0, self.switch.n() + 1, (1 << 32) + 1]);
+        all.push((operation, self.random.of(&[(input, far), (far, output)]), 1));
+        let operation = self.random.of(&OPERATIONS);
+        let amount = self.random.of(&[0, operation.most(&self.switch) + 1]);
+        all.push((operation, (input, output), amount));
+        all
     }
 }
 
@@ -306,6 +389,7 @@ fn main() {
     }
     let ticks = list.random.within(10, 24);
     list.part(ticks);
+    let previewed = list.previewed();
     let not_there = [(list.switch.n() + 1, 1), (1, list.random.of(&[0, (1 << 32) + 1]))];
     for (call, refusal) in list.calls {
         println!("call {refusal} {call}");
@@ -316,5 +400,9 @@ fn main() {
     for (input, output) in list.switch.pairs().into_iter().chain(not_there) {
         let (refusal, number) = list.switch.headroom(input, output);
         println!("headroom {input} {output} {refusal} {number}");
+    }
+    for (operation, pair, amount) in previewed {
+        let Preview { refusal, row, column } = operation.preview(form, &list.switch, pair, amount);
+        println!("preview {operation} {} {} {amount} {refusal} {row} {column}", pair.0, pair.1);
     }
 }

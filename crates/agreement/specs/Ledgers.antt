@@ -1,12 +1,13 @@
--- What the ledger of a list of calls says of every pair in every frame, in numbers, and what headroom the pairs have after the list; and where
--- another hand's numbers differ. Assumes nothing.
+-- What the ledger of a list of calls says of every pair in every frame, in numbers, what headroom the pairs have after the list, and what
+-- previews show after it; and where another hand's numbers differ. Assumes nothing.
 use mathlib.Core.Bool.{Bool, true, false, _&&_}
 use mathlib.Core.List.{List, [], _∷_, _++_}
 use Prim.Native.Nat.{ℕ, zero, suc}
 use lib.Dec.{eqb}
 use lib.IntN.{ℤ}
+use Rattle.wsgs.specs.Preview.{BookOperation}
 use Rattle.wsgs.specs.Switch.{Switch, Call, final}
-use Rattle.wsgs.specs.Edges.{headroom-is}
+use Rattle.wsgs.specs.Edges.{headroom-is, preview-is}
 use Rattle.wsgs.specs.Ledger.{Ledger, ledger-of, slot-of-tick, begins-frame, reading, others, waited, served}
 
 -- of a pair in the frame that begins with slot first: a, m, b, and how often pass one serves it
@@ -63,12 +64,27 @@ unfolding is-told
 first-untold k s [] = 0
 first-untold k s (t ∷ ts) = elim (is-told s t) [ true ↦ first-untold (suc k) s ts | false ↦ k ]
 
--- a list of calls on a switch, and what another hand has of it: the claims, and headrooms of the switch that it leaves
+-- what the preview of an operation shows: its refusal, and the sums of row and column
+pub data Showing : Type 0 where
+  showing : BookOperation → (input output amount refusal row column : ℕ) → Showing
+
+unfoldable pub is-shown : Switch → Showing → Bool
+unfolding preview-is
+is-shown s (showing o i j d r row column) = preview-is s o i j d r row column
+
+-- the number of the first preview on a switch that does not show this, the first being k; 0 where all do
+unfoldable pub first-unshown : ℕ → Switch → List Showing → ℕ
+unfolding is-shown
+first-unshown k s [] = 0
+first-unshown k s (p ∷ ps) = elim (is-shown s p) [ true ↦ first-unshown (suc k) s ps | false ↦ k ]
+
+-- a list of calls on a switch, and what another hand has of it: the claims, and headrooms and previews of the switch that it leaves
 pub record Case : Type 0 where
   pub switch : Switch
   pub calls : List Call
   pub expected : List Claim
   pub headrooms : List Told
+  pub previews : List Showing
 
 -- the number of the first claim that is not as the ledger of the calls has it; 0 where all are
 unfoldable pub first-wrong : Case → ℕ
@@ -79,3 +95,8 @@ first-wrong c = first-difference 1 (claims (ledger-of (c .calls) (c .switch))) (
 unfoldable pub first-wrong-headroom : Case → ℕ
 unfolding first-untold final
 first-wrong-headroom c = first-untold 1 (final (c .calls) (c .switch)) (c .headrooms)
+
+-- the number of the first preview that is not as the definition has it after the calls; 0 where all are
+unfoldable pub first-wrong-preview : Case → ℕ
+unfolding first-unshown final
+first-wrong-preview c = first-unshown 1 (final (c .calls) (c .switch)) (c .previews)
