@@ -15,6 +15,7 @@ use lib.Pow.{pow-mono}
 use Rattle.wsgs.specs.declared.Clock.{Clock}
 use Rattle.wsgs.specs.declared.StartResult.{StartResult}
 use Rattle.wsgs.specs.declared.HeadroomResult.{HeadroomResult}
+use Rattle.wsgs.specs.declared.PreviewResult.{PreviewResult}
 use Rattle.wsgs.specs.declared.TickResult.{TickResult}
 use Rattle.wsgs.specs.Basics.{pick, bit, between, Port}
 use Rattle.wsgs.specs.Steps.{Matching, empty-matching, nine-steps, listed, outputs-of, pass-word-of}
@@ -22,10 +23,12 @@ use Rattle.wsgs.specs.Questions.{Outcome, Effect, refused, clock-can-adv
 use Rattle.wsgs.specs.Bookings.{Book}
 use Rattle.wsgs.specs.Book.{book-effect, rate-effect, release-effect, release-rate-effect, arrive-effect}
 use Rattle.wsgs.specs.Headroom.{headroom-result}
+use Rattle.wsgs.specs.Preview
+use Rattle.wsgs.specs.Preview.{BookOperation}
 use Rattle.wsgs.specs.Direct
 use Rattle.wsgs.specs.Pipelined
 use Rattle.wsgs.specs.Answers.{start-effect, tick-effect, start-outcome, tick-outcome, matching-of}
-use Rattle.wsgs.specs.Switch.{Switch, direct, pipelined, start, book, book-rate, release, release-rate, headroom, arrive, tick, apply, direct-runs, pipelined-runs, of-direct, of-pipelined, of-asking, of-book, of-queues}
+use Rattle.wsgs.specs.Switch.{Switch, direct, pipelined, start, book, book-rate, release, release-rate, headroom, preview, arrive, tick, apply, direct-runs, pipelined-runs, of-direct, of-pipelined, of-asking, of-book, of-queues}
 use Rattle.wsgs.proofs.Laws.Tests.{between-port}
 use Rattle.wsgs.proofs.Laws.Listed.{listed-length, listed-at}
 use Rattle.wsgs.proofs.Laws.Marked.{marked-lt, marked-bit}
@@ -187,6 +190,12 @@ module _ (s : Switch) where
       → of-asking s (e .refusal) ≡ apply (headroom i j) s
   unfolding apply headroom-result
   asks-headroom i j e h = ap (λ r. of-asking s (r .refusal)) h
+
+  -- the previews of `book`
+  pub asks-preview : (o : BookOperation) (i j d : ℕ) (e : PreviewResult) → e ≡ Preview.preview o (s .clock) (s .book) i j d
+      → of-asking s (e .refusal) ≡ apply (preview o i j d) s
+  unfolding apply
+  asks-preview o i j d e h = ap (λ r. of-asking s (r .refusal)) h
 
   -- `book::arrive`
   pub arrives : (i j d : ℕ) (e : Effect ℕ (List ℕ)) → e ≡ arrive-effect (s .clock) (s .queues) i j d → of-queues s e ≡ apply (arrive i j d) s

@@ -1,19 +1,17 @@
--- What an accepted booking leaves: no word overflows, since question 8 keeps every booking to half a frame, rounded up; and the pair's booking has
--- risen by just what the booking counted as. Assumes nothing.
-use mathlib.Core.Path.{_≡_, refl}
+-- What an accepted operation on the book leaves. After a booking no word overflows, since question 8 keeps every booking to half a frame, rounded up,
+-- and the pair's booking has risen by just what it counted as; after a release it is that of what is left. Assumes nothing.
+use mathlib.Core.Path.{_≡_, sym}
 use Prim.Native.Nat.{ℕ, _+_, _-_, _*_, _≤_}
 use native.Mathlib.Omega.{arith}
 use Rattle.wsgs.specs.declared.Clock.{Clock}
-use Rattle.wsgs.specs.Basics.{pick, Port, updated₂}
+use Rattle.wsgs.specs.Basics.{Port, updated₂}
 use Rattle.wsgs.specs.Words.{word}
 use Rattle.wsgs.specs.Bookings.{Book, booking, bookings, row-sum}
-use Rattle.wsgs.specs.Book.{rise, book-refusal, book-words, rate-refusal, rate-words}
+use Rattle.wsgs.specs.Book.{book-refusal, book-words, rise, rate-refusal, rate-words, release-refusal, release-words, release-rate-refusal, release-rate-words}
 use Rattle.wsgs.specs.Claims.{Admitted}
-use Rattle.wsgs.proofs.Laws.Tests.{at-pair}
 use Rattle.wsgs.proofs.Laws.Sums.{sum-parts}
-use Rattle.wsgs.proofs.Laws.Words.{word-put}
-use Rattle.wsgs.proofs.Laws.Bookings.{booking-mono, booking-whole, rate-small}
-use Rattle.wsgs.proofs.Refusals.{book-asks, rate-asks}
+use Rattle.wsgs.proofs.Laws.Bookings.{booking-mono, booking-whole, rate-small, slots-moved, rates-moved}
+use Rattle.wsgs.proofs.Refusals.{book-asks, rate-asks, release-asked, release-rate-asked}
 use Rattle.wsgs.proofs.Admission.{held}
 
 module _ (c : Clock) (m : Book) (i j : ℕ) where
@@ -69,25 +67,30 @@ module _ (c : Clock) (m : Book) (i j : ℕ) where
       let a = book-asks c m i j d .0 e .1 in
       let q = a .reach in
       let p = part d a in
-      let long = held n m (q .long) .0 in
       let w = booking-whole f line slots rate (omega (arith, p, q .frame)) in
       let sum : booking f line (slots + d) rate ≡ booking f line slots rate + d = unfold booking in omega (arith, w, slots-fit d a, p, q .frame) in
-      rw (e, word-put n (m .slots) long i j (q .input) (q .output) (slots + d) x y px py)
-      (at-pair (λ z. booking f line (pick z (slots + d) (word n (m .slots) x y)) (word n (m .rates) x y)
-      ≡ pick z (booking f line slots rate + d) (booking f line (word n (m .slots) x y) (word n (m .rates) x y))) i j x y
-      (λ u v. rw (u, v) sum) (λ u. refl))
+      rw (e, sym sum) (slots-moved n f line m i j (q .input) (q .output) (held n m (q .long) .0) (slots + d) x y px py)
 
   pub rate-raises : (r : ℕ) → rate-refusal c m i j r ≡ 0 → (x y : ℕ) → Port n x → Port n y
       → bookings n f line (rate-words c m i j r) x y ≡ updated₂ (bookings n f line m) i j (bookings n f line m i j + rise c m i j r) x y
   unfolding rate-words bookings rise
   rate-raises r e x y px py =
-      let a = rate-asks c m i j r .0 e .1 in
-      let q = a .reach in
-      let long = held n m (q .long) .1 in
+      let q = rate-asks c m i j r .0 e .1 .reach in
       let sum : booking f line slots (rate + r) ≡ booking f line slots rate + (booking f line slots (rate + r) - booking f line slots rate) =
       omega (arith, booking-mono f line slots slots rate (rate + r) (omega arith) (omega arith)) in
-      rw (e, word-put n (m .rates) long i j (q .input) (q .output) (rate + r) x y px py)
-      (at-pair (λ z. booking f line (word n (m .slots) x y) (pick z (rate + r) (word n (m .rates) x y))
-      ≡ pick z (booking f line slots rate + (booking f line slots (rate + r) - booking f line slots rate))
-      (booking f line (word n (m .slots) x y) (word n (m .rates) x y))) i j x y
-      (λ u v. rw (u, v) sum) (λ u. refl))
+      rw (e, sym sum) (rates-moved n f line m i j (q .input) (q .output) (held n m (q .long) .1) (rate + r) x y px py)
+
+  -- an accepted release leaves the pair the booking of what is left, and the others theirs
+  pub slots-lower : (d : ℕ) → release-refusal c m i j d ≡ 0 → (x y : ℕ) → Port n x → Port n y
+      → bookings n f line (release-words c m i j d) x y ≡ updated₂ (bookings n f line m) i j (booking f line (slots - d) rate) x y
+  unfolding release-words
+  slots-lower d e x y px py =
+      let q = release-asked c m i j d e in
+      rw e (slots-moved n f line m i j (q .input) (q .output) (held n m (q .long) .0) (slots - d) x y px py)
+
+  pub rate-lowers : (r : ℕ) → release-rate-refusal c m i j r ≡ 0 → (x y : ℕ) → Port n x → Port n y
+      → bookings n f line (release-rate-words c m i j r) x y ≡ updated₂ (bookings n f line m) i j (booking f line slots (rate - r)) x y
+  unfolding release-rate-words
+  rate-lowers r e x y px py =
+      let q = release-rate-asked c m i j r e in
+      rw e (rates-moved n f line m i j (q .input) (q .output) (held n m (q .long) .1) (rate - r) x y px py)

@@ -32,6 +32,9 @@ counts-as rate-release c m i j r = 0
 unfoldable pub shown : (refusal afterwards asked-about : ℕ) → ℕ
 shown r afterwards asked-about = pick (eqb r 0) afterwards (pick (between 8 9 r) asked-about 0)
 
+abbrev pub preview-of : (refusal row column : ℕ) → PreviewResult
+preview-of r row column = record { refusal = r; row = row; column = column }
+
 -- the operation is done on a copy of the book: its number, and the sums of what the copy then holds
 unfoldable pub preview : BookOperation → Clock → Book → (input output amount : ℕ) → PreviewResult
 unfolding operation-effect counts-as shown
@@ -41,8 +44,5 @@ preview o c m i j d =
     let present = bookings n (c .frame) (c .line) m in
     let afterwards = bookings n (c .frame) (c .line) (copy .words) in
     let more = counts-as o c m i j d in
-    record {
-      refusal = copy .answer;
-      row = shown (copy .answer) (row-sum n afterwards i) (row-sum n present i + more);
-      column = shown (copy .answer) (column-sum n afterwards j) (column-sum n present j + more);
-    }
+    preview-of (copy .answer) (shown (copy .answer) (row-sum n afterwards i) (row-sum n present i + more))
+    (shown (copy .answer) (column-sum n afterwards j) (column-sum n present j + more))

@@ -1,4 +1,5 @@
--- Laws of bookings: as words; that they rise and fall with slots and rates; and what a few slots hold. Assumes nothing.
+-- Laws of bookings: as words; that they rise and fall with slots and rates; what a few slots hold; and a book of which one word changes. Assumes
+-- nothing.
 use mathlib.Core.Path.{_≡_, refl}
 use mathlib.Core.List.{List, [], _∷_}
 use Prim.Native.Nat.{ℕ, zero, suc, _+_, _-_, _*_, _/_, min, _≤_, _<_}
@@ -8,10 +9,12 @@ use native.Mathlib.Decide.{ℕ-discrete}
 use lib.Dec.{eqb}
 use lib.ListN.{length, getD}
 use borrow.Author.Tests.{eq-eqb, ne-eqb}
-use Rattle.wsgs.specs.Basics.{pick, Port}
+use Rattle.wsgs.specs.Basics.{pick, Port, updated₂}
 use Rattle.wsgs.specs.Words.{place, word}
 use Rattle.wsgs.specs.Bookings.{Book, rate-slots, booking, bookings, booking-words}
-use Rattle.wsgs.proofs.Laws.Words.{place-inside}
+use Rattle.wsgs.specs.Book.{with-slots, with-rate}
+use Rattle.wsgs.proofs.Laws.Tests.{at-pair}
+use Rattle.wsgs.proofs.Laws.Words.{place-inside, word-put}
 
 -- AS WORDS
 module _ (f b : ℕ) where
@@ -91,3 +94,30 @@ module _ (f b : ℕ) where
   pub booking-whole : (s r : ℕ) → booking f b s r < 4294967295 → booking f b s r ≡ s + rate-slots f b r
   unfolding booking
   booking-whole s r h = omega arith
+
+-- ANOTHER NUMBER OF SLOTS, or another rate, for a pair changes its booking alone
+module _ (f b : ℕ) (s r : ℕ → ℕ → ℕ) (i j v x y : ℕ) where
+  abbrev told : ℕ → ℕ → ℕ
+  told p q = booking f b (s p q) (r p q)
+
+  pub slots-changed : booking f b (updated₂ s i j v x y) (r x y) ≡ updated₂ told i j (booking f b v (r i j)) x y
+  slots-changed =
+      at-pair (λ z. booking f b (pick z v (s x y)) (r x y) ≡ pick z (booking f b v (r i j)) (told x y)) i j x y (λ e d. rw (e, d)) (λ d. refl)
+
+  pub rates-changed : booking f b (s x y) (updated₂ r i j v x y) ≡ updated₂ told i j (booking f b (s i j) v) x y
+  rates-changed =
+      at-pair (λ z. booking f b (s x y) (pick z v (r x y)) ≡ pick z (booking f b (s i j) v) (told x y)) i j x y (λ e d. rw (e, d)) (λ d. refl)
+
+-- so it is with a word of the book
+module _ (n f b : ℕ) (m : Book) (i j : ℕ) (pi : Port n i) (pj : Port n j) where
+  pub slots-moved : n * n ≤ length (m .slots) → (v x y : ℕ) → Port n x → Port n y
+      → bookings n f b (with-slots n m i j v) x y ≡ updated₂ (bookings n f b m) i j (booking f b v (word n (m .rates) i j)) x y
+  unfolding bookings
+  slots-moved long v x y px py =
+      rw (word-put n (m .slots) long i j pi pj v x y px py) (slots-changed f b (word n (m .slots)) (word n (m .rates)) i j v x y)
+
+  pub rates-moved : n * n ≤ length (m .rates) → (v x y : ℕ) → Port n x → Port n y
+      → bookings n f b (with-rate n m i j v) x y ≡ updated₂ (bookings n f b m) i j (booking f b (word n (m .slots) i j) v) x y
+  unfolding bookings
+  rates-moved long v x y px py =
+      rw (word-put n (m .rates) long i j pi pj v x y px py) (rates-changed f b (word n (m .slots)) (word n (m .rates)) i j v x y)

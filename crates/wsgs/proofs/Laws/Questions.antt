@@ -3,7 +3,7 @@
 use mathlib.Core.Path.{_≡_, refl, _∙_}
 use mathlib.Core.Bool.{Bool, true, false}
 use mathlib.Core.List.{List, [], _∷_, _++_}
-use mathlib.Core.Logic.{_≢_}
+use mathlib.Core.Logic.{_≢_, _⊎_, inl, inr}
 use Prim.Native.Nat.{ℕ, _*_, _≤_, _<_}
 use native.Mathlib.Omega.{arith}
 use lib.Dec.{T, leb, leb→le}
@@ -77,6 +77,23 @@ some-no (q ∷ qs) rs r e h = go (q .yes) e (λ d. some-no qs rs r d h)
         → r ≡ pick b (first-no (qs ++ rs)) (q .number)
     go true e h = h e
     go false e h = e
+
+-- all numbers are at most k
+abbrev pub UpTo : ℕ → List Question → Type 0
+UpTo k [] = Unit {0}
+UpTo k (q ∷ qs) = (q .number ≤ k) × UpTo k qs
+
+-- so no number, or one above k, says that all are answered yes, whatever follows
+pub passed : (k : ℕ) (qs rs : List Question) → UpTo k qs → Numbered qs → (first-no (qs ++ rs) ≡ 0) ⊎ (k < first-no (qs ++ rs)) → first-no qs ≡ 0
+unfolding first-no
+passed k [] rs u p h = refl
+passed k (q ∷ qs) rs u p h = go (q .yes) h (passed k qs rs (u .1) (p .1))
+  where
+    go : (b : Bool) → (pick b (first-no (qs ++ rs)) (q .number) ≡ 0) ⊎ (k < pick b (first-no (qs ++ rs)) (q .number))
+        → ((first-no (qs ++ rs) ≡ 0) ⊎ (k < first-no (qs ++ rs)) → first-no qs ≡ 0) → pick b (first-no qs) (q .number) ≡ 0
+    go true h r = r h
+    go false (inl e) r = e
+    go false (inr l) r = absurd (omega (arith, u .0))
 
 -- the question on the clock
 pub clock-stands : (slot : ℕ) → 4000000000 ≤ slot → 7 ≡ first-no (clock-can-advance slot ∷ [])
