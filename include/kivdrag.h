@@ -15,7 +15,7 @@
  *
  * There are two forms, and a switch is of one of them from its start on. The direct form schedules each slot in the
  * tick that runs it. The pipelined form spreads the turns for a slot over the 2N ticks before it, one of each pass
- * for each input in each tick. Bookings, releases, headroom and arrivals are the same calls for both.
+ * for each input in each tick. Bookings, releases, headroom, previews and arrivals are the same calls for both.
  *
  * BOOKINGS. A pair books by slots or by rate, and may do both. The line rate B, what a line carries when all its slots
  * are used, is given at the start; it and all rates are in kbit/s. A pair's booking, in slots of each frame, is
@@ -50,13 +50,14 @@
  *
  * What the caller must see to, as no call can ask for it: every pointer is to memory that is there in its whole
  * length and is aligned for its type, and none is a null pointer, not even where a length is 0; no two arguments of a
- * call overlap, clock, headroom, outputs and first_pass included; and no other thread uses the same memory during a
- * call.
+ * call overlap, clock, headroom, row, column, outputs and first_pass included; and no other thread uses the same memory
+ * during a call.
  * Nothing else has to be checked before a call: every number may have any value.
  *
  * REFUSALS. Every call returns 0 if it is accepted, and otherwise the number of the first of these questions, among
  * those that the call has, whose answer is no. After a refused call every lent word has the value that it had before
- * (a start or a tick may have stored it anew); only the answer of a tick is set, to all zeros, and a headroom, to 0.
+ * (a start or a tick may have stored it anew); only the answer of a tick is set, to all zeros, a headroom, to 0, and
+ * the two sums of a preview, to 0 unless the refusal is 8 or 9.
  */
 #ifndef KIVDRAG_H
 #define KIVDRAG_H
@@ -189,6 +190,69 @@ uint32_t kivdrag_release_rate(const uint32_t clock[4], const uint32_t *slots, si
 uint32_t kivdrag_headroom(const uint32_t clock[4], const uint32_t *slots, size_t slots_length,
                           const uint32_t *rates, size_t rates_length,
                           uint64_t input, uint64_t output, int64_t *headroom);
+
+/*
+ * PREVIEWS. Each of the next four calls tells what a booking or a release would do, and does not do it. It has the
+ * questions of that operation, and returns the number that the operation would return. Where no other call on the same
+ * memory comes between the two, a preview that returns 0 is followed by an operation that is accepted, and a preview
+ * that returns another number by one that is refused with that number.
+ *
+ * Sets *row and *column, in every call, and writes nothing else:
+ *
+ *   where 0 is returned       the sum of the input's bookings, and of the output's, as the operation would leave them;
+ *   where 8 or 9 is returned  the present sums with d more, which questions 8 and 9 ask about; both, even with 8;
+ *   otherwise                 0 and 0.
+ *
+ * The sums are exact, whatever the words hold. With F = 3, where a pair has 1 slot booked and nothing else is booked,
+ * booking 1 more would return 0, with sums of 2 and 2; booking 2 more would return 8, with sums of 3 and 3.
+ */
+
+/*
+ * Previews kivdrag_book.
+ *
+ * input and output are 1 to N; amount is 1 to F. slots and rates have N * N words or more.
+ * Refusals: 1, 2 (the clock's ports or frame), 4 (a run is too short), 5 (input or output), 6 (amount), 8 (the
+ * input's sum), 9 (the output's sum); d is amount.
+ */
+uint32_t kivdrag_preview_book(const uint32_t clock[4], const uint32_t *slots, size_t slots_length,
+                              const uint32_t *rates, size_t rates_length,
+                              uint64_t input, uint64_t output, uint64_t amount, uint64_t *row, uint64_t *column);
+
+/*
+ * Previews kivdrag_book_rate.
+ *
+ * input and output are 1 to N; the clock's line rate B is 1 to 100,000,000, and rate is 1 to B. slots and rates have
+ * N * N words or more.
+ * Refusals: 1, 2 (the clock's ports or frame), 4 (a run is too short), 5 (input or output), 6 (B or rate), 8 (the
+ * input's sum), 9 (the output's sum); d is the rise of the pair's booking, which may be 0.
+ */
+uint32_t kivdrag_preview_book_rate(const uint32_t clock[4], const uint32_t *slots, size_t slots_length,
+                                   const uint32_t *rates, size_t rates_length,
+                                   uint64_t input, uint64_t output, uint64_t rate, uint64_t *row, uint64_t *column);
+
+/*
+ * Previews kivdrag_release.
+ *
+ * input and output are 1 to N; amount is 1 to F, and at most the pair's word of slots. slots and rates have N * N words
+ * or more.
+ * Refusals: 1, 2 (the clock's ports or frame), 4 (a run is too short), 5 (input or output), 6 (amount), 10 (the pair
+ * holds fewer slots).
+ */
+uint32_t kivdrag_preview_release(const uint32_t clock[4], const uint32_t *slots, size_t slots_length,
+                                 const uint32_t *rates, size_t rates_length,
+                                 uint64_t input, uint64_t output, uint64_t amount, uint64_t *row, uint64_t *column);
+
+/*
+ * Previews kivdrag_release_rate.
+ *
+ * input and output are 1 to N; the clock's line rate B is 1 to 100,000,000, and rate is 1 to B, and at most the pair's
+ * word of rates. slots and rates have N * N words or more.
+ * Refusals: 1, 2 (the clock's ports or frame), 4 (a run is too short), 5 (input or output), 6 (B or rate), 10 (the pair
+ * holds less rate).
+ */
+uint32_t kivdrag_preview_release_rate(const uint32_t clock[4], const uint32_t *slots, size_t slots_length,
+                                      const uint32_t *rates, size_t rates_length,
+                                      uint64_t input, uint64_t output, uint64_t rate, uint64_t *row, uint64_t *column);
 
 /*
  * Adds packets that arrived at an input for an output to the pair's queue.
