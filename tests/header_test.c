@@ -42,6 +42,8 @@ typedef uint32_t OnSlots(const uint32_t *, uint32_t *, size_t, const uint32_t *,
 typedef uint32_t OnRates(const uint32_t *, const uint32_t *, size_t, uint32_t *, size_t, uint64_t, uint64_t, uint64_t);
 typedef uint32_t Headroom(const uint32_t *, const uint32_t *, size_t, const uint32_t *, size_t, uint64_t, uint64_t,
                           int64_t *);
+typedef uint32_t Preview(const uint32_t *, const uint32_t *, size_t, const uint32_t *, size_t, uint64_t, uint64_t,
+                         uint64_t, uint64_t *, uint64_t *);
 typedef uint32_t OnQueues(const uint32_t *, uint32_t *, size_t, uint64_t, uint64_t, uint64_t);
 typedef uint32_t TickDirect(uint32_t *, const uint32_t *, size_t, const uint32_t *, size_t, uint32_t *, size_t,
                             uint32_t *, size_t, uint8_t *, uint32_t *);
@@ -55,6 +57,10 @@ static OnRates *const p_book_rate = kivdrag_book_rate;
 static OnSlots *const p_release = kivdrag_release;
 static OnRates *const p_release_rate = kivdrag_release_rate;
 static Headroom *const p_headroom = kivdrag_headroom;
+static Preview *const p_preview_book = kivdrag_preview_book;
+static Preview *const p_preview_book_rate = kivdrag_preview_book_rate;
+static Preview *const p_preview_release = kivdrag_preview_release;
+static Preview *const p_preview_release_rate = kivdrag_preview_release_rate;
 static OnQueues *const p_arrive = kivdrag_arrive;
 static TickDirect *const p_tick_direct = kivdrag_tick_direct;
 static TickPipelined *const p_tick_pipelined = kivdrag_tick_pipelined;
@@ -68,11 +74,19 @@ typedef enum {
     RELEASE,
     RELEASE_RATE,
     HEADROOM,
+    PREVIEW_BOOK,
+    PREVIEW_BOOK_RATE,
+    PREVIEW_RELEASE,
+    PREVIEW_RELEASE_RATE,
     ARRIVE,
     TICK_DIRECT,
     TICK_PIPELINED,
     FUNCTIONS
 } Function;
+
+static_assert(BOOK_RATE - BOOK == 1 && RELEASE - BOOK == 2 && RELEASE_RATE - BOOK == 3, "operations in a row");
+static_assert(PREVIEW_BOOK_RATE - PREVIEW_BOOK == 1 && PREVIEW_RELEASE - PREVIEW_BOOK == 2
+              && PREVIEW_RELEASE_RATE - PREVIEW_BOOK == 3, "previews in the order of their operations");
 
 #define BIT(number) (1u << (number))
 #define ON_PAIR                                                                                                        \
@@ -92,6 +106,10 @@ static const struct {
     {"kivdrag_release", ON_PAIR | BIT(KIVDRAG_REFUSED_RELEASE)},
     {"kivdrag_release_rate", ON_PAIR | BIT(KIVDRAG_REFUSED_RELEASE)},
     {"kivdrag_headroom", ON_SWITCH | BIT(KIVDRAG_REFUSED_PAIR)},
+    {"kivdrag_preview_book", ON_PAIR | BIT(KIVDRAG_REFUSED_INPUT) | BIT(KIVDRAG_REFUSED_OUTPUT)},
+    {"kivdrag_preview_book_rate", ON_PAIR | BIT(KIVDRAG_REFUSED_INPUT) | BIT(KIVDRAG_REFUSED_OUTPUT)},
+    {"kivdrag_preview_release", ON_PAIR | BIT(KIVDRAG_REFUSED_RELEASE)},
+    {"kivdrag_preview_release_rate", ON_PAIR | BIT(KIVDRAG_REFUSED_RELEASE)},
     {"kivdrag_arrive", ON_PAIR | BIT(KIVDRAG_REFUSED_QUEUE)},
     {"kivdrag_tick_direct", ON_SWITCH | BIT(KIVDRAG_REFUSED_CLOCK)},
     {"kivdrag_tick_pipelined", ON_SWITCH | BIT(KIVDRAG_REFUSED_PIPELINE) | BIT(KIVDRAG_REFUSED_CLOCK)},
@@ -115,6 +133,7 @@ typedef struct {
     uint8_t outputs[KIVDRAG_PORTS_MAX];
     uint32_t first_pass;
     int64_t headroom;
+    uint64_t row, column;
 } Memory;
 
 static Memory is, should;
@@ -149,6 +168,18 @@ static uint32_t by_position(Function called, const Numbers *n) {
     case HEADROOM:
         return p_headroom(is.clock, is.slots, lengths.slots, is.rates, lengths.rates, n->input, n->output,
                           &is.headroom);
+    case PREVIEW_BOOK:
+        return p_preview_book(is.clock, is.slots, lengths.slots, is.rates, lengths.rates,
+                              n->input, n->output, n->amount, &is.row, &is.column);
+    case PREVIEW_BOOK_RATE:
+        return p_preview_book_rate(is.clock, is.slots, lengths.slots, is.rates, lengths.rates,
+                                   n->input, n->output, n->rate, &is.row, &is.column);
+    case PREVIEW_RELEASE:
+        return p_preview_release(is.clock, is.slots, lengths.slots, is.rates, lengths.rates,
+                                 n->input, n->output, n->amount, &is.row, &is.column);
+    case PREVIEW_RELEASE_RATE:
+        return p_preview_release_rate(is.clock, is.slots, lengths.slots, is.rates, lengths.rates,
+                                      n->input, n->output, n->rate, &is.row, &is.column);
     case ARRIVE:
         return p_arrive(is.clock, is.queues, lengths.queues, n->input, n->output, n->packets);
     case TICK_DIRECT:
@@ -188,6 +219,7 @@ static uint32_t by_name(Function called, const Numbers *n) {
     uint32_t **slots = &lent[0], **rates = &lent[1], **credits = &lent[2], **queues = &lent[3];
     uint32_t **copy = &lent[4], **flight = &lent[5], **first_pass = &lent[6];
     int64_t *lent_headroom = &is.headroom, **headroom = &lent_headroom;
+    uint64_t *lent_sums[] = {&is.row, &is.column}, **row = &lent_sums[0], **column = &lent_sums[1];
     clock[4] = is.clock;
     outputs[32] = is.outputs;
 
@@ -205,6 +237,12 @@ static uint32_t by_name(Function called, const Numbers *n) {
 #define kivdrag_release(...) if (called == RELEASE) refusal = kivdrag_release(__VA_ARGS__)
 #define kivdrag_release_rate(...) if (called == RELEASE_RATE) refusal = kivdrag_release_rate(__VA_ARGS__)
 #define kivdrag_headroom(...) if (called == HEADROOM) refusal = kivdrag_headroom(__VA_ARGS__)
+#define kivdrag_preview_book(...) if (called == PREVIEW_BOOK) refusal = kivdrag_preview_book(__VA_ARGS__)
+#define kivdrag_preview_book_rate(...)                                                                                 \
+    if (called == PREVIEW_BOOK_RATE) refusal = kivdrag_preview_book_rate(__VA_ARGS__)
+#define kivdrag_preview_release(...) if (called == PREVIEW_RELEASE) refusal = kivdrag_preview_release(__VA_ARGS__)
+#define kivdrag_preview_release_rate(...)                                                                              \
+    if (called == PREVIEW_RELEASE_RATE) refusal = kivdrag_preview_release_rate(__VA_ARGS__)
 #define kivdrag_arrive(...) if (called == ARRIVE) refusal = kivdrag_arrive(__VA_ARGS__)
 #define kivdrag_tick_direct(...) if (called == TICK_DIRECT) refusal = kivdrag_tick_direct(__VA_ARGS__)
 #define kivdrag_tick_pipelined(...) if (called == TICK_PIPELINED) refusal = kivdrag_tick_pipelined(__VA_ARGS__)
@@ -305,6 +343,12 @@ static Call headroom(uint64_t input, uint64_t output) {
     return call_of(HEADROOM, input, output);
 }
 
+/* The preview of a call that books or releases. */
+static Call preview(Call c) {
+    c.function = (Function)(PREVIEW_BOOK + (c.function - BOOK));
+    return c;
+}
+
 static Call arrive(uint64_t input, uint64_t output, uint64_t packets) {
     Call c = call_of(ARRIVE, input, output);
     c.numbers.packets = packets;
@@ -319,12 +363,25 @@ static Call tick_pipelined(void) {
     return call_of(TICK_PIPELINED, UINT64_MAX, UINT64_MAX);
 }
 
-/* What is in *headroom before a call that sets it. */
+/* What is in *headroom before a call that sets it, and in *row and *column. */
 #define UNSET (-0x5A5A5A5A5A5A5A5B)
+#define UNSET_ROW 0xA5A5A5A5A5A5A5A5u
+#define UNSET_COLUMN 0xC3C3C3C3C3C3C3C3u
 
-/* Makes a call: its answer is as given, and every word is as it should be. A refused tick answers with zeros, and a
-   refused headroom is 0. */
+static int is_preview(Function called) {
+    return PREVIEW_BOOK <= called && called <= PREVIEW_RELEASE_RATE;
+}
+
+/* Makes a call: its answer is as given, and every word is as it should be. A refused tick answers with zeros, a refused
+   headroom is 0, and so are the sums of a preview that is refused by another number than 8 and 9. */
 static void check(int line, const char *call, uint32_t wanted, Call c) {
+    if (is_preview(c.function)) {
+        is.row = UNSET_ROW;
+        is.column = UNSET_COLUMN;
+        if (wanted != KIVDRAG_ACCEPTED && wanted != KIVDRAG_REFUSED_INPUT && wanted != KIVDRAG_REFUSED_OUTPUT) {
+            should.row = should.column = 0;
+        }
+    }
     if (c.function == HEADROOM) {
         is.headroom = UNSET;
         if (wanted != KIVDRAG_ACCEPTED) {
@@ -356,6 +413,12 @@ static void check(int line, const char *call, uint32_t wanted, Call c) {
     }
     if (is.headroom != should.headroom) {
         differs(line, call, "*headroom", SIZE_MAX, is.headroom, should.headroom);
+    }
+    if (is.row != should.row) {
+        differs(line, call, "*row", SIZE_MAX, (long long)is.row, (long long)should.row);
+    }
+    if (is.column != should.column) {
+        differs(line, call, "*column", SIZE_MAX, (long long)is.column, (long long)should.column);
     }
     met[c.function] |= BIT(refusal);
     calls++;
@@ -423,6 +486,8 @@ static void fresh(size_t ports) {
     memset(is.outputs, 0xA5, sizeof is.outputs);
     is.first_pass = 0xA5A5A5A5;
     is.headroom = UNSET;
+    is.row = UNSET_ROW;
+    is.column = UNSET_COLUMN;
     should = is;
     lengths.slots = KIVDRAG_PAIR_WORDS(ports) + 1;
     lengths.rates = KIVDRAG_PAIR_WORDS(ports) + 2;
@@ -561,6 +626,70 @@ static void check_headroom(int line, const char *call, Call c, int64_t wanted) {
 }
 
 #define CHECK_HEADROOM(wanted, i, j) check_headroom(__LINE__, "headroom(" #i ", " #j ")", headroom(i, j), (wanted))
+
+/* a pair's booking as the words of the book have it, and the sums of bookings of an input and of an output */
+static uint64_t booking(uint32_t i, uint32_t j) {
+    uint64_t frame = is.clock[KIVDRAG_CLOCK_FRAME], line = is.clock[KIVDRAG_CLOCK_LINE], all = is.slots[at(i, j)];
+    if (line != 0) {
+        all += (is.rates[at(i, j)] * frame + line - 1) / line;
+    }
+    return all < UINT32_MAX ? all : UINT32_MAX;
+}
+
+static uint64_t input_sum(uint32_t i) {
+    uint64_t sum = 0;
+    for (uint32_t j = 1; j <= is.clock[KIVDRAG_CLOCK_PORTS]; j++) {
+        sum += booking(i, j);
+    }
+    return sum;
+}
+
+static uint64_t output_sum(uint32_t j) {
+    uint64_t sum = 0;
+    for (uint32_t i = 1; i <= is.clock[KIVDRAG_CLOCK_PORTS]; i++) {
+        sum += booking(i, j);
+    }
+    return sum;
+}
+
+/* what an accepted booking or release does, written into `should` */
+static void should_do(Call c) {
+    size_t pair = at((uint32_t)c.numbers.input, (uint32_t)c.numbers.output);
+    if (c.function == BOOK) {
+        should.slots[pair] += (uint32_t)c.numbers.amount;
+    } else if (c.function == BOOK_RATE) {
+        should.rates[pair] += (uint32_t)c.numbers.rate;
+    } else if (c.function == RELEASE) {
+        should.slots[pair] -= (uint32_t)c.numbers.amount;
+    } else {
+        should.rates[pair] -= (uint32_t)c.numbers.rate;
+    }
+}
+
+/* The preview of a booking or a release gives this number and these sums, and the operation after it gives the same
+   number; where it is accepted, the words that it leaves have these sums. Then all memory is put back. */
+static void check_preview(int line, const char *call, uint32_t wanted, uint64_t row, uint64_t column, Call c) {
+    should.row = row;
+    should.column = column;
+    check(line, call, wanted, preview(c));
+    Memory before = is;
+    if (wanted == KIVDRAG_ACCEPTED) {
+        should_do(c);
+    }
+    check(line, call, wanted, c);
+    if (wanted == KIVDRAG_ACCEPTED) {
+        uint64_t input = input_sum((uint32_t)c.numbers.input), output = output_sum((uint32_t)c.numbers.output);
+        if (input != row || output != column) {
+            differs(line, call, input != row ? "the input's sum" : "the output's sum", SIZE_MAX,
+                    (long long)(input != row ? input : output), (long long)(input != row ? row : column));
+        }
+    }
+    is = before;
+    should = before;
+}
+
+#define CHECK_PREVIEW(wanted, row, column, call) check_preview(__LINE__, #call, (wanted), (row), (column), (call))
+#define CHECK_NO_SUMS(wanted, call) check_preview(__LINE__, listed[(call).function].name, (wanted), 0, 0, (call))
 
 /* On a switch of 3 ports, frames of 7 slots, of which a line can sell 4, and lines of 7,000: a slot carries 1,000. */
 static void bookings_by_slots(int pipelined) {
@@ -753,6 +882,92 @@ static void headrooms(int pipelined) {
     CHECK_HEADROOM(2, 1, 1); /* and now none */
     SET(clock[KIVDRAG_CLOCK_FRAME], 2);
     CHECK_HEADROOM(1, 1, 1);
+}
+
+/* What the previews of an operation refuse before they look at a sum; of several refusals the first is given. */
+static void refused_previews(Call (*operation)(uint64_t, uint64_t, uint64_t), uint64_t most) {
+    CHECK_CLOCK(preview(operation(1, 3, 1)));
+    lengths.slots = lengths.rates = 8;
+    CHECK_CLOCK(preview(operation(0, 4, 0)));
+    CHECK_NO_SUMS(KIVDRAG_REFUSED_RUNS, operation(0, 4, 0));
+    lengths.slots = lengths.rates = 9;
+    CHECK_SHORT(slots, 9, preview(operation(1, 3, 1)));
+    CHECK_SHORT(rates, 9, preview(operation(1, 3, 1)));
+    CHECK_SHORT(slots, 9, preview(operation(4, 3, 1)));
+    CHECK_SHORT(rates, 9, preview(operation(1, 3, 0)));
+    CHECK_NO_SUMS(KIVDRAG_REFUSED_PAIR, operation(0, 3, 1));
+    CHECK_NO_SUMS(KIVDRAG_REFUSED_PAIR, operation(4, 3, 1));
+    CHECK_NO_SUMS(KIVDRAG_REFUSED_PAIR, operation(1, 0, most + 1));
+    CHECK_NO_SUMS(KIVDRAG_REFUSED_PAIR, operation(1, 4, 0));
+    CHECK_NO_SUMS(KIVDRAG_REFUSED_PAIR, operation(((uint64_t)1 << 32) + 1, 3, 1));
+    CHECK_NO_SUMS(KIVDRAG_REFUSED_PAIR, operation(1, UINT64_MAX, 1));
+    CHECK_NO_SUMS(KIVDRAG_REFUSED_AMOUNT, operation(1, 3, 0));
+    CHECK_NO_SUMS(KIVDRAG_REFUSED_AMOUNT, operation(1, 3, most + 1));
+    CHECK_NO_SUMS(KIVDRAG_REFUSED_AMOUNT, operation(1, 3, ((uint64_t)1 << 32) + 1));
+}
+
+/* Previews, with frames of 7 slots, of which a line can sell 4, and lines of 7,000: a slot carries 1,000. */
+static void previews(int pipelined) {
+    started(3, 7, 7000, pipelined);
+    CHECK_PREVIEW(KIVDRAG_ACCEPTED, 4, 4, book(1, 3, 4));
+    CHECK_PREVIEW(KIVDRAG_REFUSED_INPUT, 5, 5, book(1, 3, 5));
+    CHECK_NO_SUMS(KIVDRAG_REFUSED_RELEASE, release(1, 3, 1));
+    check_book(1, 3, 2); /* input 1 has 2 slots, and so has output 3 */
+    CHECK_PREVIEW(KIVDRAG_ACCEPTED, 3, 3, book(1, 3, 1));
+    CHECK_PREVIEW(KIVDRAG_ACCEPTED, 4, 2, book(1, 1, 2));
+    CHECK_PREVIEW(KIVDRAG_ACCEPTED, 1, 3, book(2, 3, 1));
+    CHECK_PREVIEW(KIVDRAG_ACCEPTED, 2, 2, book(2, 1, 2));
+    CHECK_PREVIEW(KIVDRAG_REFUSED_INPUT, 5, 3, book(1, 1, 3)); /* the output's sum is within the limit */
+    CHECK_PREVIEW(KIVDRAG_REFUSED_INPUT, 5, 5, book(1, 3, 3)); /* and here it is not */
+    CHECK_PREVIEW(KIVDRAG_REFUSED_INPUT, 7, 9, book(2, 3, 7));
+    CHECK_PREVIEW(KIVDRAG_REFUSED_OUTPUT, 3, 5, book(2, 3, 3));
+
+    /* a rate counts as the rise of its pair's booking */
+    CHECK_PREVIEW(KIVDRAG_ACCEPTED, 3, 3, book_rate(1, 3, 1000));
+    CHECK_PREVIEW(KIVDRAG_ACCEPTED, 4, 4, book_rate(1, 3, 1001));
+    CHECK_PREVIEW(KIVDRAG_REFUSED_INPUT, 5, 5, book_rate(1, 3, 2001));
+    check_book_rate(2, 3, 1001);                                    /* 2 slots: output 3 has 4 */
+    CHECK_PREVIEW(KIVDRAG_ACCEPTED, 2, 4, book_rate(2, 3, 999));    /* 2 slots still */
+    CHECK_PREVIEW(KIVDRAG_REFUSED_OUTPUT, 3, 5, book_rate(2, 3, 1000));
+    CHECK_PREVIEW(KIVDRAG_REFUSED_OUTPUT, 1, 5, book_rate(3, 3, 1));
+    CHECK_PREVIEW(KIVDRAG_REFUSED_OUTPUT, 1, 5, book(3, 3, 1));
+    CHECK_PREVIEW(KIVDRAG_ACCEPTED, 3, 1, book_rate(2, 1, 1));
+    CHECK_PREVIEW(KIVDRAG_REFUSED_INPUT, 5, 3, book_rate(1, 1, 2001));
+    CHECK_PREVIEW(KIVDRAG_REFUSED_INPUT, 9, 7, book_rate(1, 1, 7000));
+    CHECK_PREVIEW(KIVDRAG_REFUSED_INPUT, 9, 11, book_rate(1, 3, 7000));
+
+    /* a release leaves these sums; of a rate it may leave those that were */
+    CHECK_PREVIEW(KIVDRAG_ACCEPTED, 1, 3, release(1, 3, 1));
+    CHECK_PREVIEW(KIVDRAG_ACCEPTED, 0, 2, release(1, 3, 2));
+    CHECK_NO_SUMS(KIVDRAG_REFUSED_RELEASE, release(1, 3, 3));
+    CHECK_NO_SUMS(KIVDRAG_REFUSED_RELEASE, release(2, 3, 1)); /* its rate of 2 slots is not seen */
+    CHECK_PREVIEW(KIVDRAG_ACCEPTED, 1, 3, release_rate(2, 3, 1));
+    CHECK_PREVIEW(KIVDRAG_ACCEPTED, 0, 2, release_rate(2, 3, 1001));
+    CHECK_NO_SUMS(KIVDRAG_REFUSED_RELEASE, release_rate(2, 3, 1002));
+    CHECK_NO_SUMS(KIVDRAG_REFUSED_RELEASE, release_rate(1, 3, 1)); /* its 2 slots are not seen */
+    check_book_rate(2, 3, 500);
+    CHECK_PREVIEW(KIVDRAG_ACCEPTED, 2, 4, release_rate(2, 3, 500));
+
+    refused_previews(book, 7);
+    refused_previews(book_rate, 7000);
+    refused_previews(release, 7);
+    refused_previews(release_rate, 7000);
+
+    /* nothing else is asked: not the last slot run, nor a frame below the ports; the line rate only for rates */
+    SET(clock[KIVDRAG_CLOCK_SLOT], UINT32_MAX);
+    CHECK_PREVIEW(KIVDRAG_ACCEPTED, 3, 1, book(1, 1, 1));
+    SET(clock[KIVDRAG_CLOCK_LINE], 0); /* rates count as 0 slots */
+    CHECK_PREVIEW(KIVDRAG_ACCEPTED, 1, 3, book(2, 3, 1));
+    CHECK_PREVIEW(KIVDRAG_ACCEPTED, 1, 1, release(1, 3, 1));
+    CHECK_NO_SUMS(KIVDRAG_REFUSED_AMOUNT, book_rate(2, 3, 1));
+    CHECK_NO_SUMS(KIVDRAG_REFUSED_AMOUNT, release_rate(2, 3, 1));
+    SET(clock[KIVDRAG_CLOCK_LINE], TOP_LINE + 1); /* the rate is 1 slot */
+    CHECK_PREVIEW(KIVDRAG_ACCEPTED, 2, 4, book(2, 3, 1));
+    CHECK_NO_SUMS(KIVDRAG_REFUSED_AMOUNT, book_rate(2, 3, 1));
+    CHECK_NO_SUMS(KIVDRAG_REFUSED_AMOUNT, release_rate(2, 3, 1));
+    SET(clock[KIVDRAG_CLOCK_FRAME], 2);
+    CHECK_PREVIEW(KIVDRAG_ACCEPTED, 1, 1, book(3, 1, 1));
+    CHECK_PREVIEW(KIVDRAG_ACCEPTED, 0, 1, release(1, 3, 2));
 }
 
 static void arrivals(int pipelined) {
@@ -1003,13 +1218,48 @@ static void most_headroom(void) {
     CHECK_HEADROOM(1 - 63 * (int64_t)UINT32_MAX, 1, 1);
 }
 
+/* Previews of 32 ports and of words such as no calls leave: sums above the largest word, up to 32 times that. */
+static void most_previewed(void) {
+    const uint64_t top = UINT32_MAX;
+    started(32, 10000, TOP_LINE, 0);
+    CHECK_PREVIEW(KIVDRAG_ACCEPTED, 5000, 5000, book(32, 32, 5000));
+    CHECK_PREVIEW(KIVDRAG_REFUSED_INPUT, 5001, 5001, book(32, 32, 5001));
+    CHECK_PREVIEW(KIVDRAG_REFUSED_INPUT, 10000, 10000, book_rate(32, 32, TOP_LINE));
+    SET(slots[at(32, 31)], UINT32_MAX);
+    CHECK_PREVIEW(KIVDRAG_REFUSED_INPUT, top + 10000, top + 10000, book(32, 31, 10000)); /* more than a booking is */
+    CHECK_PREVIEW(KIVDRAG_REFUSED_INPUT, top + 1, 1, book(32, 1, 1));
+    CHECK_PREVIEW(KIVDRAG_REFUSED_OUTPUT, 1, top + 1, book(1, 31, 1));
+    CHECK_PREVIEW(KIVDRAG_REFUSED_OUTPUT, 1, top + 1, book_rate(1, 31, 10000));
+    CHECK_PREVIEW(KIVDRAG_REFUSED_INPUT, top, top, book_rate(32, 31, TOP_LINE)); /* the booking cannot rise */
+    CHECK_PREVIEW(KIVDRAG_ACCEPTED, top - 10000, top - 10000, release(32, 31, 10000));
+    CHECK_NO_SUMS(KIVDRAG_REFUSED_RELEASE, release_rate(32, 31, 1));
+    SET(slots[at(32, 31)], UINT32_MAX - 3);
+    CHECK_PREVIEW(KIVDRAG_REFUSED_INPUT, top, top, book_rate(32, 31, TOP_LINE)); /* it rises by 3 */
+    CHECK_PREVIEW(KIVDRAG_REFUSED_INPUT, top - 1, top - 1, book_rate(32, 31, 10001));
+
+    for (size_t p = 0; p < KIVDRAG_PAIR_WORDS(32); p++) {
+        SET(slots[p], UINT32_MAX);
+        SET(rates[p], UINT32_MAX);
+    }
+    CHECK_PREVIEW(KIVDRAG_REFUSED_INPUT, 32 * top + 10000, 32 * top + 10000, book(17, 5, 10000));
+    CHECK_PREVIEW(KIVDRAG_REFUSED_INPUT, 32 * top, 32 * top, book_rate(17, 5, 1));
+    CHECK_PREVIEW(KIVDRAG_ACCEPTED, 32 * top, 32 * top, release(17, 5, 10000)); /* the rate makes up for it */
+    CHECK_PREVIEW(KIVDRAG_ACCEPTED, 32 * top, 32 * top, release_rate(17, 5, TOP_LINE));
+    SET(rates[at(17, 5)], 0);
+    SET(slots[at(1, 5)], 0); /* 429,497 slots by its rate */
+    CHECK_PREVIEW(KIVDRAG_ACCEPTED, 32 * top - 10000, 31 * top + 429497 - 10000, release(17, 5, 10000));
+    CHECK_NO_SUMS(KIVDRAG_REFUSED_RELEASE, release_rate(17, 5, 1));
+    CHECK_PREVIEW(KIVDRAG_ACCEPTED, 31 * top + 429496, 31 * top + 429496, release_rate(1, 5, 10000));
+    CHECK_NO_SUMS(KIVDRAG_REFUSED_RELEASE, release(1, 5, 1));
+}
+
 /*
  * WHAT A CALL TAKES AS CONST is not written, not even with the value that it has: here it stands in memory that cannot
  * be written, so that a store ends the program. Two ports, frames of 3 slots, of which a line can sell 2, and lines of
  * 1,000; (1, 2) and (2, 1) hold a slot by either run.
  */
 static const uint32_t const_clock[KIVDRAG_CLOCK_WORDS] = {2, 3, 0, 1000};
-static const uint32_t const_slots[4] = {0, 1, 1, 0}, const_rates[4] = {0, 333, 333, 0};
+static const uint32_t const_slots[4] = {0, 1, 1, 0}, const_rates[4] = {0, 333, 333, 0}, zeros[4] = {0, 0, 0, 0};
 
 static void expect(int line, const char *call, uint32_t wanted, uint32_t refusal) {
     if (refusal != wanted) {
@@ -1033,6 +1283,19 @@ static void calls_on_const(void) {
     int64_t headroom = UNSET;
     EXPECT(KIVDRAG_ACCEPTED, p_headroom(const_clock, const_slots, 4, const_rates, 4, 1, 1, &headroom));
     EXPECT(KIVDRAG_REFUSED_PAIR, p_headroom(const_clock, const_slots, 4, const_rates, 4, 0, 1, &headroom));
+    uint64_t row, column;
+    EXPECT(KIVDRAG_ACCEPTED, p_preview_book(const_clock, const_slots, 4, zeros, 4, 1, 1, 1, &row, &column));
+    EXPECT(KIVDRAG_REFUSED_INPUT, p_preview_book(const_clock, const_slots, 4, const_rates, 4, 1, 1, 1, &row, &column));
+    EXPECT(KIVDRAG_ACCEPTED, p_preview_book_rate(const_clock, const_slots, 4, zeros, 4, 1, 1, 333, &row, &column));
+    EXPECT(KIVDRAG_REFUSED_INPUT,
+           p_preview_book_rate(const_clock, const_slots, 4, const_rates, 4, 1, 1, 1, &row, &column));
+    EXPECT(KIVDRAG_ACCEPTED, p_preview_release(const_clock, const_slots, 4, const_rates, 4, 1, 2, 1, &row, &column));
+    EXPECT(KIVDRAG_REFUSED_RELEASE,
+           p_preview_release(const_clock, const_slots, 4, const_rates, 4, 1, 1, 1, &row, &column));
+    EXPECT(KIVDRAG_ACCEPTED,
+           p_preview_release_rate(const_clock, const_slots, 4, const_rates, 4, 1, 2, 333, &row, &column));
+    EXPECT(KIVDRAG_REFUSED_RELEASE,
+           p_preview_release_rate(const_clock, const_slots, 4, zeros, 4, 1, 2, 1, &row, &column));
     EXPECT(KIVDRAG_ACCEPTED, p_arrive(const_clock, queues, 4, 1, 1, 1));
     EXPECT(KIVDRAG_REFUSED_AMOUNT, p_arrive(const_clock, queues, 4, 1, 1, 0));
 }
@@ -1067,6 +1330,7 @@ static void all(void) {
         small_streams(pipelined);
         line_rates(pipelined);
         headrooms(pipelined);
+        previews(pipelined);
         arrivals(pipelined);
     }
     direct_ticks();
@@ -1074,6 +1338,7 @@ static void all(void) {
     pipelined_ticks();
     most_ports();
     most_headroom();
+    most_previewed();
     for (int f = 0; f < FUNCTIONS; f++) {
         if (met[f] != listed[f].answers) {
             differs(__LINE__, listed[f].name, "the set of answers met, as bits,", SIZE_MAX, met[f], listed[f].answers);
