@@ -60,6 +60,11 @@ static uint32_t headroom(const Switch *s, unsigned input, unsigned output, int64
     return kivdrag_headroom(s->clock, s->slots, PAIRS, s->rates, PAIRS, input, output, number);
 }
 
+static uint32_t preview_book(const Switch *s, unsigned input, unsigned output, unsigned amount, uint64_t *row,
+                             uint64_t *column) {
+    return kivdrag_preview_book(s->clock, s->slots, PAIRS, s->rates, PAIRS, input, output, amount, row, column);
+}
+
 static uint32_t arrive(Switch *s, unsigned input, unsigned output, unsigned packets) {
     return kivdrag_arrive(s->clock, s->queues, PAIRS, input, output, packets);
 }
@@ -98,6 +103,17 @@ static void print_headroom(const Switch *s, const char *pair, unsigned input, un
     }
 }
 
+/* What an installer's tablet shows before a booking is made. */
+static void print_preview(const Switch *s, const char *what, unsigned input, unsigned output, unsigned amount) {
+    uint64_t row, column;
+    uint32_t refusal = preview_book(s, input, output, amount, &row, &column);
+    say(what, refusal);
+    if (refusal == KIVDRAG_ACCEPTED || refusal == KIVDRAG_REFUSED_INPUT || refusal == KIVDRAG_REFUSED_OUTPUT) {
+        printf("  the input would have %llu slots booked, the output %llu\n", (unsigned long long)row,
+               (unsigned long long)column);
+    }
+}
+
 static void print_pairs(unsigned slot, const Pairs *p) {
     unsigned count = 0;
     printf("slot %u:", slot);
@@ -121,11 +137,13 @@ static void direct(void) {
         say("book a stream of 80 Mbit/s from the player to the wall", book_rate(&s, PLAYER, WALL, 80000));
         printf("  slots booked: %u\n", booking(&s, PLAYER, WALL));
     }
-    /* the desk would have 5 slots booked, and 2 * 5 is above 8 + 1 */
-    say("book 3 slots from the archive to the desk", book(&s, ARCHIVE, DESK, 3));
     /* the panel has 2 slots booked, and so have the desk and the wall: 8 - (2 + 2 - 2), and 8 - (2 + 2 - 0) */
     print_headroom(&s, "from the panel to the desk", PANEL, DESK);
     print_headroom(&s, "from the panel to the wall", PANEL, WALL);
+    /* with 5 slots booked the desk would be above its limit, since 2 * 5 is above 8 + 1; 4 are within it */
+    print_preview(&s, "preview 3 slots from the archive to the desk", ARCHIVE, DESK, 3);
+    print_preview(&s, "preview 2 slots from the archive to the desk", ARCHIVE, DESK, 2);
+    say("book 2 slots from the archive to the desk", book(&s, ARCHIVE, DESK, 2));
     say("queue 6 packets of a film from the player to the wall", arrive(&s, PLAYER, WALL, 6));
     say("queue 9 packets of a film from the archive to the desk", arrive(&s, ARCHIVE, DESK, 9));
     for (unsigned slot = 1; slot <= FRAME; slot++) {
