@@ -2,6 +2,7 @@
 //! adds or alters a call does so here; what tests want to see happen at it stands in tally.rs.
 
 use crate::{rules, Random};
+use second::book::Preview;
 use second::ledger::Ledger;
 use second::{Answer, Form, Run, Switch, Words};
 
@@ -32,6 +33,22 @@ pub mod exported {
             clock: *const u32, slots: *const u32, slots_len: usize, rates: *const u32, rates_len: usize, input: u64, output: u64,
             headroom: *mut i64,
         ) -> u32;
+        pub fn kivdrag_preview_book(
+            clock: *const u32, slots: *const u32, slots_len: usize, rates: *const u32, rates_len: usize, input: u64, output: u64, amount: u64,
+            row: *mut u64, column: *mut u64,
+        ) -> u32;
+        pub fn kivdrag_preview_book_rate(
+            clock: *const u32, slots: *const u32, slots_len: usize, rates: *const u32, rates_len: usize, input: u64, output: u64, rate: u64,
+            row: *mut u64, column: *mut u64,
+        ) -> u32;
+        pub fn kivdrag_preview_release(
+            clock: *const u32, slots: *const u32, slots_len: usize, rates: *const u32, rates_len: usize, input: u64, output: u64, amount: u64,
+            row: *mut u64, column: *mut u64,
+        ) -> u32;
+        pub fn kivdrag_preview_release_rate(
+            clock: *const u32, slots: *const u32, slots_len: usize, rates: *const u32, rates_len: usize, input: u64, output: u64, rate: u64,
+            row: *mut u64, column: *mut u64,
+        ) -> u32;
         pub fn kivdrag_arrive(clock: *const u32, queues: *mut u32, queues_len: usize, input: u64, output: u64, packets: u64) -> u32;
         pub fn kivdrag_tick_direct(
             clock: *mut u32, slots: *const u32, slots_len: usize, rates: *const u32, rates_len: usize, credits: *mut u32, credits_len: usize,
@@ -50,11 +67,13 @@ use exported::*;
 /// The numbers that a caller brings, in the call's order; 0 for those that it has not.
 pub type Arguments = [u64; 3];
 
-/// What a call gives back: the refusal, a tick's pairs and passes, and a headroom; 0 for what it has not.
+/// What a call gives back: the refusal, a tick's pairs and passes, a headroom, and the sums of row and column that a preview shows; 0 for what
+/// it has not.
 #[derive(Clone, Copy, Debug, PartialEq, Eq)]
 pub struct Reply {
     pub answer: Answer,
     pub headroom: i64,
+    pub sums: [u64; 2],
 }
 
 impl Reply {
@@ -63,7 +82,11 @@ impl Reply {
     }
 
     pub fn refused(refusal: u32) -> Reply {
-        Reply { answer: Answer::refused(refusal), headroom: 0 }
+        Reply::of(Answer::refused(refusal))
+    }
+
+    fn of(answer: Answer) -> Reply {
+        Reply { answer, headroom: 0, sums: [0; 2] }
     }
 }
 
@@ -85,11 +108,18 @@ pub struct Call {
     pub noted: fn(&mut Vec<Ledger>, Form, Answer, Arguments),
 }
 
+impl Call {
+    /// The name of the operation that the call previews; none for a call that is no preview.
+    pub fn previewed(&self) -> Option<&'static str> {
+        self.name.strip_prefix("preview_")
+    }
+}
+
 /// The most ports in a list.
 pub const MOST_LISTED: u64 = 9;
 
 /// Of the calls of a form its start is the first.
-pub static CALLS: [Call; 10] = [
+pub static CALLS: [Call; 14] = [
     Call {
         name: "start_direct",
         form: Some(Form::Direct),
@@ -138,12 +168,8 @@ pub static CALLS: [Call; 10] = [
         form: None,
         questions: &[1, 2, 4, 5, 6, 8, 9],
         weights: [6, 20],
-        any: |r, s| {
-            let (n, f) = sizes(s);
-            let d = if r.one_in(3) { r.around(f) } else { r.within(1, f / n / 2 + 1) };
-            [any_port(r, n), any_port(r, n), d]
-        },
-        listed: |r, s, _| [port(r, s), port(r, s), few_slots(r, s)],
+        any: any_slots_to_book,
+        listed: slots_to_book,
         by_library: |s, _, [i, j, d]| {
             lent(s, |clock, w| unsafe { kivdrag_book(clock, w.slots.as_mut_ptr(), w.slots.len(), w.rates.as_ptr(), w.rates.len(), i, j, d) })
         },
@@ -155,14 +181,8 @@ pub static CALLS: [Call; 10] = [
         form: None,
         questions: &[1, 2, 4, 5, 6, 8, 9],
         weights: [8, 60],
-        any: |r, s| {
-            let (i, j) = any_pair(r, s, &s.words.rates);
-            [i, j, if r.one_in(4) { r.around(line(s)) } else { some_rate(r, s, i, j) }]
-        },
-        listed: |r, s, _| {
-            let (i, j) = pair(r, s, &s.words.rates);
-            [i, j, if r.one_in(30) { r.of(&[0, line(s) + 1]) } else { some_rate(r, s, i, j) }]
-        },
+        any: any_rate_to_book,
+        listed: rate_to_book,
         by_library: |s, _, [i, j, rate]| {
             lent(s, |clock, w| unsafe { kivdrag_book_rate(clock, w.slots.as_ptr(), w.slots.len(), w.rates.as_mut_ptr(), w.rates.len(), i, j, rate) })
         },
@@ -174,15 +194,8 @@ pub static CALLS: [Call; 10] = [
         form: None,
         questions: &[1, 2, 4, 5, 6, 10],
         weights: [4, 20],
-        any: |r, s| {
-            let (n, f) = sizes(s);
-            let d = if r.one_in(3) { r.around(f) } else { r.within(1, 3) };
-            [any_port(r, n), any_port(r, n), d]
-        },
-        listed: |r, s, _| {
-            let (i, j) = pair(r, s, &s.words.slots);
-            [i, j, few_slots(r, s)]
-        },
+        any: any_slots_to_release,
+        listed: slots_to_release,
         by_library: |s, _, [i, j, d]| {
             lent(s, |clock, w| unsafe { kivdrag_release(clock, w.slots.as_mut_ptr(), w.slots.len(), w.rates.as_ptr(), w.rates.len(), i, j, d) })
         },
@@ -194,14 +207,8 @@ pub static CALLS: [Call; 10] = [
         form: None,
         questions: &[1, 2, 4, 5, 6, 10],
         weights: [6, 30],
-        any: |r, s| {
-            let (i, j) = any_pair(r, s, &s.words.rates);
-            [i, j, if r.one_in(4) { r.around(line(s)) } else { part_of_rate(r, s, i, j) }]
-        },
-        listed: |r, s, _| {
-            let (i, j) = pair(r, s, &s.words.rates);
-            [i, j, part_of_rate(r, s, i, j)]
-        },
+        any: any_rate_to_release,
+        listed: rate_to_release,
         by_library: |s, _, [i, j, rate]| {
             lent(s, |clock, w| unsafe {
                 kivdrag_release_rate(clock, w.slots.as_ptr(), w.slots.len(), w.rates.as_mut_ptr(), w.rates.len(), i, j, rate)
@@ -241,6 +248,50 @@ pub static CALLS: [Call; 10] = [
         noted: |_, _, _, _| (),
     },
     Call {
+        name: "preview_book",
+        form: None,
+        questions: &[1, 2, 4, 5, 6, 8, 9],
+        weights: [6, 20],
+        any: any_slots_to_book,
+        listed: slots_to_book,
+        by_library: |s, _, arguments| lent_with_sums(s, kivdrag_preview_book, arguments),
+        by_second: |s, form, [i, j, d]| shown(s.preview_book(form, i, j, d)),
+        noted: |_, _, _, _| (),
+    },
+    Call {
+        name: "preview_book_rate",
+        form: None,
+        questions: &[1, 2, 4, 5, 6, 8, 9],
+        weights: [6, 30],
+        any: any_rate_to_book,
+        listed: rate_to_book,
+        by_library: |s, _, arguments| lent_with_sums(s, kivdrag_preview_book_rate, arguments),
+        by_second: |s, form, [i, j, rate]| shown(s.preview_book_rate(form, i, j, 0, rate)),
+        noted: |_, _, _, _| (),
+    },
+    Call {
+        name: "preview_release",
+        form: None,
+        questions: &[1, 2, 4, 5, 6, 10],
+        weights: [6, 15],
+        any: any_slots_to_release,
+        listed: slots_to_release,
+        by_library: |s, _, arguments| lent_with_sums(s, kivdrag_preview_release, arguments),
+        by_second: |s, _, [i, j, d]| shown(s.preview_release(i, j, d)),
+        noted: |_, _, _, _| (),
+    },
+    Call {
+        name: "preview_release_rate",
+        form: None,
+        questions: &[1, 2, 4, 5, 6, 10],
+        weights: [6, 15],
+        any: any_rate_to_release,
+        listed: rate_to_release,
+        by_library: |s, _, arguments| lent_with_sums(s, kivdrag_preview_release_rate, arguments),
+        by_second: |s, _, [i, j, rate]| shown(s.preview_release_rate(i, j, rate)),
+        noted: |_, _, _, _| (),
+    },
+    Call {
         name: "arrive",
         form: None,
         questions: &[1, 2, 4, 5, 6, 11],
@@ -270,7 +321,7 @@ pub static CALLS: [Call; 10] = [
                 )
             })
         },
-        by_second: |s, _, _| Reply { answer: s.tick_direct(), headroom: 0 },
+        by_second: |s, _, _| Reply::of(s.tick_direct()),
         noted: |l, _, a, _| latest(l).tick(a),
     },
     Call {
@@ -288,14 +339,19 @@ pub static CALLS: [Call; 10] = [
                 )
             })
         },
-        by_second: |s, _, _| Reply { answer: s.tick_pipelined(), headroom: 0 },
+        by_second: |s, _, _| Reply::of(s.tick_pipelined()),
         noted: |l, _, a, _| latest(l).tick(a),
     },
 ];
 
 /// The reply of a call that gives a number alone.
 fn number(refusal: u32) -> Reply {
-    Reply { answer: Answer { refusal, ..Answer::nobody() }, headroom: 0 }
+    Reply::of(Answer { refusal, ..Answer::nobody() })
+}
+
+/// The reply of a preview.
+fn shown(Preview { refusal, row, column }: Preview) -> Reply {
+    Reply { sums: [row, column], ..number(refusal) }
 }
 
 /// A call of the library on a switch: its clock is lent as words and read back, even where the library is not to write it.
@@ -310,7 +366,19 @@ fn lent(s: &mut Switch, call: impl FnOnce(*mut u32, &mut Words) -> u32) -> Reply
 fn lent_with_answer(s: &mut Switch, call: impl FnOnce(*mut u32, &mut Words, *mut u8, *mut u32) -> u32) -> Reply {
     let (mut outputs, mut first) = ([0xA5; 32], 0xA5A5_A5A5);
     let refusal = lent(s, |clock, w| call(clock, w, outputs.as_mut_ptr(), &mut first)).refusal();
-    Reply { answer: Answer { refusal, outputs, first }, headroom: 0 }
+    Reply::of(Answer { refusal, outputs, first })
+}
+
+/// A preview of the library.
+type LentPreview = unsafe extern "C" fn(*const u32, *const u32, usize, *const u32, usize, u64, u64, u64, *mut u64, *mut u64) -> u32;
+
+/// The same where two sums are answered; what they held before must not matter.
+fn lent_with_sums(s: &mut Switch, preview: LentPreview, [i, j, amount]: Arguments) -> Reply {
+    let [mut row, mut column] = [0xA5A5_A5A5_A5A5_A5A5, 0xC3C3_C3C3_C3C3_C3C3];
+    let reply = lent(s, |clock, w| unsafe {
+        preview(clock, w.slots.as_ptr(), w.slots.len(), w.rates.as_ptr(), w.rates.len(), i, j, amount, &mut row, &mut column)
+    });
+    Reply { sums: [row, column], ..reply }
 }
 
 /// An accepted start begins a ledger.
@@ -376,6 +444,48 @@ fn any_pair(r: &mut Random, s: &Switch, run: &[u32]) -> (u64, u64) {
 fn pair(r: &mut Random, s: &Switch, run: &[u32]) -> (u64, u64) {
     let held = if r.one_in(3) { None } else { holding(r, s, run) };
     held.unwrap_or_else(|| (port(r, s), port(r, s)))
+}
+
+/// Pair and amount of an operation on the book and of its preview: first on a switch of any words, then in a list.
+fn any_slots_to_book(r: &mut Random, s: &Switch) -> Arguments {
+    let (n, f) = sizes(s);
+    let d = if r.one_in(3) { r.around(f) } else { r.within(1, f / n / 2 + 1) };
+    [any_port(r, n), any_port(r, n), d]
+}
+
+fn slots_to_book(r: &mut Random, s: &Switch, _: bool) -> Arguments {
+    [port(r, s), port(r, s), few_slots(r, s)]
+}
+
+fn any_rate_to_book(r: &mut Random, s: &Switch) -> Arguments {
+    let (i, j) = any_pair(r, s, &s.words.rates);
+    [i, j, if r.one_in(4) { r.around(line(s)) } else { some_rate(r, s, i, j) }]
+}
+
+fn rate_to_book(r: &mut Random, s: &Switch, _: bool) -> Arguments {
+    let (i, j) = pair(r, s, &s.words.rates);
+    [i, j, if r.one_in(30) { r.of(&[0, line(s) + 1]) } else { some_rate(r, s, i, j) }]
+}
+
+fn any_slots_to_release(r: &mut Random, s: &Switch) -> Arguments {
+    let (n, f) = sizes(s);
+    let d = if r.one_in(3) { r.around(f) } else { r.within(1, 3) };
+    [any_port(r, n), any_port(r, n), d]
+}
+
+fn slots_to_release(r: &mut Random, s: &Switch, _: bool) -> Arguments {
+    let (i, j) = pair(r, s, &s.words.slots);
+    [i, j, few_slots(r, s)]
+}
+
+fn any_rate_to_release(r: &mut Random, s: &Switch) -> Arguments {
+    let (i, j) = any_pair(r, s, &s.words.rates);
+    [i, j, if r.one_in(4) { r.around(line(s)) } else { part_of_rate(r, s, i, j) }]
+}
+
+fn rate_to_release(r: &mut Random, s: &Switch, _: bool) -> Arguments {
+    let (i, j) = pair(r, s, &s.words.rates);
+    [i, j, part_of_rate(r, s, i, j)]
 }
 
 fn few_slots(r: &mut Random, s: &Switch) -> u64 {

@@ -1,7 +1,7 @@
 //! What happened at the calls of a test, and how often: a test that compares much and meets little says nothing.
 
 use crate::calls::{Arguments, Call, Reply};
-use second::book::{Book, MOST};
+use second::book::{rate_part, within_8, within_9, Book, MOST};
 use second::switch::MAX_LINE_RATE;
 use second::{Form, Switch};
 use std::collections::BTreeMap;
@@ -18,6 +18,18 @@ pub enum Event {
     ReadAboveWord,
     /// it told a headroom of this kind, of a pair with a booking or of one without
     Told { booked: bool, headroom: Headroom },
+    /// it showed sums beside this number, of which these are within the limit of questions 8 and 9
+    Showed { number: u32, row_fits: bool, column_fits: bool },
+    /// it showed two sums that differ beside this number
+    SumsDiffer(u32),
+    /// it showed the sums that the book has already, beside 0
+    SumsStay,
+    /// it showed a sum that is above what a word holds
+    SumAboveWord,
+    /// it showed sums where the pair's booking would be above what a word holds
+    PairAboveWord,
+    /// it showed 0 and 0 beside this number, and neither sum of the book is 0
+    Hid(u32),
 }
 
 #[derive(Clone, Copy, Debug, PartialEq, Eq, PartialOrd, Ord)]
@@ -60,6 +72,18 @@ fn bookings(s: &Switch) -> Book {
     s.standing_book(s.f())
 }
 
+/// Whether a pair's booking would be above what a word holds after an operation that is asked for, if it could be.
+fn above_word(call: &Call, s: &Switch, [i, j, amount]: Arguments) -> bool {
+    let at = s.at(i, j);
+    let (slots, rate) = (s.words.slots[at] as u64, s.words.rates[at] as u64);
+    let (slots, rate) = match call.previewed() {
+        Some("book") => (slots + amount, rate),
+        Some("book_rate") => (slots, rate + amount),
+        _ => (slots, rate),
+    };
+    slots + rate_part(rate, s.f(), s.clock.line as u64) > MOST
+}
+
 /// Whether the next tick reads the book.
 fn reads_book(form: Form, s: &Switch) -> bool {
     let ahead = if form == Form::Pipelined { 2 * s.n() } else { 0 };
@@ -80,11 +104,15 @@ impl Tally {
     }
 
     /// A call, with its arguments, the switch that it found, the switch that it left, and its reply.
-    pub fn note(&mut self, call: &Call, form: Form, [i, j, _]: Arguments, before: &Switch, after: &Switch, reply: Reply) {
+    pub fn note(&mut self, call: &Call, form: Form, arguments: Arguments, before: &Switch, after: &Switch, reply: Reply) {
         self.add(call, Event::Gave(reply.refusal()));
+        if call.previewed().is_some() {
+            self.note_preview(call, arguments, before, reply);
+        }
         if reply.refusal() != 0 {
             return;
         }
+        let [i, j, _] = arguments;
         if call.name == "headroom" {
             self.add(call, Event::Told { booked: bookings(before).pair(i, j) > 0, headroom: kind_of(reply.headroom, before.f()) });
         }
@@ -93,6 +121,26 @@ impl Tally {
         }
         if call.name.starts_with("tick") && reads_book(form, before) {
             self.note_reading(call, before);
+        }
+    }
+
+    fn note_preview(&mut self, call: &Call, arguments: Arguments, s: &Switch, reply: Reply) {
+        let ([i, j, _], number, [row, column]) = (arguments, reply.refusal(), reply.sums);
+        // under these numbers the pair is one of the switch
+        let present = || [bookings(s).row(i), bookings(s).column(j)];
+        match number {
+            0 | 8 | 9 => {
+                self.add(call, Event::Showed { number, row_fits: within_8(row, s.f()), column_fits: within_9(column, s.f()) });
+                let events = [
+                    (row != column, Event::SumsDiffer(number)),
+                    (number == 0 && [row, column] == present(), Event::SumsStay),
+                    (row.max(column) > MOST, Event::SumAboveWord),
+                    (above_word(call, s, arguments), Event::PairAboveWord),
+                ];
+                events.into_iter().filter(|&(met, _)| met).for_each(|(_, event)| self.add(call, event));
+            }
+            6 | 10 if !present().contains(&0) => self.add(call, Event::Hid(number)),
+            _ => (),
         }
     }
 

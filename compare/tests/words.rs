@@ -4,6 +4,7 @@
 use compare::calls::{Arguments, Call, Reply, CALLS, MOST_LISTED};
 use compare::tally::{Event, Headroom, Line, Tally};
 use compare::{rules, setting, Random};
+use second::book::{rate_part, MOST};
 use second::ledger::Ledger;
 use second::switch::{used, EVERY_RUN};
 use second::{Clock, Form, Run, Switch, Words};
@@ -37,10 +38,46 @@ fn both(call: &Call, form: Form, arguments: Arguments, s: &mut Switch, tally: &m
     assert_eq!(reply, expected, "{}", said());
     assert_eq!(*s, other, "{}", said());
     if reply.refusal() != 0 {
-        assert_eq!((&*s, reply), (&before, Reply::refused(reply.refusal())), "refused: {}", said());
+        let shows_sums = call.previewed().is_some() && [8, 9].contains(&reply.refusal());
+        let refused = Reply { sums: if shows_sums { reply.sums } else { [0; 2] }, ..Reply::refused(reply.refusal()) };
+        assert_eq!((&*s, reply), (&before, refused), "refused: {}", said());
+    }
+    if call.previewed().is_some() {
+        assert_eq!(*s, before, "a preview changes nothing: {}", said());
     }
     tally.note(call, form, arguments, &before, s, reply);
     reply
+}
+
+/// The sums of a pair's row and column, as the second program has the book.
+fn sums(s: &Switch, i: u64, j: u64) -> [u64; 2] {
+    let book = s.standing_book(s.f());
+    [book.row(i), book.column(j)]
+}
+
+/// What a booking counts as in questions 8 and 9: its slots, or the rise of its pair's booking.
+fn counts_as(operation: &str, s: &Switch, [i, j, amount]: Arguments) -> u64 {
+    let (slots, rate) = (s.words.slots[s.at(i, j)] as u64, s.words.rates[s.at(i, j)] as u64);
+    let booking = |rate| (slots + rate_part(rate, s.f(), s.clock.line as u64)).min(MOST);
+    match operation {
+        "book" => amount,
+        "book_rate" => booking(rate + amount) - booking(rate),
+        _ => panic!("{operation} is asked 8 or 9"),
+    }
+}
+
+/// A preview, and its operation on a copy: the number is the same, and the sums shown are those of the copy where it is accepted, and those
+/// that are asked about where 8 or 9 refuses it.
+fn preview_holds(call: &Call, form: Form, arguments: Arguments, s: &mut Switch, tally: &mut Tally) {
+    let shown = both(call, form, arguments, s, tally);
+    let (operation, mut copy, [i, j, _]) = (call.previewed().expect("a preview"), s.clone(), arguments);
+    let done = both(named(operation), form, arguments, &mut copy, &mut Tally::default());
+    let expected = match done.refusal() {
+        0 => sums(&copy, i, j),
+        8 | 9 => sums(s, i, j).map(|sum| sum + counts_as(operation, s, arguments)),
+        _ => [0; 2],
+    };
+    assert_eq!((shown.refusal(), shown.sums), (done.refusal(), expected), "{} {form:?} {arguments:?} on {s:?}", call.name);
 }
 
 /// Words of every kind: none, few, many, and those around what a word in flight may hold.
@@ -124,7 +161,11 @@ fn any_words_and_any_clock() {
         let form = r.of(&FORMS);
         let call = drawn(&mut r, form, |call| call.weights[0]);
         let arguments = (call.any)(&mut r, &s);
-        both(call, form, arguments, &mut s, &mut tally);
+        if call.previewed().is_some() {
+            preview_holds(call, form, arguments, &mut s, &mut tally);
+        } else {
+            both(call, form, arguments, &mut s, &mut tally);
+        }
     }
     println!("{calls} calls; how often each met what: {tally:?}");
     for (call, number) in CALLS.iter().flat_map(|call| (1..=99).map(move |number| (call, number))) {
@@ -140,8 +181,8 @@ fn told(booked: bool, headroom: Headroom) -> Event {
     Event::Told { booked, headroom }
 }
 
-/// Every call gave every number that it has, and often; rates changed without their bookings, and were read with line rates of every kind; and
-/// headrooms were of every kind, the lowest of all too.
+/// Every call gave every number that it has, and often; rates changed without their bookings, and were read with line rates of every kind;
+/// headrooms were of every kind, the lowest of all too; and previews showed and hid sums of every kind.
 fn enough_is_met(tally: &Tally) {
     for call in &CALLS {
         [0].iter().chain(call.questions).for_each(|&number| tally.at_least_one_in(100, call.name, Event::Gave(number)));
@@ -161,6 +202,41 @@ fn enough_is_met(tally: &Tally) {
         }
     }
     tally.at_least_one_in(3_000, "headroom", told(true, Headroom::Lowest));
+    previews_are_met(tally);
+    for name in PREVIEWS {
+        tally.at_least_one_in(100, name, Event::SumAboveWord);
+        tally.at_least_one_in(300, name, Event::PairAboveWord);
+        tally.at_least_one_in(100, name, Event::Hid(6));
+    }
+    for name in ["preview_release", "preview_release_rate"] {
+        tally.at_least_one_in(100, name, showed(0, false, false));
+    }
+}
+
+const PREVIEWS: [&str; 4] = ["preview_book", "preview_book_rate", "preview_release", "preview_release_rate"];
+
+fn showed(number: u32, row_fits: bool, column_fits: bool) -> Event {
+    Event::Showed { number, row_fits, column_fits }
+}
+
+/// Previews showed sums beside 0, beside 9, and beside 8 with a column within the limit and with one above it, and not always twice the same sum;
+/// some of rates showed the sums that the book had; and beside 10 sums that are not 0 were hidden.
+fn previews_are_met(tally: &Tally) {
+    for name in PREVIEWS {
+        tally.at_least_one_in(100, name, showed(0, true, true));
+        tally.at_least_one_in(100, name, Event::SumsDiffer(0));
+    }
+    for name in ["preview_book", "preview_book_rate"] {
+        for event in [showed(8, false, true), showed(8, false, false), showed(9, true, false), Event::SumsDiffer(8), Event::SumsDiffer(9)] {
+            tally.at_least_one_in(100, name, event);
+        }
+    }
+    for name in ["preview_release", "preview_release_rate"] {
+        tally.at_least_one_in(100, name, Event::Hid(10));
+    }
+    for name in ["preview_book_rate", "preview_release_rate"] {
+        tally.at_least_one_in(100, name, Event::SumsStay);
+    }
 }
 
 /// A switch of one pair before its first slot.
@@ -174,11 +250,13 @@ fn one_pair(frame: u32, line: u32, slots: u32, rate: u32) -> Switch {
     s
 }
 
-/// Every call on the book with every amount that is in range and one on either side, the headrooms, and both readings of the book.
+/// Every call on the book and its preview with every amount that is in range and one on either side, the headrooms, and both readings of the
+/// book.
 fn every_amount(s: &Switch, tally: &mut Tally) {
     for (name, most) in [("book", s.clock.frame), ("release", s.clock.frame), ("book_rate", s.clock.line), ("release_rate", s.clock.line)] {
-        let call = named(name);
+        let (call, preview) = (named(name), named(&format!("preview_{name}")));
         for amount in 0..=most as u64 + 1 {
+            preview_holds(preview, Form::Direct, [1, 1, amount], &mut s.clone(), tally);
             both(call, Form::Direct, [1, 1, amount], &mut s.clone(), tally);
         }
     }
@@ -203,9 +281,14 @@ fn every_small_book() {
     println!("small books; how often each call met what: {tally:?}");
     for (name, numbers) in [("book", [0, 6, 8]), ("book_rate", [0, 6, 8]), ("release", [0, 6, 10]), ("release_rate", [0, 6, 10])] {
         numbers.into_iter().for_each(|number| tally.at_least_one_in(50, name, Event::Gave(number)));
+        let preview = named(&format!("preview_{name}")).name;
+        numbers.into_iter().for_each(|number| tally.at_least_one_in(50, preview, Event::Gave(number)));
     }
     for name in ["book_rate", "release_rate"] {
         tally.at_least_one_in(50, name, Event::NoBookingChanged);
+    }
+    for name in ["preview_book_rate", "preview_release_rate"] {
+        tally.at_least_one_in(50, name, Event::SumsStay);
     }
     for headroom in [Headroom::BelowZero, Headroom::Zero, Headroom::AboveZero] {
         tally.at_least_one_in(50, "headroom", told(true, headroom));
@@ -222,7 +305,7 @@ fn headroom_in_list(form: Form, arguments: Arguments, s: &mut Switch, ledgers: &
 }
 
 #[test]
-fn long_lists_keep_demand_3_and_headroom() {
+fn long_lists_keep_demand_3_headroom_and_previews() {
     let mut r = Random::new(setting("KIVDRAG_SEED", 1) ^ 0x5EED);
     let lists = setting("KIVDRAG_LISTS", 400);
     let mut tally = Tally::default();
@@ -240,6 +323,8 @@ fn long_lists_keep_demand_3_and_headroom() {
             let arguments = (call.listed)(&mut r, &s, films);
             if call.name == "headroom" {
                 booked += headroom_in_list(form, arguments, &mut s, &ledgers, &mut tally) as u64;
+            } else if call.previewed().is_some() {
+                preview_holds(call, form, arguments, &mut s, &mut tally);
             } else {
                 let reply = both(call, form, arguments, &mut s, &mut tally);
                 (call.noted)(&mut ledgers, form, reply.answer, arguments);
@@ -261,6 +346,7 @@ fn long_lists_keep_demand_3_and_headroom() {
     if lists >= 100 {
         rates_are_met(&tally);
         headrooms_are_met(&tally);
+        previews_are_met(&tally);
     }
 }
 
