@@ -1,33 +1,41 @@
-// The book and the arrivals of a switch: booking by slots and by rate, release of either, headroom, and arrival.
+// The book and the arrivals of a switch: booking by slots and by rate, release of either, headroom, previews, and arrival.
 ghost use mathlib.Core.Path.{_≡_};
 ghost use Rattle.wsgs.specs.Questions.{effect};
 ghost use Rattle.wsgs.specs.Bookings.{book-of};
 ghost use Rattle.wsgs.specs.Headroom.{headroom-result};
+ghost use Rattle.wsgs.specs.Preview.{preview, slots-booking, rate-booking, slots-release, rate-release};
 ghost use Rattle.wsgs.specs.Book.{book-effect, rate-effect, release-effect, release-rate-effect, arrive-effect};
 
 mod admission;
 mod headrooms;
 mod pairs;
+mod previews;
 mod queues;
 mod rates;
+mod refusals;
 mod sums;
 
-use admission::admit_rate;
-use admission::admit_slots;
-use admission::withdraw;
 use headrooms::pair_headroom;
-use questions::holds_book;
-use questions::holds_pairs;
-use questions::is_between;
-use questions::pair_refusal;
-use queues::enqueue;
-use rates::rate_in_range;
+use pairs::add_to_word;
+use pairs::take_off_word;
+use previews::booking_left;
+use previews::shows_sums;
+use previews::with_booking;
+use previews::without_sums;
+use rates::rate_rise;
+use refusals::arrive_refusal;
+use refusals::book_pair_refusal;
+use refusals::book_refusal;
+use refusals::rate_refusal;
+use refusals::release_rate_refusal;
+use refusals::release_refusal;
+use sums::booked;
 use wsgs::BookedSlots;
 use wsgs::Clock;
 use wsgs::HeadroomResult;
 use wsgs::Input;
-use wsgs::MAX_ARRIVAL;
 use wsgs::Output;
+use wsgs::PreviewResult;
 
 // Books slots of each frame for a pair.
 pub fn book(
@@ -41,15 +49,12 @@ pub fn book(
     ensures outcome { λ r. ⌜ effect r (book-of (now (slots .exit)) (now (rates .entry)))
         ≡ book-effect clock (book-of (now (slots .entry)) (now (rates .entry))) (input .0) (output .0) (amount .0) ⌝ }
 {
-    let enough = holds_book(clock.ports as u64, slots, rates);
-    let refusal = pair_refusal(clock, enough, input, output);
+    let refusal = book_refusal(clock, slots, rates, input, output, amount);
     if refusal != 0 {
         return refusal;
     }
-    if !is_between(1, clock.frame as u64, amount.0) {
-        return 6;
-    }
-    admit_slots(clock, slots, rates, input, output, amount)
+    add_to_word(clock.ports as u64, slots, input, output, amount.0);
+    0
 }
 
 // Books a rate, in kbit/s, for a pair. It counts as the slots by which the pair's booking rises.
@@ -64,15 +69,12 @@ pub fn book_rate(
     ensures outcome { λ r. ⌜ effect r (book-of (now (slots .entry)) (now (rates .exit)))
         ≡ rate-effect clock (book-of (now (slots .entry)) (now (rates .entry))) (input .0) (output .0) rate ⌝ }
 {
-    let enough = holds_book(clock.ports as u64, slots, rates);
-    let refusal = pair_refusal(clock, enough, input, output);
+    let refusal = rate_refusal(clock, slots, rates, input, output, rate);
     if refusal != 0 {
         return refusal;
     }
-    if !rate_in_range(clock.line as u64, rate) {
-        return 6;
-    }
-    admit_rate(clock, slots, rates, input, output, rate)
+    add_to_word(clock.ports as u64, rates, input, output, rate);
+    0
 }
 
 // Takes booked slots off a pair again.
@@ -87,15 +89,12 @@ pub fn release(
     ensures outcome { λ r. ⌜ effect r (book-of (now (slots .exit)) (now (rates .entry)))
         ≡ release-effect clock (book-of (now (slots .entry)) (now (rates .entry))) (input .0) (output .0) (amount .0) ⌝ }
 {
-    let enough = holds_book(clock.ports as u64, slots, rates);
-    let refusal = pair_refusal(clock, enough, input, output);
+    let refusal = release_refusal(clock, slots, rates, input, output, amount);
     if refusal != 0 {
         return refusal;
     }
-    if !is_between(1, clock.frame as u64, amount.0) {
-        return 6;
-    }
-    withdraw(clock.ports as u64, slots, input, output, amount.0)
+    take_off_word(clock.ports as u64, slots, input, output, amount.0);
+    0
 }
 
 // Takes a booked rate, in kbit/s, off a pair again.
@@ -110,15 +109,12 @@ pub fn release_rate(
     ensures outcome { λ r. ⌜ effect r (book-of (now (slots .entry)) (now (rates .exit)))
         ≡ release-rate-effect clock (book-of (now (slots .entry)) (now (rates .entry))) (input .0) (output .0) rate ⌝ }
 {
-    let enough = holds_book(clock.ports as u64, slots, rates);
-    let refusal = pair_refusal(clock, enough, input, output);
+    let refusal = release_rate_refusal(clock, slots, rates, input, output, rate);
     if refusal != 0 {
         return refusal;
     }
-    if !rate_in_range(clock.line as u64, rate) {
-        return 6;
-    }
-    withdraw(clock.ports as u64, rates, input, output, rate)
+    take_off_word(clock.ports as u64, rates, input, output, rate);
+    0
 }
 
 // How far a pair is from inequality (2) of the paper: F less the bookings of its row and its column, its own counted once.
@@ -132,8 +128,7 @@ pub fn headroom(
     ensures result { λ r. ⌜ r
         ≡ headroom-result clock (book-of (now (slots .entry)) (now (rates .entry))) (input .0) (output .0) ⌝ }
 {
-    let enough = holds_book(clock.ports as u64, slots, rates);
-    let refusal = pair_refusal(clock, enough, input, output);
+    let refusal = book_pair_refusal(clock, slots, rates, input, output);
     if refusal != 0 {
         return HeadroomResult {
             refusal: refusal,
@@ -147,18 +142,97 @@ pub fn headroom(
     }
 }
 
+// What booking slots for a pair would give, and the sums that would follow.
+pub fn preview_book(
+    clock: Clock,
+    slots: &[u32],
+    rates: &[u32],
+    input: Input,
+    output: Output,
+    amount: BookedSlots,
+) -> PreviewResult
+    ensures result { λ r. ⌜ r ≡ preview slots-booking clock
+        (book-of (now (slots .entry)) (now (rates .entry))) (input .0) (output .0) (amount .0) ⌝ }
+{
+    let refusal = book_refusal(clock, slots, rates, input, output, amount);
+    if !shows_sums(refusal) {
+        return without_sums(refusal);
+    }
+    let present = booked(clock, slots, rates, input, output).0;
+    let raised = present + amount.0;
+    with_booking(clock, slots, rates, input, output, refusal, raised)
+}
+
+// What booking a rate would give.
+pub fn preview_book_rate(
+    clock: Clock,
+    slots: &[u32],
+    rates: &[u32],
+    input: Input,
+    output: Output,
+    rate: u64,
+) -> PreviewResult
+    ensures result { λ r. ⌜ r ≡ preview rate-booking clock
+        (book-of (now (slots .entry)) (now (rates .entry))) (input .0) (output .0) rate ⌝ }
+{
+    let refusal = rate_refusal(clock, slots, rates, input, output, rate);
+    if !shows_sums(refusal) {
+        return without_sums(refusal);
+    }
+    let present = booked(clock, slots, rates, input, output).0;
+    let raised = present + rate_rise(clock, slots, rates, input, output, rate).0;
+    with_booking(clock, slots, rates, input, output, refusal, raised)
+}
+
+// What a release of slots would give.
+pub fn preview_release(
+    clock: Clock,
+    slots: &[u32],
+    rates: &[u32],
+    input: Input,
+    output: Output,
+    amount: BookedSlots,
+) -> PreviewResult
+    ensures result { λ r. ⌜ r ≡ preview slots-release clock
+        (book-of (now (slots .entry)) (now (rates .entry))) (input .0) (output .0) (amount .0) ⌝ }
+{
+    let refusal = release_refusal(clock, slots, rates, input, output, amount);
+    if refusal != 0 {
+        return without_sums(refusal);
+    }
+    let left = booking_left(clock, slots, rates, input, output, amount.0, 0).0;
+    with_booking(clock, slots, rates, input, output, 0, left)
+}
+
+// What a release of a rate would give.
+pub fn preview_release_rate(
+    clock: Clock,
+    slots: &[u32],
+    rates: &[u32],
+    input: Input,
+    output: Output,
+    rate: u64,
+) -> PreviewResult
+    ensures result { λ r. ⌜ r ≡ preview rate-release clock
+        (book-of (now (slots .entry)) (now (rates .entry))) (input .0) (output .0) rate ⌝ }
+{
+    let refusal = release_rate_refusal(clock, slots, rates, input, output, rate);
+    if refusal != 0 {
+        return without_sums(refusal);
+    }
+    let left = booking_left(clock, slots, rates, input, output, 0, rate).0;
+    with_booking(clock, slots, rates, input, output, 0, left)
+}
+
 // Adds packets that arrived to a pair's queue.
 pub fn arrive(clock: Clock, queues: &mut [u32], input: Input, output: Output, packets: u64) -> u32
     ensures outcome { λ r. ⌜ effect r (now (queues .exit))
         ≡ arrive-effect clock (now (queues .entry)) (input .0) (output .0) packets ⌝ }
 {
-    let enough = holds_pairs(clock.ports as u64, queues);
-    let refusal = pair_refusal(clock, enough, input, output);
+    let refusal = arrive_refusal(clock, queues, input, output, packets);
     if refusal != 0 {
         return refusal;
     }
-    if !is_between(1, MAX_ARRIVAL, packets) {
-        return 6;
-    }
-    enqueue(clock, queues, input, output, packets)
+    add_to_word(clock.ports as u64, queues, input, output, packets);
+    0
 }

@@ -3,7 +3,7 @@ ghost use mathlib.Core.Path.{_≡_};
 ghost use Prim.Native.Nat.{_^_, _<_};
 ghost use Rattle.wsgs.specs.Basics.{Port};
 ghost use Rattle.wsgs.specs.Bookings.{book-of, bookings, row-sum, column-sum};
-ghost use Rattle.book.specs.Effects.{BookFits};
+ghost use Rattle.book.specs.Refusals.{BookFits};
 use crate::pairs::word_of;
 use bookings::booking;
 use bookings::slots_of;

@@ -31,10 +31,14 @@ pub sub-above : (a b : ℕ) → b ≤ a → pos a -ℤ pos b ≡ pos (a - b)
 sub-above a zero h = ap pos (omega arith)
 sub-above a (suc b) h = rw (le-ltb a (suc b) h)
 
--- the pair's own booking is a term of its row, so what the frame has to hold is a number without sign
+-- the pair's own booking is a term of its row, so what the frame has to hold is a number without sign; and it is one of its column
 pub own-in-row : (n : ℕ) (a : ℕ → ℕ → ℕ) (i j : ℕ) → Port n j → a i j ≤ row-sum n a i
 unfolding row-sum
 own-in-row n a i j p = omega (arith, sum-parts (λ y. a i y) n j p)
+
+pub own-in-column : (n : ℕ) (a : ℕ → ℕ → ℕ) (i j : ℕ) → Port n i → a i j ≤ column-sum n a j
+unfolding column-sum
+own-in-column n a i j p = omega (arith, sum-parts (λ x. a x j) n i p)
 
 module _ (n f : ℕ) (a : ℕ → ℕ → ℕ) (i j : ℕ) (p : Port n j) where
   abbrev taken : ℕ

@@ -82,7 +82,7 @@ unfolding arrive-words
 arrivals-add n q a none x y px py = refl
 arrivals-add n q a (more {q′ = r} {a′ = b} f k line i j d e v) x y px py =
     let c = clock-of n f k line in
-    let g = arrive-asked c r i j d e in
+    let g = arrive-asked c r i j d e .0 in
     let before = arrivals-add n q a v x y px py in
     rw (e, word-put n r (leb→le _ _ (g .long)) i j (g .input) (g .output) (word n r i j + d) x y px py)
     (at-pair (λ z. pick z (word n r i j + d) (word n r x y) + a x y ≡ word n q x y + pick z (b i j + d) (b x y)) i j x y

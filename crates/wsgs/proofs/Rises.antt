@@ -85,12 +85,12 @@ module _ (c : Clock) (m : Book) (i j : ℕ) where
       → bookings n f line (release-words c m i j d) x y ≡ updated₂ (bookings n f line m) i j (booking f line (slots - d) rate) x y
   unfolding release-words
   slots-lower d e x y px py =
-      let q = release-asked c m i j d e in
+      let q = release-asked c m i j d e .0 in
       rw e (slots-moved n f line m i j (q .input) (q .output) (held n m (q .long) .0) (slots - d) x y px py)
 
   pub rate-lowers : (r : ℕ) → release-rate-refusal c m i j r ≡ 0 → (x y : ℕ) → Port n x → Port n y
       → bookings n f line (release-rate-words c m i j r) x y ≡ updated₂ (bookings n f line m) i j (booking f line slots (rate - r)) x y
   unfolding release-rate-words
   rate-lowers r e x y px py =
-      let q = release-rate-asked c m i j r e in
+      let q = release-rate-asked c m i j r e .0 in
       rw e (rates-moved n f line m i j (q .input) (q .output) (held n m (q .long) .1) (rate - r) x y px py)

@@ -1,24 +1,19 @@
--- Laws of amounts: what questions 8 to 11 make of one that is in range, and that no word overflows. Assumes nothing.
-use mathlib.Core.Path.{_≡_, sym, _∙_}
+-- Laws of amounts: what questions 8 to 11 make of one that is in range. Assumes nothing.
+use mathlib.Core.Path.{_≡_, _∙_}
 use mathlib.Core.Bool.{true}
 use mathlib.Core.List.{List}
-use mathlib.Core.Logic.{_≢_}
-use Prim.Native.Nat.{ℕ, _+_, _-_, _*_, _≤_, _<_}
-use native.Mathlib.Omega.{arith}
-use borrow.Author.Tests.{ne-eqb, le-leb, lt-leb}
-use lib.Dec.{leb→le}
+use Prim.Native.Nat.{ℕ, _+_, _*_, _≤_, _<_}
+use borrow.Author.Tests.{le-leb, lt-leb}
 use Rattle.wsgs.specs.declared.Clock.{Clock}
-use Rattle.wsgs.specs.Words.{word, put}
+use Rattle.wsgs.specs.Words.{word}
 use Rattle.wsgs.specs.Bookings.{Book, bookings, row-sum, column-sum}
 use Rattle.wsgs.specs.Basics.{between}
-use Rattle.wsgs.specs.Questions.{rate-in-range, holds-book, on-sums, effect}
-use Rattle.wsgs.specs.Book.{with-slots, with-rate, rise}
-use Rattle.wsgs.specs.Claims.{Reached, Admitted}
+use Rattle.wsgs.specs.Questions.{rate-in-range}
+use Rattle.wsgs.specs.Book.{rise}
 use Rattle.wsgs.proofs.Laws.Tests.{both, in-range}
-use Rattle.wsgs.proofs.Laws.Questions.{all-yes}
 use Rattle.bookings.specs.Rises.{rise-of}
 use Rattle.bookings.proofs.Laws.{rise-is}
-use Rattle.book.specs.Effects.{sums-refusal, admit-effect, admit-rate-effect, withdraw-effect, enqueue-effect}
+use Rattle.book.specs.Refusals.{sums-refusal, held-refusal, queue-refusal}
 
 module _ (c : Clock) (m : Book) (i j d : ℕ) where
   abbrev n : ℕ
@@ -43,60 +38,29 @@ module _ (c : Clock) (m : Book) (i j d : ℕ) where
     unfolding sums-refusal
     both-admit h = rw (le-leb _ _ row, le-leb _ _ h)
 
-  -- what the sums admit
-  pub sums-admit : Reached c (holds-book n m) i j → 0 ≡ sums-refusal c m i j d → Admitted c m i j d
-  unfolding sums-refusal
-  sums-admit r e =
-      let y = all-yes (on-sums c m i j d) (omega arith) (sym e) in
-      record { reach = r; row = leb→le _ _ (y .0); column = leb→le _ _ (y .1 .0) }
-
-  -- slots that are refused, and that are admitted
-  pub slots-refused : (r : ℕ) → r ≡ sums-refusal c m i j d → r ≢ 0 → effect r m ≡ admit-effect c m i j d
-  unfolding admit-effect sums-refusal
-  slots-refused r e h = rw (sym e, ne-eqb r 0 h)
-
-  pub slots-admitted : 0 ≡ sums-refusal c m i j d → effect 0 (with-slots n m i j (word n (m .slots) i j + d)) ≡ admit-effect c m i j d
-  unfolding admit-effect sums-refusal
-  slots-admitted e = rw (sym e)
-
--- a rate that is refused, and that is admitted
-module _ (c : Clock) (m : Book) (i j r : ℕ) where
-  -- its rise, from the words of the pair
-  pub rises-by : (s v d : ℕ) → c .frame ≤ 10000 → s ≡ word (c .ports) (m .slots) i j → v ≡ word (c .ports) (m .rates) i j
-      → d ≡ rise-of (c .frame) (c .line) s v r → d ≡ rise c m i j r
-  unfolding rise
-  rises-by s v d h e g u = u ∙ rise-is (c .frame) (c .line) s v r h ∙ rw (e, g)
-
-  pub rate-refused : (q : ℕ) → q ≡ sums-refusal c m i j (rise c m i j r) → q ≢ 0 → effect q m ≡ admit-rate-effect c m i j r
-  unfolding admit-rate-effect sums-refusal
-  rate-refused q e h = rw (sym e, ne-eqb q 0 h)
-
-  pub rate-admitted : 0 ≡ sums-refusal c m i j (rise c m i j r)
-      → effect 0 (with-rate (c .ports) m i j (word (c .ports) (m .rates) i j + r)) ≡ admit-rate-effect c m i j r
-  unfolding admit-rate-effect sums-refusal
-  rate-admitted e = rw (sym e)
+-- the rise by a rate, from the words of the pair
+pub rises-by : (c : Clock) (m : Book) (i j r s v d : ℕ) → c .frame ≤ 10000 → s ≡ word (c .ports) (m .slots) i j → v ≡ word (c .ports) (m .rates) i j
+    → d ≡ rise-of (c .frame) (c .line) s v r → d ≡ rise c m i j r
+unfolding rise
+rises-by c m i j r s v d h e g u = u ∙ rise-is (c .frame) (c .line) s v r h ∙ rw (e, g)
 
 module _ (n : ℕ) (m : List ℕ) (i j d : ℕ) where
-  -- less is held than is taken off
-  pub too-little-held : word n m i j < d → effect 10 m ≡ withdraw-effect n m i j d
-  unfolding withdraw-effect
+  -- less is held than is taken off; and as much
+  pub too-little-held : word n m i j < d → 10 ≡ held-refusal n m i j d
+  unfolding held-refusal
   too-little-held h = rw (lt-leb _ _ h)
 
-  -- as much
-  pub enough-to-withdraw : d ≤ word n m i j → effect 0 (put n m i j (word n m i j - d)) ≡ withdraw-effect n m i j d
-  unfolding withdraw-effect
-  enough-to-withdraw h = rw (le-leb _ _ h)
+  pub enough-is-held : d ≤ word n m i j → 0 ≡ held-refusal n m i j d
+  unfolding held-refusal
+  enough-is-held h = rw (le-leb _ _ h)
 
-module _ (c : Clock) (q : List ℕ) (i j d : ℕ) where
-  -- a queue that is full
-  pub queue-full : 1000000 < word (c .ports) q i j + d → effect 11 q ≡ enqueue-effect c q i j d
-  unfolding enqueue-effect
+  -- a queue that is full; and one that is not
+  pub queue-full : 1000000 < word n m i j + d → 11 ≡ queue-refusal n m i j d
+  unfolding queue-refusal
   queue-full h = rw (lt-leb _ _ h)
 
-  -- one that is not
-  pub queue-takes : word (c .ports) q i j + d ≤ 1000000
-      → effect 0 (put (c .ports) q i j (word (c .ports) q i j + d)) ≡ enqueue-effect c q i j d
-  unfolding enqueue-effect
+  pub queue-takes : word n m i j + d ≤ 1000000 → 0 ≡ queue-refusal n m i j d
+  unfolding queue-refusal
   queue-takes h = rw (le-leb _ _ h)
 
 -- an amount in range

@@ -8,7 +8,7 @@ use Rattle.wsgs.specs.Words.{place}
 use Rattle.wsgs.proofs.Laws.Words.{square-small}
 use Rattle.words.specs.Places.{place-of}
 use Rattle.words.proofs.PlaceLaws as PlaceLaws
-use Rattle.book.specs.Effects.{PairFits}
+use Rattle.book.specs.Refusals.{PairFits}
 
 module _ (n : ℕ) (m : List ℕ) (i j at : ℕ) (p : PairFits n m i j) (e : at ≡ place-of n i j) where
   pub at-place : at ≡ place n i j

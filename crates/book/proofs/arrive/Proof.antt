@@ -1,90 +1,62 @@
--- `book::arrive` meets its contract: the pair refuses, or the amount is out of range, or the rest decides. Assumes nothing.
-use mathlib.Core.Path.{_≡_, sym, _∙_, ap}
-use mathlib.Core.Bool.{true}
-use Rattle.book.proofs.Laws.Amounts.{amount-few}
-use Rattle.wsgs.specs.Questions.{packets-in-range, holds-pairs}
-use Rattle.questions.specs.Refusals.{pair-refusal}
-use Rattle.questions.proofs.Laws.Pairs.{pair-asked}
-use Rattle.questions.proofs.Laws.Answers.{said-no, said-yes}
-use Rattle.book.proofs.Laws.Calls.{arrive-decides}
+-- `book::arrive` meets its contract: the call is refused, or one word changes. Assumes nothing.
+use mathlib.Core.Path.{_≡_, sym, _∙_}
+use native.Mathlib.Omega.{arith}
+use Rattle.wsgs.proofs.Refusals.{arrive-asked}
+use Rattle.book.proofs.Laws.Reach.{queues-pair}
+use Rattle.wsgs.specs.Book.{arrive-refusal, arrive-words}
+use Rattle.book.proofs.Laws.Calls.{kept, done}
 use borrow.Author.Needs.{needs}
 use Rattle.book.proofs.arrive.Statement.{statement}
 use Rattle.book.proofs.arrive.Tie as tie
+use Rattle.book.proofs.arrive.Reads as reads
+use Rattle.book.proofs.arrive.Lts as lts
+use Rattle.book.proofs.pairs.add_to_word.Reads as add-to-word-reads
+use Rattle.book.proofs.refusals.arrive_refusal.Reads as arrive-refusal-reads
 
-abbrev start : tie.After-pair-refusal → tie.Start
-start c = c .before .before .before .before .before
+abbrev start : tie.Else1 → tie.Start
+start c = c .before .before .before .before
 
--- the refusal is the pair's, with runs that are long enough or not
-refused : (c : tie.After-pair-refusal)
-    → let a = start c .args in
-    c .pair-refusal .result ≡ pair-refusal (a .clock) (holds-pairs (a .clock .ports) (a .queues .now)) (a .input .0) (a .output .0)
-refused c =
-    let a = start c .args in
-    c .pair-refusal .ensures ∙ ap (λ b. pair-refusal (a .clock) b (a .input .0) (a .output .0)) (c .before .holds-pairs .ensures)
+-- it is accepted
+accepted : (c : tie.Else1) → let a = start c .args in 0 ≡ arrive-refusal (a .clock) (a .queues .now) (a .input .0) (a .output .0) (a .packets)
+accepted c = sym (c .if1 .left) ∙ c .before .arrive-refusal .ensures
 
--- the pair has passed
-passed : (c : tie.Else1)
-    → let a = start (c .before) .args in
-    0 ≡ pair-refusal (a .clock) (holds-pairs (a .clock .ports) (a .queues .now)) (a .input .0) (a .output .0)
-passed c = sym (c .if1 .left) ∙ refused (c .before)
-
-abbrev asked : tie.Else2 → tie.Else1
-asked c = c .before .before
-
--- and the amount is in range
-in-range : (c : tie.Else2) → let a = start (asked c .before) .args in packets-in-range (a .packets) .yes ≡ true
-in-range c = said-yes (c .before .is-between .ensures) (c .if2 .left)
-
-cast-holds-pairs : tie.Need-cast-holds-pairs
-cast-holds-pairs c = search needs
-
-holds-pairs-requires : tie.Need-holds-pairs-requires
-holds-pairs-requires c κs = search needs
-
-pair-refusal-requires : tie.Need-pair-refusal-requires
-pair-refusal-requires c κs = search needs
+arrive-refusal-requires : tie.Need-arrive-refusal-requires
+arrive-refusal-requires c κs = search needs
 
 same-length : tie.Need-same-length
 same-length c = search needs
 
 returns : tie.Need-returns
-returns c = arrive-decides _ _ _ _ _ .at-pair _ (refused (c .before)) (c .if1 .taken)
+unfolding arrive-words
+returns c = kept _ _ _ _ (c .before .arrive-refusal .ensures) (c .if1 .taken)
 
-is-between-requires : tie.Need-is-between-requires
-is-between-requires c κs = search needs
+cast-add-to-word : tie.Need-cast-add-to-word
+cast-add-to-word c = search needs
+
+add-to-word-requires : tie.Need-add-to-word-requires
+add-to-word-requires c κs =
+    let e = c .before .before in
+    let a = start e .args in
+    let q = arrive-asked (a .clock) (a .queues .now) (a .input .0) (a .output .0) (a .packets) (sym (accepted e)) in
+    (queues-pair (a .clock) (a .queues .now) (a .input .0) (a .output .0) (q .0), omega (arith, q .1))
 
 same-length-2 : tie.Need-same-length-2
 same-length-2 c = search needs
 
 returns-2 : tie.Need-returns-2
-returns-2 c = arrive-decides _ _ _ _ _ .at-amount (passed (c .before .before)) (said-no (c .before .is-between .ensures) (c .if2 .taken))
-
-enqueue-requires : tie.Need-enqueue-requires
-enqueue-requires c κs =
-    let e = c .before in
-    (pair-asked _ _ _ _ (passed (asked e)), amount-few 65535 _ (in-range e))
-
-same-length-3 : tie.Need-same-length-3
-same-length-3 c = search needs
-
-returns-3 : tie.Need-returns-3
-returns-3 c =
-    let w = c .before .before in
-    let e = w .before .before in
-    w .enqueue .ensures ∙ arrive-decides _ _ _ _ _ .at-rest (passed (asked e)) (in-range e)
+unfolding arrive-words
+returns-2 c =
+    let p = c .before .before in
+    rw (p .add-to-word .ensures) (done _ _ _ (accepted (p .before .before .before)))
 
 pub arrive-spec : {M : Type 1} → statement M
 arrive-spec =
     tie.close
     (tie.spec
-    cast-holds-pairs
-    holds-pairs-requires
-    pair-refusal-requires
+    arrive-refusal-requires
     same-length
     returns
-    is-between-requires
+    cast-add-to-word
+    add-to-word-requires
     same-length-2
-    returns-2
-    enqueue-requires
-    same-length-3
-    returns-3)
+    returns-2)

@@ -1,98 +1,64 @@
--- `book::book` meets its contract: the pair refuses, or the amount is out of range, or the rest decides. Assumes nothing.
-use mathlib.Core.Path.{_≡_, sym, _∙_, ap}
-use mathlib.Core.Bool.{true}
+-- `book::book` meets its contract: the call is refused, or one word changes. Assumes nothing.
+use mathlib.Core.Path.{_≡_, sym, _∙_}
 use native.Mathlib.Omega.{arith}
-use Rattle.book.proofs.Laws.Amounts.{amount-few}
-use Rattle.wsgs.specs.Questions.{slots-in-range, holds-book}
 use Rattle.wsgs.specs.Bookings.{book-of}
-use Rattle.questions.specs.Refusals.{pair-refusal}
-use Rattle.questions.proofs.Laws.Pairs.{pair-asked}
-use Rattle.questions.proofs.Laws.Answers.{said-no, said-yes}
-use Rattle.book.proofs.Laws.Calls.{book-decides}
+use Rattle.wsgs.proofs.Refusals.{book-asks}
+use Rattle.wsgs.proofs.Rises.{slots-word-fits}
+use Rattle.book.proofs.Laws.Reach.{slots-pair}
+use Rattle.wsgs.specs.Book.{book-refusal, book-words}
+use Rattle.book.proofs.Laws.Calls.{kept, done}
 use borrow.Author.Needs.{needs}
 use Rattle.book.proofs.book.Statement.{statement}
 use Rattle.book.proofs.book.Tie as tie
+use Rattle.book.proofs.book.Reads as reads
+use Rattle.book.proofs.book.Lts as lts
+use Rattle.book.proofs.pairs.add_to_word.Reads as add-to-word-reads
+use Rattle.book.proofs.refusals.book_refusal.Reads as book-refusal-reads
 
-abbrev start : tie.After-pair-refusal → tie.Start
-start c = c .before .before .before .before .before .before
+abbrev start : tie.Else1 → tie.Start
+start c = c .before .before .before .before .before
 
--- the refusal is the pair's, with runs that are long enough or not
-refused : (c : tie.After-pair-refusal)
-    → let a = start c .args in
-    c .pair-refusal .result ≡ pair-refusal (a .clock) (holds-book (a .clock .ports) (book-of (a .slots .now) (a .rates .now))) (a .input .0) (a .output .0)
-refused c =
-    let a = start c .args in
-    c .pair-refusal .ensures ∙ ap (λ b. pair-refusal (a .clock) b (a .input .0) (a .output .0)) (c .before .holds-book .ensures)
+-- it is accepted
+accepted : (c : tie.Else1) → let a = start c .args in 0 ≡ book-refusal (a .clock) (book-of (a .slots .now) (a .rates .now)) (a .input .0) (a .output .0) (a .amount .0)
+accepted c = sym (c .if1 .left) ∙ c .before .book-refusal .ensures
 
--- the pair has passed
-passed : (c : tie.Else1)
-    → let a = start (c .before) .args in
-    0 ≡ pair-refusal (a .clock) (holds-book (a .clock .ports) (book-of (a .slots .now) (a .rates .now))) (a .input .0) (a .output .0)
-passed c = sym (c .if1 .left) ∙ refused (c .before)
-
-abbrev asked : tie.Else2 → tie.Else1
-asked c = c .before .before .before
-
--- and the amount is in range
-in-range : (c : tie.Else2) → let a = start (asked c .before) .args in slots-in-range (a .clock .frame) (a .amount .0) .yes ≡ true
-in-range c = said-yes (c .before .is-between .ensures) (c .if2 .left)
-
-cast-holds-book : tie.Need-cast-holds-book
-cast-holds-book c = search needs
-
-holds-book-requires : tie.Need-holds-book-requires
-holds-book-requires c κs = search needs
-
-pair-refusal-requires : tie.Need-pair-refusal-requires
-pair-refusal-requires c κs = search needs
+book-refusal-requires : tie.Need-book-refusal-requires
+book-refusal-requires c κs = search needs
 
 same-length : tie.Need-same-length
 same-length c = search needs
 
 returns : tie.Need-returns
-returns c = book-decides _ _ _ _ _ .at-pair _ (refused (c .before)) (c .if1 .taken)
+unfolding book-words
+returns c = kept _ _ _ _ (c .before .book-refusal .ensures) (c .if1 .taken)
 
-cast-is-between : tie.Need-cast-is-between
-cast-is-between c = search needs
+cast-add-to-word : tie.Need-cast-add-to-word
+cast-add-to-word c = search needs
 
-is-between-requires : tie.Need-is-between-requires
-is-between-requires c κs = search needs
+add-to-word-requires : tie.Need-add-to-word-requires
+add-to-word-requires c κs =
+    let e = c .before .before in
+    let a = start e .args in
+    let m = book-of (a .slots .now) (a .rates .now) in
+    (slots-pair (a .clock) m (a .input .0) (a .output .0) (book-asks (a .clock) m (a .input .0) (a .output .0) (a .amount .0) .0 (sym (accepted e)) .1 .reach), omega (arith, slots-word-fits (a .clock) m (a .input .0) (a .output .0) (a .amount .0) (sym (accepted e))))
 
 same-length-2 : tie.Need-same-length-2
 same-length-2 c = search needs
 
 returns-2 : tie.Need-returns-2
-returns-2 c = book-decides _ _ _ _ _ .at-amount (passed (c .before .before .before)) (said-no (c .before .is-between .ensures) (c .if2 .taken))
-
-admit-slots-requires : tie.Need-admit-slots-requires
-admit-slots-requires c κs =
-    let e = asked (c .before) in
-    let a = start (e .before) .args in
-    let r = pair-asked _ _ _ _ (passed e) in
-    (r, omega (arith, amount-few (a .clock .frame) (a .amount .0) (in-range (c .before)), r .frame))
-
-same-length-3 : tie.Need-same-length-3
-same-length-3 c = search needs
-
-returns-3 : tie.Need-returns-3
-returns-3 c =
-    let w = c .before .before in
-    let e = w .before .before in
-    w .admit-slots .ensures ∙ book-decides _ _ _ _ _ .at-rest (passed (asked e)) (in-range e)
+unfolding book-words
+returns-2 c =
+    let p = c .before .before in
+    rw (p .add-to-word .ensures) (done _ _ _ (accepted (p .before .before .before)))
 
 pub book-spec : {M : Type 1} → statement M
 book-spec =
     tie.close
     (tie.spec
-    cast-holds-book
-    holds-book-requires
-    pair-refusal-requires
+    book-refusal-requires
     same-length
     returns
-    cast-is-between
-    is-between-requires
+    cast-add-to-word
+    add-to-word-requires
     same-length-2
-    returns-2
-    admit-slots-requires
-    same-length-3
-    returns-3)
+    returns-2)

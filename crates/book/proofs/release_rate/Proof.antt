@@ -1,105 +1,64 @@
--- `book::release_rate` meets its contract: the pair refuses, or the amount is out of range, or the rest decides. Assumes nothing.
-use mathlib.Core.Path.{_≡_, sym, _∙_, ap}
-use mathlib.Core.Bool.{true}
-use mathlib.Core.List.{List}
-use Prim.Native.Nat.{ℕ}
-use Rattle.wsgs.specs.Questions.{Effect, effect}
-use Rattle.book.proofs.Laws.Reach.{rates-pair}
-use Rattle.wsgs.specs.Questions.{rate-in-range, holds-book}
+-- `book::release_rate` meets its contract: the call is refused, or one word changes. Assumes nothing.
+use mathlib.Core.Path.{_≡_, sym, _∙_}
+use native.Mathlib.Omega.{arith}
 use Rattle.wsgs.specs.Bookings.{book-of}
-use Rattle.questions.specs.Refusals.{pair-refusal}
-use Rattle.questions.proofs.Laws.Pairs.{pair-asked}
-use Rattle.questions.proofs.Laws.Answers.{said-no, said-yes}
-use Rattle.book.proofs.Laws.Calls.{release-rate-decides}
+use Rattle.wsgs.proofs.Refusals.{release-rate-asked}
+use Rattle.book.proofs.Laws.Reach.{rates-pair}
+use Rattle.wsgs.specs.Book.{release-rate-refusal, release-rate-words}
+use Rattle.book.proofs.Laws.Calls.{kept, done}
 use borrow.Author.Needs.{needs}
 use Rattle.book.proofs.release_rate.Statement.{statement}
 use Rattle.book.proofs.release_rate.Tie as tie
+use Rattle.book.proofs.release_rate.Reads as reads
+use Rattle.book.proofs.release_rate.Lts as lts
+use Rattle.book.proofs.pairs.take_off_word.Reads as take-off-word-reads
+use Rattle.book.proofs.refusals.release_rate_refusal.Reads as release-rate-refusal-reads
 
-abbrev start : tie.After-pair-refusal → tie.Start
-start c = c .before .before .before .before .before .before
+abbrev start : tie.Else1 → tie.Start
+start c = c .before .before .before .before .before
 
--- the refusal is the pair's, with runs that are long enough or not
-refused : (c : tie.After-pair-refusal)
-    → let a = start c .args in
-    c .pair-refusal .result ≡ pair-refusal (a .clock) (holds-book (a .clock .ports) (book-of (a .slots .now) (a .rates .now))) (a .input .0) (a .output .0)
-refused c =
-    let a = start c .args in
-    c .pair-refusal .ensures ∙ ap (λ b. pair-refusal (a .clock) b (a .input .0) (a .output .0)) (c .before .holds-book .ensures)
+-- it is accepted
+accepted : (c : tie.Else1) → let a = start c .args in 0 ≡ release-rate-refusal (a .clock) (book-of (a .slots .now) (a .rates .now)) (a .input .0) (a .output .0) (a .rate)
+accepted c = sym (c .if1 .left) ∙ c .before .release-rate-refusal .ensures
 
--- the pair has passed
-passed : (c : tie.Else1)
-    → let a = start (c .before) .args in
-    0 ≡ pair-refusal (a .clock) (holds-book (a .clock .ports) (book-of (a .slots .now) (a .rates .now))) (a .input .0) (a .output .0)
-passed c = sym (c .if1 .left) ∙ refused (c .before)
-
-abbrev asked : tie.Else2 → tie.Else1
-asked c = c .before .before .before
-
--- and the amount is in range
-in-range : (c : tie.Else2) → let a = start (asked c .before) .args in rate-in-range (a .clock .line) (a .rate) .yes ≡ true
-in-range c = said-yes (c .before .rate-in-range .ensures) (c .if2 .left)
-
-cast-holds-book : tie.Need-cast-holds-book
-cast-holds-book c = search needs
-
-holds-book-requires : tie.Need-holds-book-requires
-holds-book-requires c κs = search needs
-
-pair-refusal-requires : tie.Need-pair-refusal-requires
-pair-refusal-requires c κs = search needs
+release-rate-refusal-requires : tie.Need-release-rate-refusal-requires
+release-rate-refusal-requires c κs = search needs
 
 same-length : tie.Need-same-length
 same-length c = search needs
 
 returns : tie.Need-returns
-returns c = release-rate-decides _ _ _ _ _ .at-pair _ (refused (c .before)) (c .if1 .taken)
+unfolding release-rate-words
+returns c = kept _ _ _ _ (c .before .release-rate-refusal .ensures) (c .if1 .taken)
 
-cast-rate-in-range : tie.Need-cast-rate-in-range
-cast-rate-in-range c = search needs
+cast-take-off-word : tie.Need-cast-take-off-word
+cast-take-off-word c = search needs
 
-rate-in-range-requires : tie.Need-rate-in-range-requires
-rate-in-range-requires c κs = search needs
+take-off-word-requires : tie.Need-take-off-word-requires
+take-off-word-requires c κs =
+    let e = c .before .before in
+    let a = start e .args in
+    let m = book-of (a .slots .now) (a .rates .now) in
+    let q = release-rate-asked (a .clock) m (a .input .0) (a .output .0) (a .rate) (sym (accepted e)) in
+    (rates-pair (a .clock) m (a .input .0) (a .output .0) (q .0), q .1)
 
 same-length-2 : tie.Need-same-length-2
 same-length-2 c = search needs
 
 returns-2 : tie.Need-returns-2
-returns-2 c = release-rate-decides _ _ _ _ _ .at-amount (passed (c .before .before .before)) (said-no (c .before .rate-in-range .ensures) (c .if2 .taken))
-
-cast-withdraw : tie.Need-cast-withdraw
-cast-withdraw c = search needs
-
-withdraw-requires : tie.Need-withdraw-requires
-withdraw-requires c κs =
-    let e = asked (c .before .before) in
-    let a = start (e .before) .args in
-    rates-pair (a .clock) (book-of (a .slots .now) (a .rates .now)) (a .input .0) (a .output .0) (pair-asked _ _ _ _ (passed e))
-
-same-length-3 : tie.Need-same-length-3
-same-length-3 c = search needs
-
-returns-3 : tie.Need-returns-3
-returns-3 c =
-    let w = c .before .before in
-    let e = w .before .before .before in
-    let a = start (asked e .before) .args in
-    ap (λ (x : Effect ℕ (List ℕ)). effect (x .answer) (book-of (a .slots .now) (x .words))) (w .withdraw .ensures)
-    ∙ release-rate-decides _ _ _ _ _ .at-rest (passed (asked e)) (in-range e)
+unfolding release-rate-words
+returns-2 c =
+    let p = c .before .before in
+    rw (p .take-off-word .ensures) (done _ _ _ (accepted (p .before .before .before)))
 
 pub release-rate-spec : {M : Type 1} → statement M
 release-rate-spec =
     tie.close
     (tie.spec
-    cast-holds-book
-    holds-book-requires
-    pair-refusal-requires
+    release-rate-refusal-requires
     same-length
     returns
-    cast-rate-in-range
-    rate-in-range-requires
+    cast-take-off-word
+    take-off-word-requires
     same-length-2
-    returns-2
-    cast-withdraw
-    withdraw-requires
-    same-length-3
-    returns-3)
+    returns-2)

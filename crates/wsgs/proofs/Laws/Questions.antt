@@ -1,14 +1,14 @@
 -- Laws of questions put in turn: the first that is answered no gives its number, and questions that are all answered yes leave it to those
 -- after them. They hold by cases on the answers. And what has been asked where the questions on sizes and runs are answered yes. Assumes nothing.
 use mathlib.Core.Path.{_≡_, refl, _∙_}
-use mathlib.Core.Bool.{Bool, true, false}
+use mathlib.Core.Bool.{Bool, true, false, not}
 use mathlib.Core.List.{List, [], _∷_, _++_}
 use mathlib.Core.Logic.{_≢_, _⊎_, inl, inr}
 use Prim.Native.Nat.{ℕ, _*_, _≤_, _<_}
 use native.Mathlib.Omega.{arith}
-use lib.Dec.{T, leb, leb→le}
+use lib.Dec.{T, eqb, leb, leb→le}
 use lib.ListN.{length}
-use borrow.Author.Tests.{lt-ltb, le-ltb}
+use borrow.Author.Tests.{eq-eqb, lt-ltb, le-ltb}
 use Rattle.wsgs.specs.Basics.{pick}
 use Rattle.wsgs.specs.Questions.{Question, first-no, clock-can-advance, holds-book}
 use Rattle.wsgs.specs.Direct
@@ -94,6 +94,21 @@ passed k (q ∷ qs) rs u p h = go (q .yes) h (passed k qs rs (u .1) (p .1))
     go true h r = r h
     go false (inl e) r = e
     go false (inr l) r = absurd (omega (arith, u .0))
+
+-- no question has the number k
+abbrev pub Without : ℕ → List Question → Type 0
+Without k [] = Unit {0}
+Without k (q ∷ qs) = T (not (eqb (q .number) k)) × Without k qs
+
+-- so none gives it
+pub never : (k : ℕ) (qs : List Question) → 1 ≤ k → Without k qs → first-no qs ≢ k
+unfolding first-no
+never k [] p w = λ e. omega arith
+never k (q ∷ qs) p w = go (q .yes) (never k qs p (w .1))
+  where
+    go : (b : Bool) → first-no qs ≢ k → pick b (first-no qs) (q .number) ≢ k
+    go true h = h
+    go false h = λ e. rw (eq-eqb (q .number) k e) at (w .0)
 
 -- the question on the clock
 pub clock-stands : (slot : ℕ) → 4000000000 ≤ slot → 7 ≡ first-no (clock-can-advance slot ∷ [])

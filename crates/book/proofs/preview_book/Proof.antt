@@ -1,0 +1,89 @@
+-- `book::preview_book` meets its contract: the number is the operation's, and the sums are hidden, or have the pair's booking raised. Assumes nothing.
+use mathlib.Core.Path.{_∙_, ap}
+use Prim.Native.Nat.{_+_, _≤_}
+use native.Mathlib.Omega.{arith}
+use Rattle.wsgs.specs.Bookings.{book-of, bookings}
+use Rattle.wsgs.specs.Questions.{holds-book}
+use Rattle.wsgs.specs.Preview.{slots-booking, operation-effect}
+use Rattle.wsgs.specs.Claims.{Reached}
+use Rattle.wsgs.proofs.Preview.{none-shown, with-booking, book-shows}
+use Rattle.questions.proofs.Laws.Answers.{said-no, said-yes}
+use Rattle.book.proofs.Laws.Reach.{book-fits}
+use Rattle.book.proofs.Laws.Previews.{Shown, sums-shown, sums-hidden, book-reached}
+use borrow.Author.Needs.{needs}
+use Rattle.book.proofs.preview_book.Statement.{statement}
+use Rattle.book.proofs.preview_book.Tie as tie
+use Rattle.book.proofs.preview_book.Reads as reads
+use Rattle.book.proofs.preview_book.Lts as lts
+use Rattle.book.proofs.previews.shows_sums.Reads as shows-sums-reads
+use Rattle.book.proofs.previews.with_booking.Reads as with-booking-reads
+use Rattle.book.proofs.previews.without_sums.Reads as without-sums-reads
+use Rattle.book.proofs.refusals.book_refusal.Reads as book-refusal-reads
+use Rattle.book.proofs.sums.booked.Reads as booked-reads
+
+abbrev start : tie.Else1 → tie.Start
+start c = c .before .before .before .before .before
+
+-- the sums are shown
+sums : (c : tie.Else1) → Shown (c .before .before .book-refusal .result)
+sums c = sums-shown _ (said-yes (c .before .shows-sums .ensures) (c .if1 .left))
+
+-- so pair and amount have been asked about
+reached : (c : tie.Else1)
+    → let a = start c .args in
+    Reached (a .clock) (holds-book (a .clock .ports) (book-of (a .slots .now) (a .rates .now))) (a .input .0) (a .output .0) × (a .amount .0 ≤ a .clock .frame)
+reached c =
+    let a = start c .args in
+    book-reached (a .clock) (book-of (a .slots .now) (a .rates .now)) (a .input .0) (a .output .0) (a .amount .0) _ (c .before .before .book-refusal .ensures) (sums c)
+
+book-refusal-requires : tie.Need-book-refusal-requires
+book-refusal-requires c κs = search needs
+
+shows-sums-requires : tie.Need-shows-sums-requires
+shows-sums-requires c κs = search needs
+
+without-sums-requires : tie.Need-without-sums-requires
+without-sums-requires c κs = search needs
+
+returns : tie.Need-returns
+unfolding operation-effect
+returns c =
+    let t = c .before in
+    let k = t .before in
+    let h = sums-hidden _ (said-no (k .shows-sums .ensures) (t .if1 .taken)) in
+    c .without-sums .ensures ∙ none-shown slots-booking _ _ _ _ _ _ (k .before .book-refusal .ensures) (h .0) (h .1) (h .2)
+
+booked-requires : tie.Need-booked-requires
+booked-requires c κs = let r = reached c .0 in (book-fits _ _ _ _ r, (r .input, r .output))
+
+add-raised : tie.Need-add-raised
+add-raised c = let b = c .before in omega (arith, reached (b .before) .1, reached (b .before) .0 .frame, b .booked .ensures .1)
+
+with-booking-requires : tie.Need-with-booking-requires
+with-booking-requires c κs =
+    let b = c .before in
+    let r = reached (b .before) in
+    (r .0, omega (arith, r .1, r .0 .frame, b .booked .ensures .1))
+
+returns-2 : tie.Need-returns-2
+returns-2 c =
+    let b = c .before .before in
+    let e = b .before in
+    let a = start e .args in
+    let r = reached e .0 in
+    c .with-booking .ensures
+    ∙ ap (λ p. with-booking (a .clock) (book-of (a .slots .now) (a .rates .now)) (a .input .0) (a .output .0) (e .before .before .book-refusal .result) (p + a .amount .0)) (b .booked .ensures .0)
+    ∙ book-shows (a .clock) (book-of (a .slots .now) (a .rates .now)) (a .input .0) (a .output .0) (r .input) (r .output) (a .amount .0) _ (e .before .before .book-refusal .ensures) (sums e)
+
+pub preview-book-spec : {M : Type 1} → statement M
+preview-book-spec =
+    tie.close
+    (tie.spec
+    book-refusal-requires
+    shows-sums-requires
+    without-sums-requires
+    returns
+    booked-requires
+    add-raised
+    with-booking-requires
+    returns-2)
