@@ -6,6 +6,7 @@ ghost use Rattle.wsgs.specs.Answers.{direct-runs-of, pipelined-runs-of};
 ghost use Rattle.wsgs.specs.Direct;
 ghost use Rattle.wsgs.specs.Pipelined;
 ghost use Rattle.wsgs.specs.Headroom.{headroom-result};
+ghost use Rattle.wsgs.specs.Preview.{preview, preview-of, slots-booking, rate-booking, slots-release, rate-release};
 ghost use Rattle.wsgs.specs.Book.{book-effect, rate-effect, release-effect, release-rate-effect, arrive-effect};
 ghost use Rattle.kivdrag_c.specs.Clocks.{clock-in-words};
 ghost use Rattle.kivdrag_c.specs.Results.{c-start, c-start-of, c-headroom, c-tick, c-tick-of};
@@ -15,6 +16,7 @@ mod results;
 
 use clocks::clock_in;
 use clocks::put_clock;
+use results::put_preview;
 use results::put_result;
 use wsgs::BookedSlots;
 use wsgs::Input;
@@ -174,6 +176,99 @@ pub extern "C" fn kivdrag_headroom(
     let number = result.headroom;
     *headroom = number;
     result.refusal
+}
+
+// Tells what booking slots would give, and the sums that would follow.
+#[no_mangle]
+pub extern "C" fn kivdrag_preview_book(
+    clock: &[u32; 4],
+    slots: &[u32],
+    rates: &[u32],
+    input: u64,
+    output: u64,
+    amount: u64,
+    row: &mut u64,
+    column: &mut u64,
+) -> u32
+    ensures outcome { λ r. ⌜ preview-of r (now (row .exit)) (now (column .exit))
+        ≡ preview slots-booking (clock-in-words (now (clock .entry)))
+        (book-of (now (slots .entry)) (now (rates .entry))) input output amount ⌝ }
+{
+    let clock = clock_in(clock);
+    let amount = BookedSlots(amount);
+    let result = book::preview_book(clock, slots, rates, Input(input), Output(output), amount);
+    put_preview(result, row, column)
+}
+
+// Tells what booking a rate would give.
+#[no_mangle]
+pub extern "C" fn kivdrag_preview_book_rate(
+    clock: &[u32; 4],
+    slots: &[u32],
+    rates: &[u32],
+    input: u64,
+    output: u64,
+    rate: u64,
+    row: &mut u64,
+    column: &mut u64,
+) -> u32
+    ensures outcome { λ r. ⌜ preview-of r (now (row .exit)) (now (column .exit))
+        ≡ preview rate-booking (clock-in-words (now (clock .entry)))
+        (book-of (now (slots .entry)) (now (rates .entry))) input output rate ⌝ }
+{
+    let clock = clock_in(clock);
+    let result = book::preview_book_rate(clock, slots, rates, Input(input), Output(output), rate);
+    put_preview(result, row, column)
+}
+
+// Tells what a release of slots would give.
+#[no_mangle]
+pub extern "C" fn kivdrag_preview_release(
+    clock: &[u32; 4],
+    slots: &[u32],
+    rates: &[u32],
+    input: u64,
+    output: u64,
+    amount: u64,
+    row: &mut u64,
+    column: &mut u64,
+) -> u32
+    ensures outcome { λ r. ⌜ preview-of r (now (row .exit)) (now (column .exit))
+        ≡ preview slots-release (clock-in-words (now (clock .entry)))
+        (book-of (now (slots .entry)) (now (rates .entry))) input output amount ⌝ }
+{
+    let clock = clock_in(clock);
+    let amount = BookedSlots(amount);
+    let result = book::preview_release(clock, slots, rates, Input(input), Output(output), amount);
+    put_preview(result, row, column)
+}
+
+// Tells what a release of a rate would give.
+#[no_mangle]
+pub extern "C" fn kivdrag_preview_release_rate(
+    clock: &[u32; 4],
+    slots: &[u32],
+    rates: &[u32],
+    input: u64,
+    output: u64,
+    rate: u64,
+    row: &mut u64,
+    column: &mut u64,
+) -> u32
+    ensures outcome { λ r. ⌜ preview-of r (now (row .exit)) (now (column .exit))
+        ≡ preview rate-release (clock-in-words (now (clock .entry)))
+        (book-of (now (slots .entry)) (now (rates .entry))) input output rate ⌝ }
+{
+    let clock = clock_in(clock);
+    let result = book::preview_release_rate(
+        clock,
+        slots,
+        rates,
+        Input(input),
+        Output(output),
+        rate,
+    );
+    put_preview(result, row, column)
 }
 
 // Adds packets that arrived to a pair's queue.

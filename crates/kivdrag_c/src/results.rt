@@ -1,7 +1,9 @@
-// A tick's result as C has it: the refusal is given back, and the rest is written into lent words.
+// The result of a tick and of a preview as C has them: the refusal is given back, and the rest is written into lent words.
 ghost use mathlib.Core.Path.{_≡_};
+ghost use Rattle.wsgs.specs.Preview.{preview-of};
 ghost use Rattle.kivdrag_c.specs.Clocks.{clock-words};
 use crate::clocks::put_clock;
+use wsgs::PreviewResult;
 use wsgs::TickResult;
 
 // Writes the clock, the outputs and the pass-one word of a tick, and gives its refusal.
@@ -20,5 +22,14 @@ pub fn put_result(
     let found = result.outputs;
     *outputs = found;
     *first_pass = result.first_pass;
+    result.refusal
+}
+
+// Writes the sums of a preview, and gives its refusal.
+pub fn put_preview(result: PreviewResult, row: &mut u64, column: &mut u64) -> u32
+    ensures outcome { λ r. ⌜ preview-of r (now (row .exit)) (now (column .exit)) ≡ result ⌝ }
+{
+    *row = result.row;
+    *column = result.column;
     result.refusal
 }
