@@ -666,12 +666,16 @@ static void should_do(Call c) {
     }
 }
 
+static const char *preview_name(Call c) {
+    return listed[preview(c).function].name;
+}
+
 /* The preview of a booking or a release gives this number and these sums, and the operation after it gives the same
    number; where it is accepted, the words that it leaves have these sums. Then all memory is put back. */
 static void check_preview(int line, const char *call, uint32_t wanted, uint64_t row, uint64_t column, Call c) {
     should.row = row;
     should.column = column;
-    check(line, call, wanted, preview(c));
+    check(line, preview_name(c), wanted, preview(c));
     Memory before = is;
     if (wanted == KIVDRAG_ACCEPTED) {
         should_do(c);
@@ -886,15 +890,16 @@ static void headrooms(int pipelined) {
 
 /* What the previews of an operation refuse before they look at a sum; of several refusals the first is given. */
 static void refused_previews(Call (*operation)(uint64_t, uint64_t, uint64_t), uint64_t most) {
-    CHECK_CLOCK(preview(operation(1, 3, 1)));
+    const char *name = preview_name(operation(1, 3, 1));
+    check_clock(__LINE__, name, preview(operation(1, 3, 1)));
     lengths.slots = lengths.rates = 8;
-    CHECK_CLOCK(preview(operation(0, 4, 0)));
+    check_clock(__LINE__, name, preview(operation(0, 4, 0)));
     CHECK_NO_SUMS(KIVDRAG_REFUSED_RUNS, operation(0, 4, 0));
     lengths.slots = lengths.rates = 9;
-    CHECK_SHORT(slots, 9, preview(operation(1, 3, 1)));
-    CHECK_SHORT(rates, 9, preview(operation(1, 3, 1)));
-    CHECK_SHORT(slots, 9, preview(operation(4, 3, 1)));
-    CHECK_SHORT(rates, 9, preview(operation(1, 3, 0)));
+    check_short(__LINE__, name, &lengths.slots, 9, preview(operation(1, 3, 1)));
+    check_short(__LINE__, name, &lengths.rates, 9, preview(operation(1, 3, 1)));
+    check_short(__LINE__, name, &lengths.slots, 9, preview(operation(4, 3, 1)));
+    check_short(__LINE__, name, &lengths.rates, 9, preview(operation(1, 3, 0)));
     CHECK_NO_SUMS(KIVDRAG_REFUSED_PAIR, operation(0, 3, 1));
     CHECK_NO_SUMS(KIVDRAG_REFUSED_PAIR, operation(4, 3, 1));
     CHECK_NO_SUMS(KIVDRAG_REFUSED_PAIR, operation(1, 0, most + 1));
