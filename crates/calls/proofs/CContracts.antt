@@ -12,6 +12,7 @@ use contract.Monad.{Fun, fact-mono}
 use Rattle.wsgs.specs.Bookings.{book-of}
 use Rattle.wsgs.specs.Questions.{effect}
 use Rattle.wsgs.specs.Headroom.{headroom-result}
+use Rattle.wsgs.specs.Preview.{preview-of, slots-booking, rate-booking, slots-release, rate-release}
 use Rattle.wsgs.specs.Answers.{direct-runs-of, pipelined-runs-of, start-outcome, tick-outcome}
 use Rattle.wsgs.specs.Switch.{direct, pipelined, start, book, book-rate, release, release-rate, headroom, arrive, tick, apply, of-direct, of-pipelined, of-book, of-asking, of-queues}
 use Rattle.wsgs.proofs.Calls
@@ -24,10 +25,14 @@ use Rattle.kivdrag_c.proofs.kivdrag_book_rate as c-book-rate
 use Rattle.kivdrag_c.proofs.kivdrag_release as c-release
 use Rattle.kivdrag_c.proofs.kivdrag_release_rate as c-release-rate
 use Rattle.kivdrag_c.proofs.kivdrag_headroom as c-headroom
+use Rattle.kivdrag_c.proofs.kivdrag_preview_book as c-preview-book
+use Rattle.kivdrag_c.proofs.kivdrag_preview_book_rate as c-preview-book-rate
+use Rattle.kivdrag_c.proofs.kivdrag_preview_release as c-preview-release
+use Rattle.kivdrag_c.proofs.kivdrag_preview_release_rate as c-preview-release-rate
 use Rattle.kivdrag_c.proofs.kivdrag_arrive as c-arrive
 use Rattle.kivdrag_c.proofs.kivdrag_tick_direct as c-tick-direct
 use Rattle.kivdrag_c.proofs.kivdrag_tick_pipelined as c-tick-pipelined
-use Rattle.calls.specs.Says.{Says, switch-of, start-told, tick-told}
+use Rattle.calls.specs.Says.{Says, switch-of, PreviewTold, start-told, tick-told}
 
 module _ {M : Type 1} (𝓤 : URA M) (H : Heap 𝓤) (A : Atoms 𝓤) (mem : Memory → SProp 𝓤) (run : Routine → Fun 𝓤) where
   -- `kivdrag_start_direct`, `kivdrag_start_pipelined`: ports, frame, line, clock, and the runs
@@ -68,6 +73,28 @@ module _ {M : Type 1} (𝓤 : URA M) (H : Heap 𝓤) (A : Atoms 𝓤) (mem : Mem
       (of-asking s r ≡ apply (headroom (a .1 .1 .1 .0) (a .1 .1 .1 .1 .0)) s)
       × (e .1 .1 .1 .1 .1 .0 .now ≡ headroom-result (s .clock) (s .book) (a .1 .1 .1 .0) (a .1 .1 .1 .1 .0) .headroom))
   asks-headroom κs a g r e = fact-mono 𝓤 _ _ (λ h credits queues copy flight. (Calls.asks-headroom _ _ _ _ h, ap (λ x. x .headroom) h))
+
+  -- `kivdrag_preview_book`, `kivdrag_preview_book_rate`, `kivdrag_preview_release`, `kivdrag_preview_release_rate`: clock, slots, rates, input, output,
+  -- the amount or rate, and the words for the sums
+  pub previews-book : Says 𝓤 c-preview-book.ended (c-preview-book.clauses 𝓤 H A mem run) (λ κs a r e. (credits queues copy flight : List ℕ)
+      → PreviewTold (switch-of (clock-in-words (a .0 .now)) (a .1 .0 .now) (a .1 .1 .0 .now) credits queues copy flight) slots-booking (a .1 .1 .1 .0) (a .1 .1 .1 .1 .0) (a .1 .1 .1 .1 .1 .0)
+      (preview-of r (e .1 .1 .1 .1 .1 .1 .0 .now) (e .1 .1 .1 .1 .1 .1 .1 .0 .now)))
+  previews-book κs a g r e = fact-mono 𝓤 _ _ (λ h credits queues copy flight. (Calls.asks-preview _ _ _ _ _ _ h, h))
+
+  pub previews-book-rate : Says 𝓤 c-preview-book-rate.ended (c-preview-book-rate.clauses 𝓤 H A mem run) (λ κs a r e. (credits queues copy flight : List ℕ)
+      → PreviewTold (switch-of (clock-in-words (a .0 .now)) (a .1 .0 .now) (a .1 .1 .0 .now) credits queues copy flight) rate-booking (a .1 .1 .1 .0) (a .1 .1 .1 .1 .0) (a .1 .1 .1 .1 .1 .0)
+      (preview-of r (e .1 .1 .1 .1 .1 .1 .0 .now) (e .1 .1 .1 .1 .1 .1 .1 .0 .now)))
+  previews-book-rate κs a g r e = fact-mono 𝓤 _ _ (λ h credits queues copy flight. (Calls.asks-preview _ _ _ _ _ _ h, h))
+
+  pub previews-release : Says 𝓤 c-preview-release.ended (c-preview-release.clauses 𝓤 H A mem run) (λ κs a r e. (credits queues copy flight : List ℕ)
+      → PreviewTold (switch-of (clock-in-words (a .0 .now)) (a .1 .0 .now) (a .1 .1 .0 .now) credits queues copy flight) slots-release (a .1 .1 .1 .0) (a .1 .1 .1 .1 .0) (a .1 .1 .1 .1 .1 .0)
+      (preview-of r (e .1 .1 .1 .1 .1 .1 .0 .now) (e .1 .1 .1 .1 .1 .1 .1 .0 .now)))
+  previews-release κs a g r e = fact-mono 𝓤 _ _ (λ h credits queues copy flight. (Calls.asks-preview _ _ _ _ _ _ h, h))
+
+  pub previews-release-rate : Says 𝓤 c-preview-release-rate.ended (c-preview-release-rate.clauses 𝓤 H A mem run) (λ κs a r e. (credits queues copy flight : List ℕ)
+      → PreviewTold (switch-of (clock-in-words (a .0 .now)) (a .1 .0 .now) (a .1 .1 .0 .now) credits queues copy flight) rate-release (a .1 .1 .1 .0) (a .1 .1 .1 .1 .0) (a .1 .1 .1 .1 .1 .0)
+      (preview-of r (e .1 .1 .1 .1 .1 .1 .0 .now) (e .1 .1 .1 .1 .1 .1 .1 .0 .now)))
+  previews-release-rate κs a g r e = fact-mono 𝓤 _ _ (λ h credits queues copy flight. (Calls.asks-preview _ _ _ _ _ _ h, h))
 
   -- `kivdrag_arrive`: clock, queues, input, output, packets
   pub arrives : Says 𝓤 c-arrive.ended (c-arrive.clauses 𝓤 H A mem run) (λ κs a r e. (slots rates credits copy flight : List ℕ)

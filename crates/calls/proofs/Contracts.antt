@@ -14,6 +14,7 @@ use contract.Monad.{Fun, fact-mono}
 use Rattle.wsgs.specs.Bookings.{book-of}
 use Rattle.wsgs.specs.Questions.{effect}
 use Rattle.wsgs.specs.Headroom.{headroom-result}
+use Rattle.wsgs.specs.Preview.{slots-booking, rate-booking, slots-release, rate-release}
 use Rattle.wsgs.specs.Answers.{direct-runs-of, pipelined-runs-of, start-outcome, tick-outcome, result-of, by-value}
 use Rattle.wsgs.specs.Switch.{direct, pipelined, start, book, book-rate, release, release-rate, headroom, arrive, tick, apply, of-direct, of-pipelined, of-book, of-asking, of-queues}
 use Rattle.wsgs.proofs.Calls
@@ -24,6 +25,10 @@ use Rattle.book.proofs.book_rate as book-rate-book
 use Rattle.book.proofs.release as book-release
 use Rattle.book.proofs.release_rate as book-release-rate
 use Rattle.book.proofs.headroom as book-headroom
+use Rattle.book.proofs.preview_book as book-preview-book
+use Rattle.book.proofs.preview_book_rate as book-preview-book-rate
+use Rattle.book.proofs.preview_release as book-preview-release
+use Rattle.book.proofs.preview_release_rate as book-preview-release-rate
 use Rattle.book.proofs.arrive as book-arrive
 use Rattle.direct.proofs.tick as direct-tick
 use Rattle.pipelined.proofs.tick as pipelined-tick
@@ -31,7 +36,7 @@ use Rattle.clock.proofs.tick_direct as clock-tick-direct
 use Rattle.clock.proofs.tick_pipelined as clock-tick-pipelined
 use Rattle.clock.proofs.step_direct as clock-step-direct
 use Rattle.clock.proofs.step_pipelined as clock-step-pipelined
-use Rattle.calls.specs.Says.{Says, switch-of}
+use Rattle.calls.specs.Says.{Says, switch-of, PreviewTold}
 
 module _ {M : Type 1} (𝓤 : URA M) (H : Heap 𝓤) (A : Atoms 𝓤) (mem : Memory → SProp 𝓤) (run : Routine → Fun 𝓤) where
   -- `starts::start_direct`, `starts::start_pipelined`: ports, frame, line, clock, and the runs
@@ -72,6 +77,24 @@ module _ {M : Type 1} (𝓤 : URA M) (H : Heap 𝓤) (A : Atoms 𝓤) (mem : Mem
       (of-asking s (r .refusal) ≡ apply (headroom (a .1 .1 .1 .0 .0) (a .1 .1 .1 .1 .0 .0)) s)
       × (r .headroom ≡ headroom-result (s .clock) (s .book) (a .1 .1 .1 .0 .0) (a .1 .1 .1 .1 .0 .0) .headroom))
   asks-headroom κs a g r e = fact-mono 𝓤 _ _ (λ h credits queues copy flight. (Calls.asks-headroom _ _ _ _ h, ap (λ x. x .headroom) h))
+
+  -- `book::preview_book`, `book::preview_book_rate`, `book::preview_release`, `book::preview_release_rate`: clock, slots, rates, input, output, and the
+  -- amount or rate; besides, number and sums are those of the switch
+  pub previews-book : Says 𝓤 book-preview-book.ended (book-preview-book.clauses 𝓤 H A mem run) (λ κs a r e. (credits queues copy flight : List ℕ)
+      → PreviewTold (switch-of (a .0) (a .1 .0 .now) (a .1 .1 .0 .now) credits queues copy flight) slots-booking (a .1 .1 .1 .0 .0) (a .1 .1 .1 .1 .0 .0) (a .1 .1 .1 .1 .1 .0 .0) r)
+  previews-book κs a g r e = fact-mono 𝓤 _ _ (λ h credits queues copy flight. (Calls.asks-preview _ _ _ _ _ _ h, h))
+
+  pub previews-book-rate : Says 𝓤 book-preview-book-rate.ended (book-preview-book-rate.clauses 𝓤 H A mem run) (λ κs a r e. (credits queues copy flight : List ℕ)
+      → PreviewTold (switch-of (a .0) (a .1 .0 .now) (a .1 .1 .0 .now) credits queues copy flight) rate-booking (a .1 .1 .1 .0 .0) (a .1 .1 .1 .1 .0 .0) (a .1 .1 .1 .1 .1 .0) r)
+  previews-book-rate κs a g r e = fact-mono 𝓤 _ _ (λ h credits queues copy flight. (Calls.asks-preview _ _ _ _ _ _ h, h))
+
+  pub previews-release : Says 𝓤 book-preview-release.ended (book-preview-release.clauses 𝓤 H A mem run) (λ κs a r e. (credits queues copy flight : List ℕ)
+      → PreviewTold (switch-of (a .0) (a .1 .0 .now) (a .1 .1 .0 .now) credits queues copy flight) slots-release (a .1 .1 .1 .0 .0) (a .1 .1 .1 .1 .0 .0) (a .1 .1 .1 .1 .1 .0 .0) r)
+  previews-release κs a g r e = fact-mono 𝓤 _ _ (λ h credits queues copy flight. (Calls.asks-preview _ _ _ _ _ _ h, h))
+
+  pub previews-release-rate : Says 𝓤 book-preview-release-rate.ended (book-preview-release-rate.clauses 𝓤 H A mem run) (λ κs a r e. (credits queues copy flight : List ℕ)
+      → PreviewTold (switch-of (a .0) (a .1 .0 .now) (a .1 .1 .0 .now) credits queues copy flight) rate-release (a .1 .1 .1 .0 .0) (a .1 .1 .1 .1 .0 .0) (a .1 .1 .1 .1 .1 .0) r)
+  previews-release-rate κs a g r e = fact-mono 𝓤 _ _ (λ h credits queues copy flight. (Calls.asks-preview _ _ _ _ _ _ h, h))
 
   -- `book::arrive`: clock, queues, input, output, packets
   pub arrives : Says 𝓤 book-arrive.ended (book-arrive.clauses 𝓤 H A mem run) (λ κs a r e. (slots rates credits copy flight : List ℕ)

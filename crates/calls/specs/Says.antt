@@ -5,14 +5,18 @@ use contract.Lifetimes.{Lfts}
 use contract.Monad.{fact}
 use denote.Triple.Entry.{Args, Res}
 use denote.Triple.Clauses.{Ended, Clauses, AtExit}
+use mathlib.Core.Path.{_≡_}
 use mathlib.Core.List.{List}
 use Prim.Native.Nat.{ℕ}
 use Rattle.wsgs.specs.declared.Clock.{Clock}
+use Rattle.wsgs.specs.declared.PreviewResult.{PreviewResult}
 use Rattle.wsgs.specs.declared.StartResult.{StartResult}
 use Rattle.wsgs.specs.declared.TickResult.{TickResult}
 use Rattle.wsgs.specs.Bookings.{book-of}
 use Rattle.wsgs.specs.Questions.{Effect, effect}
-use Rattle.wsgs.specs.Switch.{Switch}
+use Rattle.wsgs.specs.Preview
+use Rattle.wsgs.specs.Preview.{BookOperation}
+use Rattle.wsgs.specs.Switch.{Switch, preview, apply, of-asking}
 use Rattle.kivdrag_c.specs.Clocks.{clock-in-words}
 use Rattle.kivdrag_c.specs.Results.{CStart, CTick}
 
@@ -27,6 +31,10 @@ Says 𝓤 T c φ =
 -- the switch that a clock and runs make
 abbrev pub switch-of : Clock → (slots rates credits queues copy flight : List ℕ) → Switch
 switch-of k s r c q p f = record { clock = k; book = book-of s r; credits = c; queues = q; copy = p; flight = f }
+
+-- what is told of a preview of the switch: that of the call, which changes nothing, and the sums besides
+abbrev pub PreviewTold : Switch → BookOperation → (input output amount : ℕ) → PreviewResult → Type 0
+PreviewTold s o i j d p = (of-asking s (p .refusal) ≡ apply (preview o i j d) s) × (p ≡ Preview.preview o (s .clock) (s .book) i j d)
 
 -- what C has after a start and after a tick, with the clock that its words hold
 abbrev pub start-told : {Runs : Type 0} → CStart Runs → Effect StartResult Runs
