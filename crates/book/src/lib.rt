@@ -154,13 +154,13 @@ pub fn preview_book(
     ensures result { λ r. ⌜ r ≡ preview slots-booking clock
         (book-of (now (slots .entry)) (now (rates .entry))) (input .0) (output .0) (amount .0) ⌝ }
 {
-    let refusal = book_refusal(clock, slots, rates, input, output, amount);
-    if !shows_sums(refusal) {
-        return without_sums(refusal);
+    let number = book_refusal(clock, slots, rates, input, output, amount);
+    if !shows_sums(number) {
+        return without_sums(number);
     }
     let present = booked(clock, slots, rates, input, output).0;
     let raised = present + amount.0;
-    with_booking(clock, slots, rates, input, output, refusal, raised)
+    with_booking(clock, slots, rates, input, output, number, raised)
 }
 
 // What booking a rate would give.
@@ -175,13 +175,13 @@ pub fn preview_book_rate(
     ensures result { λ r. ⌜ r ≡ preview rate-booking clock
         (book-of (now (slots .entry)) (now (rates .entry))) (input .0) (output .0) rate ⌝ }
 {
-    let refusal = rate_refusal(clock, slots, rates, input, output, rate);
-    if !shows_sums(refusal) {
-        return without_sums(refusal);
+    let number = rate_refusal(clock, slots, rates, input, output, rate);
+    if !shows_sums(number) {
+        return without_sums(number);
     }
     let present = booked(clock, slots, rates, input, output).0;
     let raised = present + rate_rise(clock, slots, rates, input, output, rate).0;
-    with_booking(clock, slots, rates, input, output, refusal, raised)
+    with_booking(clock, slots, rates, input, output, number, raised)
 }
 
 // What a release of slots would give.
@@ -196,12 +196,12 @@ pub fn preview_release(
     ensures result { λ r. ⌜ r ≡ preview slots-release clock
         (book-of (now (slots .entry)) (now (rates .entry))) (input .0) (output .0) (amount .0) ⌝ }
 {
-    let refusal = release_refusal(clock, slots, rates, input, output, amount);
-    if refusal != 0 {
-        return without_sums(refusal);
+    let number = release_refusal(clock, slots, rates, input, output, amount);
+    if !shows_sums(number) {
+        return without_sums(number);
     }
     let left = booking_left(clock, slots, rates, input, output, amount.0, 0).0;
-    with_booking(clock, slots, rates, input, output, 0, left)
+    with_booking(clock, slots, rates, input, output, number, left)
 }
 
 // What a release of a rate would give.
@@ -216,12 +216,12 @@ pub fn preview_release_rate(
     ensures result { λ r. ⌜ r ≡ preview rate-release clock
         (book-of (now (slots .entry)) (now (rates .entry))) (input .0) (output .0) rate ⌝ }
 {
-    let refusal = release_rate_refusal(clock, slots, rates, input, output, rate);
-    if refusal != 0 {
-        return without_sums(refusal);
+    let number = release_rate_refusal(clock, slots, rates, input, output, rate);
+    if !shows_sums(number) {
+        return without_sums(number);
     }
     let left = booking_left(clock, slots, rates, input, output, 0, rate).0;
-    with_booking(clock, slots, rates, input, output, 0, left)
+    with_booking(clock, slots, rates, input, output, number, left)
 }
 
 // Adds packets that arrived to a pair's queue.

@@ -40,6 +40,12 @@ pub sums-hidden : (r : ℕ) → shows-sums r ≡ false → (r ≢ 0) × (r ≢ 8
 unfolding shows-sums
 sums-hidden r e = (λ z. absurd (false≢true (sym (rw z at e))), λ z. absurd (false≢true (sym (rw z at e))), λ z. absurd (false≢true (sym (rw z at e))))
 
+-- a number that is neither 8 nor 9 shows them where it is 0 alone
+pub shown-none : (r : ℕ) → r ≢ 8 → r ≢ 9 → Shown r → r ≡ 0
+shown-none r h₈ h₉ (inl e) = e
+shown-none r h₈ h₉ (inr (inl e)) = absurd (h₈ e)
+shown-none r h₈ h₉ (inr (inr e)) = absurd (h₉ e)
+
 -- these numbers are 0, or come after those of the questions on pair and amount
 after-amount : (r : ℕ) → Shown r → (r ≡ 0) ⊎ (6 < r)
 after-amount r (inl e) = inl e

@@ -1,5 +1,5 @@
 -- `book::preview_release` meets its contract: the number is the operation's, and the sums are hidden, or have the booking that is left. Assumes nothing.
-use mathlib.Core.Path.{_≡_, sym, _∙_, ap}
+use mathlib.Core.Path.{_≡_, sym, _∙_, ap, ap₂}
 use Prim.Native.Nat.{_-_, _≤_}
 use native.Mathlib.Omega.{arith}
 use Rattle.wsgs.specs.Words.{word}
@@ -9,6 +9,8 @@ use Rattle.wsgs.specs.Book.{release-refusal}
 use Rattle.wsgs.specs.Preview.{slots-release, operation-effect}
 use Rattle.wsgs.specs.Claims.{Reached}
 use Rattle.wsgs.proofs.Refusals.{release-asked, release-never}
+use Rattle.questions.proofs.Laws.Answers.{said-no, said-yes}
+use Rattle.book.proofs.Laws.Previews.{sums-shown, sums-hidden, shown-none}
 use Rattle.wsgs.proofs.Preview.{none-shown, with-booking, release-shows}
 use borrow.Author.Needs.{needs}
 use Rattle.book.proofs.preview_release.Statement.{statement}
@@ -21,25 +23,34 @@ use Rattle.book.proofs.previews.without_sums.Reads as without-sums-read
 use Rattle.book.proofs.refusals.release_refusal.Reads as release-refusal-reads
 
 abbrev start : tie.Else1 → tie.Start
-start c = c .before .before .before .before
+start c = c .before .before .before .before .before
 
--- it would be accepted
+-- the sums are shown, so it would be accepted: no release gets 8 or 9
 accepted : (c : tie.Else1)
     → let a = start c .args in
-    0 ≡ release-refusal (a .clock) (book-of (a .slots .now) (a .rates .now)) (a .input .0) (a .output .0) (a .amount .0)
-accepted c = sym (c .if1 .left) ∙ c .before .release-refusal .ensures
+    (c .before .before .release-refusal .result ≡ 0) × (0 ≡ release-refusal (a .clock) (book-of (a .slots .now) (a .rates .now)) (a .input .0) (a .output .0) (a .amount .0))
+accepted c =
+    let k = c .before in
+    let a = start c .args in
+    let r = k .before .release-refusal .ensures in
+    let h = release-never (a .clock) (book-of (a .slots .now) (a .rates .now)) (a .input .0) (a .output .0) (a .amount .0) in
+    let z = shown-none _ (λ e. h .0 (sym r ∙ e)) (λ e. h .1 (sym r ∙ e)) (sums-shown _ (said-yes (k .shows-sums .ensures) (c .if1 .left))) in
+    (z, sym z ∙ r)
 
--- so the pair holds as much
+-- and the pair holds as much
 reached : (c : tie.Else1)
     → let a = start c .args in
     Reached (a .clock) (holds-book (a .clock .ports) (book-of (a .slots .now) (a .rates .now))) (a .input .0) (a .output .0)
     × (a .amount .0 ≤ word (a .clock .ports) (a .slots .now) (a .input .0) (a .output .0))
 reached c =
     let a = start c .args in
-    release-asked (a .clock) (book-of (a .slots .now) (a .rates .now)) (a .input .0) (a .output .0) (a .amount .0) (sym (accepted c))
+    release-asked (a .clock) (book-of (a .slots .now) (a .rates .now)) (a .input .0) (a .output .0) (a .amount .0) (sym (accepted c .1))
 
 release-refusal-requires : tie.Need-release-refusal-requires
 release-refusal-requires c κs = search needs
+
+shows-sums-requires : tie.Need-shows-sums-requires
+shows-sums-requires c κs = search needs
 
 without-sums-requires : tie.Need-without-sums-requires
 without-sums-requires c κs = search needs
@@ -49,13 +60,11 @@ unfolding operation-effect
 returns c =
     let t = c .before in
     let k = t .before in
-    let a = k .before .before .before .args in
-    let h = release-never (a .clock) (book-of (a .slots .now) (a .rates .now)) (a .input .0) (a .output .0) (a .amount .0) in
-    let r = k .release-refusal .ensures in
-    c .without-sums .ensures ∙ none-shown slots-release _ _ _ _ _ _ r (t .if1 .taken) (λ e. h .0 (sym r ∙ e)) (λ e. h .1 (sym r ∙ e))
+    let h = sums-hidden _ (said-no (k .shows-sums .ensures) (t .if1 .taken)) in
+    c .without-sums .ensures ∙ none-shown slots-release _ _ _ _ _ _ (k .before .release-refusal .ensures) (h .0) (h .1) (h .2)
 
 booking-left-requires : tie.Need-booking-left-requires
-booking-left-requires c κs = let q = reached c in (q .0, (q .1, omega arith))
+booking-left-requires c κs = let q = reached c in (q .0, (omega (arith, q .1), omega (arith, q .1)))
 
 with-booking-requires : tie.Need-with-booking-requires
 with-booking-requires c κs = (reached (c .before) .0, omega (arith, c .booking-left .ensures .1))
@@ -66,15 +75,17 @@ returns-2 c =
     let e = l .before in
     let a = start e .args in
     let r = reached e .0 in
+    let z = accepted e in
     c .with-booking .ensures
-    ∙ ap (with-booking (a .clock) (book-of (a .slots .now) (a .rates .now)) (a .input .0) (a .output .0) 0) (l .booking-left .ensures .0 ∙ ap (booking (a .clock .frame) (a .clock .line) (word (a .clock .ports) (a .slots .now) (a .input .0) (a .output .0) - a .amount .0)) (omega arith))
-    ∙ release-shows (a .clock) (book-of (a .slots .now) (a .rates .now)) (a .input .0) (a .output .0) (r .input) (r .output) (a .amount .0) (accepted e)
+    ∙ ap₂ (with-booking (a .clock) (book-of (a .slots .now) (a .rates .now)) (a .input .0) (a .output .0)) (z .0) (l .booking-left .ensures .0 ∙ ap (booking (a .clock .frame) (a .clock .line) (word (a .clock .ports) (a .slots .now) (a .input .0) (a .output .0) - a .amount .0)) (omega arith))
+    ∙ release-shows (a .clock) (book-of (a .slots .now) (a .rates .now)) (a .input .0) (a .output .0) (r .input) (r .output) (a .amount .0) (z .1)
 
 pub preview-release-spec : {M : Type 1} → statement M
 preview-release-spec =
     tie.close
     (tie.spec
     release-refusal-requires
+    shows-sums-requires
     without-sums-requires
     returns
     booking-left-requires

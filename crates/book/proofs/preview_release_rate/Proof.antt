@@ -1,5 +1,5 @@
 -- `book::preview_release_rate` meets its contract: the number is the operation's, and the sums are hidden, or have the booking that is left. Assumes nothing.
-use mathlib.Core.Path.{_≡_, sym, _∙_, ap}
+use mathlib.Core.Path.{_≡_, sym, _∙_, ap, ap₂}
 use Prim.Native.Nat.{_-_, _≤_}
 use native.Mathlib.Omega.{arith}
 use Rattle.wsgs.specs.Words.{word}
@@ -9,6 +9,8 @@ use Rattle.wsgs.specs.Book.{release-rate-refusal}
 use Rattle.wsgs.specs.Preview.{rate-release, operation-effect}
 use Rattle.wsgs.specs.Claims.{Reached}
 use Rattle.wsgs.proofs.Refusals.{release-rate-asked, release-rate-never}
+use Rattle.questions.proofs.Laws.Answers.{said-no, said-yes}
+use Rattle.book.proofs.Laws.Previews.{sums-shown, sums-hidden, shown-none}
 use Rattle.wsgs.proofs.Preview.{none-shown, with-booking, release-rate-shows}
 use borrow.Author.Needs.{needs}
 use Rattle.book.proofs.preview_release_rate.Statement.{statement}
@@ -21,25 +23,34 @@ use Rattle.book.proofs.previews.without_sums.Reads as without-sums-read
 use Rattle.book.proofs.refusals.release_rate_refusal.Reads as release-rate-refusal-reads
 
 abbrev start : tie.Else1 → tie.Start
-start c = c .before .before .before .before
+start c = c .before .before .before .before .before
 
--- it would be accepted
+-- the sums are shown, so it would be accepted: no release gets 8 or 9
 accepted : (c : tie.Else1)
     → let a = start c .args in
-    0 ≡ release-rate-refusal (a .clock) (book-of (a .slots .now) (a .rates .now)) (a .input .0) (a .output .0) (a .rate)
-accepted c = sym (c .if1 .left) ∙ c .before .release-rate-refusal .ensures
+    (c .before .before .release-rate-refusal .result ≡ 0) × (0 ≡ release-rate-refusal (a .clock) (book-of (a .slots .now) (a .rates .now)) (a .input .0) (a .output .0) (a .rate))
+accepted c =
+    let k = c .before in
+    let a = start c .args in
+    let r = k .before .release-rate-refusal .ensures in
+    let h = release-rate-never (a .clock) (book-of (a .slots .now) (a .rates .now)) (a .input .0) (a .output .0) (a .rate) in
+    let z = shown-none _ (λ e. h .0 (sym r ∙ e)) (λ e. h .1 (sym r ∙ e)) (sums-shown _ (said-yes (k .shows-sums .ensures) (c .if1 .left))) in
+    (z, sym z ∙ r)
 
--- so the pair holds as much
+-- and the pair holds as much
 reached : (c : tie.Else1)
     → let a = start c .args in
     Reached (a .clock) (holds-book (a .clock .ports) (book-of (a .slots .now) (a .rates .now))) (a .input .0) (a .output .0)
     × (a .rate ≤ word (a .clock .ports) (a .rates .now) (a .input .0) (a .output .0))
 reached c =
     let a = start c .args in
-    release-rate-asked (a .clock) (book-of (a .slots .now) (a .rates .now)) (a .input .0) (a .output .0) (a .rate) (sym (accepted c))
+    release-rate-asked (a .clock) (book-of (a .slots .now) (a .rates .now)) (a .input .0) (a .output .0) (a .rate) (sym (accepted c .1))
 
 release-rate-refusal-requires : tie.Need-release-rate-refusal-requires
 release-rate-refusal-requires c κs = search needs
+
+shows-sums-requires : tie.Need-shows-sums-requires
+shows-sums-requires c κs = search needs
 
 without-sums-requires : tie.Need-without-sums-requires
 without-sums-requires c κs = search needs
@@ -49,13 +60,11 @@ unfolding operation-effect
 returns c =
     let t = c .before in
     let k = t .before in
-    let a = k .before .before .before .args in
-    let h = release-rate-never (a .clock) (book-of (a .slots .now) (a .rates .now)) (a .input .0) (a .output .0) (a .rate) in
-    let r = k .release-rate-refusal .ensures in
-    c .without-sums .ensures ∙ none-shown rate-release _ _ _ _ _ _ r (t .if1 .taken) (λ e. h .0 (sym r ∙ e)) (λ e. h .1 (sym r ∙ e))
+    let h = sums-hidden _ (said-no (k .shows-sums .ensures) (t .if1 .taken)) in
+    c .without-sums .ensures ∙ none-shown rate-release _ _ _ _ _ _ (k .before .release-rate-refusal .ensures) (h .0) (h .1) (h .2)
 
 booking-left-requires : tie.Need-booking-left-requires
-booking-left-requires c κs = let q = reached c in (q .0, (omega arith, q .1))
+booking-left-requires c κs = let q = reached c in (q .0, (omega (arith, q .1), omega (arith, q .1)))
 
 with-booking-requires : tie.Need-with-booking-requires
 with-booking-requires c κs = (reached (c .before) .0, omega (arith, c .booking-left .ensures .1))
@@ -66,15 +75,17 @@ returns-2 c =
     let e = l .before in
     let a = start e .args in
     let r = reached e .0 in
+    let z = accepted e in
     c .with-booking .ensures
-    ∙ ap (with-booking (a .clock) (book-of (a .slots .now) (a .rates .now)) (a .input .0) (a .output .0) 0) (l .booking-left .ensures .0 ∙ ap (λ s. booking (a .clock .frame) (a .clock .line) s (word (a .clock .ports) (a .rates .now) (a .input .0) (a .output .0) - a .rate)) (omega arith))
-    ∙ release-rate-shows (a .clock) (book-of (a .slots .now) (a .rates .now)) (a .input .0) (a .output .0) (r .input) (r .output) (a .rate) (accepted e)
+    ∙ ap₂ (with-booking (a .clock) (book-of (a .slots .now) (a .rates .now)) (a .input .0) (a .output .0)) (z .0) (l .booking-left .ensures .0 ∙ ap (λ s. booking (a .clock .frame) (a .clock .line) s (word (a .clock .ports) (a .rates .now) (a .input .0) (a .output .0) - a .rate)) (omega arith))
+    ∙ release-rate-shows (a .clock) (book-of (a .slots .now) (a .rates .now)) (a .input .0) (a .output .0) (r .input) (r .output) (a .rate) (z .1)
 
 pub preview-release-rate-spec : {M : Type 1} → statement M
 preview-release-rate-spec =
     tie.close
     (tie.spec
     release-rate-refusal-requires
+    shows-sums-requires
     without-sums-requires
     returns
     booking-left-requires
