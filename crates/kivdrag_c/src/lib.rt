@@ -196,8 +196,8 @@ pub extern "C" fn kivdrag_preview_book(
 {
     let clock = clock_in(clock);
     let amount = BookedSlots(amount);
-    let result = book::preview_book(clock, slots, rates, Input(input), Output(output), amount);
-    put_preview(result, row, column)
+    let told = book::preview_book(clock, slots, rates, Input(input), Output(output), amount);
+    put_preview(told, row, column)
 }
 
 // Tells what booking a rate would give.
@@ -217,8 +217,8 @@ pub extern "C" fn kivdrag_preview_book_rate(
         (book-of (now (slots .entry)) (now (rates .entry))) input output rate ⌝ }
 {
     let clock = clock_in(clock);
-    let result = book::preview_book_rate(clock, slots, rates, Input(input), Output(output), rate);
-    put_preview(result, row, column)
+    let told = book::preview_book_rate(clock, slots, rates, Input(input), Output(output), rate);
+    put_preview(told, row, column)
 }
 
 // Tells what a release of slots would give.
@@ -239,8 +239,8 @@ pub extern "C" fn kivdrag_preview_release(
 {
     let clock = clock_in(clock);
     let amount = BookedSlots(amount);
-    let result = book::preview_release(clock, slots, rates, Input(input), Output(output), amount);
-    put_preview(result, row, column)
+    let told = book::preview_release(clock, slots, rates, Input(input), Output(output), amount);
+    put_preview(told, row, column)
 }
 
 // Tells what a release of a rate would give.
@@ -260,15 +260,8 @@ pub extern "C" fn kivdrag_preview_release_rate(
         (book-of (now (slots .entry)) (now (rates .entry))) input output rate ⌝ }
 {
     let clock = clock_in(clock);
-    let result = book::preview_release_rate(
-        clock,
-        slots,
-        rates,
-        Input(input),
-        Output(output),
-        rate,
-    );
-    put_preview(result, row, column)
+    let told = book::preview_release_rate(clock, slots, rates, Input(input), Output(output), rate);
+    put_preview(told, row, column)
 }
 
 // Adds packets that arrived to a pair's queue.
