@@ -1,5 +1,5 @@
 //! Times the proved library against the plain Rust scheduler, in one run: `cargo run --release -- FOLDER` after `rt staticlib kivdrag_c`.
-//! Writes three tables into the folder, each as Markdown and as comma-separated values: ticks, frames (the ticks that read the book), bookings (with headroom).
+//! Writes three tables into the folder, each as Markdown and as comma-separated values: ticks, frames (the ticks that read the book), bookings (with headroom and previews).
 
 mod plain;
 mod switch;
@@ -165,6 +165,7 @@ enum OnSums {
     BySlots,
     ByRate,
     Headroom,
+    Preview,
 }
 
 /// Accepted calls, on a book without rates and on one with a rate for every pair.
@@ -173,7 +174,13 @@ fn bookings() -> Table {
         "| call | rates in the book | N | proved, million a second | plain Rust, million a second | ratio |",
         "call,rates,ports,proved_ns,plain_ns",
     );
-    for (call, name) in [(OnSums::BySlots, "booking by slots"), (OnSums::ByRate, "booking by rate"), (OnSums::Headroom, "headroom")] {
+    let calls = [
+        (OnSums::BySlots, "booking by slots"),
+        (OnSums::ByRate, "booking by rate"),
+        (OnSums::Headroom, "headroom"),
+        (OnSums::Preview, "preview of a booking by slots"),
+    ];
+    for (call, name) in calls {
         for (held, rates) in [(0, "none"), (1_000, "all pairs")] {
             for n in PORTS {
                 let t = calls_on_sums(n, call, held);
@@ -185,6 +192,12 @@ fn bookings() -> Table {
     table
 }
 
+/// The number of a call that answers more, which goes to its place.
+fn both<T>((refusal, answer): (u32, T), place: &mut T) -> u32 {
+    *place = answer;
+    refusal
+}
+
 /// Nanoseconds of a call for the pair (1, 1), whose words are set back before each: proved, and plain. Every pair holds the rate.
 fn calls_on_sums(n: usize, call: OnSums, held: u32) -> Vec<f64> {
     let clock = [n as u32, 10_000, 0, LINE];
@@ -192,31 +205,35 @@ fn calls_on_sums(n: usize, call: OnSums, held: u32) -> Vec<f64> {
     let (mut a, mut b) = (book.clone(), book);
     let mut by_library = || {
         (a.0[0], a.1[0]) = (0, held);
-        let (slots, rates, mut headroom) = (&mut a.0, &mut a.1, 0);
+        let (slots, rates, mut headroom, mut row, mut column) = (&mut a.0, &mut a.1, 0, 0, 0);
         let (k, u, v) = (clock.as_ptr(), slots.len(), rates.len());
         let refusal = unsafe {
             match call {
                 OnSums::BySlots => kivdrag_book(k, slots.as_mut_ptr(), u, rates.as_ptr(), v, 1, 1, 9),
                 OnSums::ByRate => kivdrag_book_rate(k, slots.as_ptr(), u, rates.as_mut_ptr(), v, 1, 1, 950),
                 OnSums::Headroom => kivdrag_headroom(k, slots.as_ptr(), u, rates.as_ptr(), v, 1, 1, &mut headroom),
+                OnSums::Preview => kivdrag_preview_book(k, slots.as_ptr(), u, rates.as_ptr(), v, 1, 1, 9, &mut row, &mut column),
             }
         };
-        black_box((refusal, slots[0], rates[0], headroom))
+        black_box((refusal, slots[0], rates[0], headroom, [row, column]))
     };
     let mut by_hand = || {
         (b.0[0], b.1[0]) = (0, held);
-        let (refusal, headroom) = match call {
-            OnSums::BySlots => (plain::book(&clock, &mut b.0, &b.1, 1, 1, 9), 0),
-            OnSums::ByRate => (plain::book_rate(&clock, &b.0, &mut b.1, 1, 1, 950), 0),
-            OnSums::Headroom => plain::headroom(&clock, &b.0, &b.1, 1, 1),
+        let (mut headroom, mut sums) = (0, [0; 2]);
+        let refusal = match call {
+            OnSums::BySlots => plain::book(&clock, &mut b.0, &b.1, 1, 1, 9),
+            OnSums::ByRate => plain::book_rate(&clock, &b.0, &mut b.1, 1, 1, 950),
+            OnSums::Headroom => both(plain::headroom(&clock, &b.0, &b.1, 1, 1), &mut headroom),
+            OnSums::Preview => both(plain::preview_book(&clock, &b.0, &b.1, 1, 1, 9), &mut sums),
         };
-        black_box((refusal, b.0[0], b.1[0], headroom))
+        black_box((refusal, b.0[0], b.1[0], headroom, sums))
     };
-    let booked = (held as u64 * 10_000).div_ceil(LINE as u64) as i64;
+    let booked = (held as u64 * 10_000).div_ceil(LINE as u64);
     let expected = match call {
-        OnSums::BySlots => (0, 9, held, 0),
-        OnSums::ByRate => (0, 0, held + 950, 0),
-        OnSums::Headroom => (0, 0, held, 10_000 - (2 * n as i64 - 1) * booked),
+        OnSums::BySlots => (0, 9, held, 0, [0; 2]),
+        OnSums::ByRate => (0, 0, held + 950, 0, [0; 2]),
+        OnSums::Headroom => (0, 0, held, 10_000 - ((2 * n as u64 - 1) * booked) as i64, [0; 2]),
+        OnSums::Preview => (0, 0, held, 0, [n as u64 * booked + 9; 2]),
     };
     assert_eq!((by_library(), by_hand()), (expected, expected));
     nanoseconds(20_000, vec![Box::new(|| _ = by_library()), Box::new(|| _ = by_hand())])

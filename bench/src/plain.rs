@@ -299,6 +299,22 @@ fn try_headroom(clock: &Clock, slots: &[u32], rates: &[u32], input: u64, output:
     Ok(clock[1] as i64 - taken as i64)
 }
 
+/// The sums are added up once, for the questions and for the answer.
+fn try_preview_book(clock: &Clock, slots: &[u32], rates: &[u32], input: u64, output: u64, amount: u64) -> Result<(u32, [u64; 2]), u32> {
+    let (i, j) = on_pair(clock, slots, rates, input, output)?;
+    if amount == 0 || amount > clock[1] as u64 {
+        return Err(6);
+    }
+    let sums = [row_sum(clock, slots, rates, i) + amount, column_sum(clock, slots, rates, j) + amount];
+    let [row_fits, column_fits] = sums.map(|sum| 2 * sum <= clock[1] as u64 + 1);
+    let number = if !row_fits { 8 } else if !column_fits { 9 } else { 0 };
+    Ok((number, sums))
+}
+
+pub fn preview_book(clock: &Clock, slots: &[u32], rates: &[u32], input: u64, output: u64, amount: u64) -> (u32, [u64; 2]) {
+    try_preview_book(clock, slots, rates, input, output, amount).unwrap_or_else(|no| (no, [0; 2]))
+}
+
 pub fn headroom(clock: &Clock, slots: &[u32], rates: &[u32], input: u64, output: u64) -> (u32, i64) {
     try_headroom(clock, slots, rates, input, output).map_or_else(|no| (no, 0), |number| (0, number))
 }

@@ -180,8 +180,8 @@ pub fn preview_book_rate(
         return without_sums(number);
     }
     let present = booked(clock, slots, rates, input, output).0;
-    let raised = present + rate_rise(clock, slots, rates, input, output, rate).0;
-    with_booking(clock, slots, rates, input, output, number, raised)
+    let risen = present + rate_rise(clock, slots, rates, input, output, rate).0;
+    with_booking(clock, slots, rates, input, output, number, risen)
 }
 
 // What a release of slots would give.

@@ -2,15 +2,13 @@
 -- shows are those of the present bookings with another one for the pair: raised by what a booking counts as, or that of what a release leaves.
 -- Assumes nothing.
 use mathlib.Core.Path.{_≡_, refl, sym, _∙_, ap, ap₂}
-use mathlib.Core.Bool.{false}
 use mathlib.Core.Logic.{_≢_, _⊎_, inl, inr}
-use Prim.Native.Nat.{ℕ, _+_, _-_, _≤_}
+use Prim.Native.Nat.{ℕ, _+_, _-_}
 use native.Mathlib.Omega.{arith}
-use native.Mathlib.Decide.{decLe}
 use borrow.Author.Tests.{ne-eqb}
 use Rattle.wsgs.specs.declared.Clock.{Clock}
 use Rattle.wsgs.specs.declared.PreviewResult.{PreviewResult}
-use Rattle.wsgs.specs.Basics.{between, Port, updated₂}
+use Rattle.wsgs.specs.Basics.{pick, Port, updated₂}
 use Rattle.wsgs.specs.Words.{word}
 use Rattle.wsgs.specs.Bookings.{Book, booking, bookings, row-sum, column-sum}
 use Rattle.wsgs.specs.Questions.{Effect}
@@ -43,11 +41,7 @@ shows-asked r x y (inr e) = rw e
 
 hides : (r x y : ℕ) → r ≢ 0 → r ≢ 8 → r ≢ 9 → shown r x y ≡ 0
 unfolding shown
-hides r x y e₀ e₈ e₉ = rw (ne-eqb r 0 e₀, go (decLe 8 r))
-  where
-    go : Dec (8 ≤ r) → between 8 9 r ≡ false
-    go (yes h) = range-out 8 9 r (inr (omega (arith, e₈, e₉)))
-    go (no h) = range-out 8 9 r (inl (omega arith))
+hides r x y e₀ e₈ e₉ = rw (ne-eqb r 0 e₀) (ap (λ b. pick b y 0) (range-out _ _ r (λ p. omega (arith, p .0, p .1, e₈, e₉))))
 
 -- ON A COPY
 pub on-copy : PreviewIsOnCopy

@@ -6,7 +6,6 @@ use Prim.Native.Nat.{ℕ, _+_, _-_, _≤_, _<_}
 use native.Mathlib.Omega.{arith}
 use native.Mathlib.Decide.{ℕ-discrete}
 use borrow.Author.Tests.{ne-eqb}
-use lib.Dec.{T}
 use Rattle.wsgs.specs.declared.Clock.{Clock}
 use Rattle.wsgs.specs.Basics.{between, Port, updated₂}
 use Rattle.wsgs.specs.Bookings.{Book, row-sum, column-sum}

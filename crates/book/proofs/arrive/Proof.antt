@@ -8,10 +8,6 @@ use Rattle.book.proofs.Laws.Calls.{kept, done}
 use borrow.Author.Needs.{needs}
 use Rattle.book.proofs.arrive.Statement.{statement}
 use Rattle.book.proofs.arrive.Tie as tie
-use Rattle.book.proofs.arrive.Reads as reads
-use Rattle.book.proofs.arrive.Lts as lts
-use Rattle.book.proofs.pairs.add_to_word.Reads as add-to-word-reads
-use Rattle.book.proofs.refusals.arrive_refusal.Reads as arrive-refusal-reads
 
 abbrev start : tie.Else1 → tie.Start
 start c = c .before .before .before .before

@@ -10,10 +10,6 @@ use Rattle.book.proofs.Laws.Calls.{kept, done}
 use borrow.Author.Needs.{needs}
 use Rattle.book.proofs.book_rate.Statement.{statement}
 use Rattle.book.proofs.book_rate.Tie as tie
-use Rattle.book.proofs.book_rate.Reads as reads
-use Rattle.book.proofs.book_rate.Lts as lts
-use Rattle.book.proofs.pairs.add_to_word.Reads as add-to-word-reads
-use Rattle.book.proofs.refusals.rate_refusal.Reads as rate-refusal-reads
 
 abbrev start : tie.Else1 → tie.Start
 start c = c .before .before .before .before .before

@@ -10,10 +10,6 @@ use Rattle.book.proofs.Laws.Headrooms.{headroom-refused, headroom-given
 use borrow.Author.Needs.{needs}
 use Rattle.book.proofs.headroom.Statement.{statement}
 use Rattle.book.proofs.headroom.Tie as tie
-use Rattle.book.proofs.headroom.Reads as reads
-use Rattle.book.proofs.headroom.Lts as lts
-use Rattle.book.proofs.headrooms.pair_headroom.Reads as pair-headroom-reads
-use Rattle.book.proofs.refusals.book_pair_refusal.Reads as book-pair-refusal-reads
 
 -- the pair has passed
 passed : (c : tie.Else1)

@@ -2,7 +2,7 @@
 use mathlib.Core.Path.{_∙_, ap}
 use Prim.Native.Nat.{_+_, _≤_}
 use native.Mathlib.Omega.{arith}
-use Rattle.wsgs.specs.Bookings.{book-of, bookings}
+use Rattle.wsgs.specs.Bookings.{book-of}
 use Rattle.wsgs.specs.Questions.{holds-book}
 use Rattle.wsgs.specs.Preview.{slots-booking, operation-effect}
 use Rattle.wsgs.specs.Claims.{Reached}
@@ -13,13 +13,6 @@ use Rattle.book.proofs.Laws.Previews.{Shown, sums-shown, sums-hidden, b
 use borrow.Author.Needs.{needs}
 use Rattle.book.proofs.preview_book.Statement.{statement}
 use Rattle.book.proofs.preview_book.Tie as tie
-use Rattle.book.proofs.preview_book.Reads as reads
-use Rattle.book.proofs.preview_book.Lts as lts
-use Rattle.book.proofs.previews.shows_sums.Reads as shows-sums-reads
-use Rattle.book.proofs.previews.with_booking.Reads as with-booking-reads
-use Rattle.book.proofs.previews.without_sums.Reads as without-sums-reads
-use Rattle.book.proofs.refusals.book_refusal.Reads as book-refusal-reads
-use Rattle.book.proofs.sums.booked.Reads as booked-reads
 
 abbrev start : tie.Else1 → tie.Start
 start c = c .before .before .before .before .before

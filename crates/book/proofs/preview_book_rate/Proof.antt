@@ -1,8 +1,8 @@
 -- `book::preview_book_rate` meets its contract: the number is the operation's, and the sums are hidden, or have the pair's booking raised. Assumes nothing.
-use mathlib.Core.Path.{_∙_, ap, ap₂}
+use mathlib.Core.Path.{_∙_, ap₂}
 use Prim.Native.Nat.{_+_, _≤_}
 use native.Mathlib.Omega.{arith}
-use Rattle.wsgs.specs.Bookings.{book-of, bookings}
+use Rattle.wsgs.specs.Bookings.{book-of}
 use Rattle.wsgs.specs.Questions.{holds-book}
 use Rattle.wsgs.specs.Preview.{rate-booking, operation-effect}
 use Rattle.wsgs.specs.Claims.{Reached}
@@ -13,14 +13,6 @@ use Rattle.book.proofs.Laws.Previews.{Shown, sums-shown, sums-hidden, r
 use borrow.Author.Needs.{needs}
 use Rattle.book.proofs.preview_book_rate.Statement.{statement}
 use Rattle.book.proofs.preview_book_rate.Tie as tie
-use Rattle.book.proofs.preview_book_rate.Reads as reads
-use Rattle.book.proofs.preview_book_rate.Lts as lts
-use Rattle.book.proofs.previews.shows_sums.Reads as shows-sums-reads
-use Rattle.book.proofs.previews.with_booking.Reads as with-booking-reads
-use Rattle.book.proofs.previews.without_sums.Reads as without-sums-reads
-use Rattle.book.proofs.rates.rate_rise.Reads as rate-rise-reads
-use Rattle.book.proofs.refusals.rate_refusal.Reads as rate-refusal-reads
-use Rattle.book.proofs.sums.booked.Reads as booked-reads
 
 abbrev start : tie.Else1 → tie.Start
 start c = c .before .before .before .before .before
@@ -60,8 +52,8 @@ booked-requires c κs = let r = reached c .0 in (book-fits _ _ _ _ r, (r .input,
 rate-rise-requires : tie.Need-rate-rise-requires
 rate-rise-requires c κs = let r = reached (c .before) in (r .0, omega (arith, r .1))
 
-add-raised : tie.Need-add-raised
-add-raised c = search needs
+add-risen : tie.Need-add-risen
+add-risen c = search needs
 
 with-booking-requires : tie.Need-with-booking-requires
 with-booking-requires c κs =
@@ -90,6 +82,6 @@ preview-book-rate-spec =
     returns
     booked-requires
     rate-rise-requires
-    add-raised
+    add-risen
     with-booking-requires
     returns-2)

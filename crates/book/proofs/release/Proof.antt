@@ -9,10 +9,6 @@ use Rattle.book.proofs.Laws.Calls.{kept, done}
 use borrow.Author.Needs.{needs}
 use Rattle.book.proofs.release.Statement.{statement}
 use Rattle.book.proofs.release.Tie as tie
-use Rattle.book.proofs.release.Reads as reads
-use Rattle.book.proofs.release.Lts as lts
-use Rattle.book.proofs.pairs.take_off_word.Reads as take-off-word-reads
-use Rattle.book.proofs.refusals.release_refusal.Reads as release-refusal-reads
 
 abbrev start : tie.Else1 → tie.Start
 start c = c .before .before .before .before .before
@@ -40,7 +36,7 @@ take-off-word-requires c κs =
     let a = start e .args in
     let m = book-of (a .slots .now) (a .rates .now) in
     let q = release-asked (a .clock) m (a .input .0) (a .output .0) (a .amount .0) (sym (accepted e)) in
-    (slots-pair (a .clock) m (a .input .0) (a .output .0) (q .0), q .1)
+    (slots-pair (a .clock) m (a .input .0) (a .output .0) (q .0), omega (arith, q .1))
 
 same-length-2 : tie.Need-same-length-2
 same-length-2 c = search needs

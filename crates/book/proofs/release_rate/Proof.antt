@@ -9,10 +9,6 @@ use Rattle.book.proofs.Laws.Calls.{kept, done}
 use borrow.Author.Needs.{needs}
 use Rattle.book.proofs.release_rate.Statement.{statement}
 use Rattle.book.proofs.release_rate.Tie as tie
-use Rattle.book.proofs.release_rate.Reads as reads
-use Rattle.book.proofs.release_rate.Lts as lts
-use Rattle.book.proofs.pairs.take_off_word.Reads as take-off-word-reads
-use Rattle.book.proofs.refusals.release_rate_refusal.Reads as release-rate-refusal-reads
 
 abbrev start : tie.Else1 → tie.Start
 start c = c .before .before .before .before .before
@@ -40,7 +36,7 @@ take-off-word-requires c κs =
     let a = start e .args in
     let m = book-of (a .slots .now) (a .rates .now) in
     let q = release-rate-asked (a .clock) m (a .input .0) (a .output .0) (a .rate) (sym (accepted e)) in
-    (rates-pair (a .clock) m (a .input .0) (a .output .0) (q .0), q .1)
+    (rates-pair (a .clock) m (a .input .0) (a .output .0) (q .0), omega (arith, q .1))
 
 same-length-2 : tie.Need-same-length-2
 same-length-2 c = search needs

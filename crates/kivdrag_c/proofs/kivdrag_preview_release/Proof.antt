@@ -4,11 +4,6 @@ use mathlib.Core.Path.{_∙_}
 use borrow.Author.Needs.{needs}
 use Rattle.kivdrag_c.proofs.kivdrag_preview_release.Statement.{statement}
 use Rattle.kivdrag_c.proofs.kivdrag_preview_release.Tie as tie
-use Rattle.kivdrag_c.proofs.kivdrag_preview_release.Reads as reads
-use Rattle.kivdrag_c.proofs.kivdrag_preview_release.Lts as lts
-use Rattle.book.proofs.preview_release.Reads as preview-release-reads
-use Rattle.kivdrag_c.proofs.clocks.clock_in.Reads as clock-in-reads
-use Rattle.kivdrag_c.proofs.results.put_preview.Reads as put-preview-reads
 
 clock-in-requires : tie.Need-clock-in-requires
 clock-in-requires c κs = search needs

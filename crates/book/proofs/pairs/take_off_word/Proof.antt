@@ -2,10 +2,6 @@
 use borrow.Author.Needs.{needs}
 use Rattle.book.proofs.pairs.take_off_word.Statement.{statement}
 use Rattle.book.proofs.pairs.take_off_word.Tie as tie
-use Rattle.book.proofs.pairs.take_off_word.Reads as reads
-use Rattle.book.proofs.pairs.take_off_word.Lts as lts
-use Rattle.book.proofs.pairs.put_word.Reads as put-word-reads
-use Rattle.book.proofs.pairs.word_of.Reads as word-of-reads
 
 word-of-requires : tie.Need-word-of-requires
 word-of-requires c κs = search needs

@@ -6,10 +6,6 @@ use Rattle.book.proofs.Laws.Reach.{slots-pair, rates-pair}
 use borrow.Author.Needs.{needs}
 use Rattle.book.proofs.previews.booking_left.Statement.{statement}
 use Rattle.book.proofs.previews.booking_left.Tie as tie
-use Rattle.book.proofs.previews.booking_left.Reads as reads
-use Rattle.book.proofs.previews.booking_left.Lts as lts
-use Rattle.book.proofs.pairs.word_of.Reads as word-of-reads
-use Rattle.bookings.proofs.booking.Reads as booking-reads
 
 cast-ports : tie.Need-cast-ports
 cast-ports c = search needs

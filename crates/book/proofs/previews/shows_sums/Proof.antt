@@ -4,9 +4,6 @@ use Rattle.book.specs.Refusals.{shows-sums}
 use borrow.Author.Needs.{needs}
 use Rattle.book.proofs.previews.shows_sums.Statement.{statement}
 use Rattle.book.proofs.previews.shows_sums.Tie as tie
-use Rattle.book.proofs.previews.shows_sums.Reads as reads
-use Rattle.book.proofs.previews.shows_sums.Lts as lts
-use Rattle.questions.proofs.is_between.Reads as is-between-reads
 
 returns : tie.Need-returns
 unfolding shows-sums

@@ -10,11 +10,6 @@ use Rattle.book.proofs.Laws.Previews.{row-with, column-with}
 use borrow.Author.Needs.{needs}
 use Rattle.book.proofs.previews.with_booking.Statement.{statement}
 use Rattle.book.proofs.previews.with_booking.Tie as tie
-use Rattle.book.proofs.previews.with_booking.Reads as reads
-use Rattle.book.proofs.previews.with_booking.Lts as lts
-use Rattle.book.proofs.sums.booked.Reads as booked-reads
-use Rattle.book.proofs.sums.column_sum.Reads as column-sum-reads
-use Rattle.book.proofs.sums.row_sum.Reads as row-sum-reads
 
 -- the bookings of the pairs
 abbrev present : tie.Start → ℕ → ℕ → ℕ

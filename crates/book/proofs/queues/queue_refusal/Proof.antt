@@ -4,9 +4,6 @@ use Rattle.book.proofs.Laws.Amounts.{queue-full, queue-takes}
 use borrow.Author.Needs.{needs}
 use Rattle.book.proofs.queues.queue_refusal.Statement.{statement}
 use Rattle.book.proofs.queues.queue_refusal.Tie as tie
-use Rattle.book.proofs.queues.queue_refusal.Reads as reads
-use Rattle.book.proofs.queues.queue_refusal.Lts as lts
-use Rattle.book.proofs.pairs.word_of.Reads as word-of-reads
 
 word-of-requires : tie.Need-word-of-requires
 word-of-requires c κs = search needs

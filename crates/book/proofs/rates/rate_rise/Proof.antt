@@ -6,11 +6,6 @@ use Rattle.book.proofs.Laws.Amounts.{rises-by}
 use borrow.Author.Needs.{needs}
 use Rattle.book.proofs.rates.rate_rise.Statement.{statement}
 use Rattle.book.proofs.rates.rate_rise.Tie as tie
-use Rattle.book.proofs.rates.rate_rise.Reads as reads
-use Rattle.book.proofs.rates.rate_rise.Lts as lts
-use Rattle.book.proofs.pairs.word_of.Reads as word-of-reads
-use Rattle.bookings.proofs.rise.Reads as rise-reads
-use Rattle.bookings.proofs.slots_of.Reads as slots-of-reads
 
 cast-ports : tie.Need-cast-ports
 cast-ports c = search needs

@@ -11,12 +11,6 @@ use Rattle.book.proofs.Laws.Calls.{arrive-decides}
 use borrow.Author.Needs.{needs}
 use Rattle.book.proofs.refusals.arrive_refusal.Statement.{statement}
 use Rattle.book.proofs.refusals.arrive_refusal.Tie as tie
-use Rattle.book.proofs.refusals.arrive_refusal.Reads as reads
-use Rattle.book.proofs.refusals.arrive_refusal.Lts as lts
-use Rattle.book.proofs.queues.queue_refusal.Reads as queue-refusal-reads
-use Rattle.questions.proofs.holds_pairs.Reads as holds-pairs-reads
-use Rattle.questions.proofs.is_between.Reads as is-between-reads
-use Rattle.questions.proofs.pair_refusal.Reads as pair-refusal-reads
 
 abbrev start : tie.After-pair-refusal → tie.Start
 start c = c .before .before .before .before

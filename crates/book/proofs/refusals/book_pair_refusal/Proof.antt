@@ -4,10 +4,6 @@ use Rattle.questions.specs.Refusals.{pair-refusal}
 use borrow.Author.Needs.{needs}
 use Rattle.book.proofs.refusals.book_pair_refusal.Statement.{statement}
 use Rattle.book.proofs.refusals.book_pair_refusal.Tie as tie
-use Rattle.book.proofs.refusals.book_pair_refusal.Reads as reads
-use Rattle.book.proofs.refusals.book_pair_refusal.Lts as lts
-use Rattle.questions.proofs.holds_book.Reads as holds-book-reads
-use Rattle.questions.proofs.pair_refusal.Reads as pair-refusal-reads
 
 cast-holds-book : tie.Need-cast-holds-book
 cast-holds-book c = search needs

@@ -12,11 +12,6 @@ use Rattle.book.proofs.Laws.Calls.{book-decides}
 use borrow.Author.Needs.{needs}
 use Rattle.book.proofs.refusals.book_refusal.Statement.{statement}
 use Rattle.book.proofs.refusals.book_refusal.Tie as tie
-use Rattle.book.proofs.refusals.book_refusal.Reads as reads
-use Rattle.book.proofs.refusals.book_refusal.Lts as lts
-use Rattle.book.proofs.admission.sums_refusal.Reads as sums-refusal-reads
-use Rattle.book.proofs.refusals.book_pair_refusal.Reads as book-pair-refusal-reads
-use Rattle.questions.proofs.is_between.Reads as is-between-reads
 
 abbrev start : tie.Else1 → tie.Start
 start c = c .before .before .before .before

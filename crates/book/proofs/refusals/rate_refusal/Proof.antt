@@ -13,12 +13,6 @@ use Rattle.book.proofs.Laws.Calls.{rate-decides}
 use borrow.Author.Needs.{needs}
 use Rattle.book.proofs.refusals.rate_refusal.Statement.{statement}
 use Rattle.book.proofs.refusals.rate_refusal.Tie as tie
-use Rattle.book.proofs.refusals.rate_refusal.Reads as reads
-use Rattle.book.proofs.refusals.rate_refusal.Lts as lts
-use Rattle.book.proofs.admission.sums_refusal.Reads as sums-refusal-reads
-use Rattle.book.proofs.rates.rate_in_range.Reads as rate-in-range-reads
-use Rattle.book.proofs.rates.rate_rise.Reads as rate-rise-reads
-use Rattle.book.proofs.refusals.book_pair_refusal.Reads as book-pair-refusal-reads
 
 abbrev start : tie.Else1 → tie.Start
 start c = c .before .before .before .before
