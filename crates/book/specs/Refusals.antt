@@ -5,9 +5,10 @@ use Prim.Native.Nat.{ℕ, _*_, _≤_}
 use lib.Dec.{eqb}
 use lib.ListN.{length}
 use Rattle.wsgs.specs.declared.Clock.{Clock}
-use Rattle.wsgs.specs.Basics.{pick, between, Port}
+use Rattle.wsgs.specs.Basics.{pick, Port}
 use Rattle.wsgs.specs.Bookings.{Book}
 use Rattle.wsgs.specs.Questions.{first-no, enough-held, queue-can-take, on-sums}
+use Rattle.wsgs.specs.Preview.{refused-by-sum}
 
 -- the last questions of a call: those of a booking that counts as d, 8 and 9; of a release from the run m, 10; of an arrival, 11
 unfoldable pub sums-refusal : Clock → Book → ℕ → ℕ → ℕ → ℕ
@@ -22,9 +23,9 @@ unfoldable pub queue-refusal : ℕ → List ℕ → ℕ → ℕ → ℕ → ℕ
 unfolding first-no
 queue-refusal n q i j d = first-no (queue-can-take n q i j d ∷ [])
 
--- a preview shows the sums where its number is 0, 8 or 9
+-- a preview shows the sums where the operation is accepted, and where a sum did not fit
 unfoldable pub shows-sums : ℕ → Bool
-shows-sums r = pick (eqb r 0) true (between 8 9 r)
+shows-sums r = pick (eqb r 0) true (refused-by-sum r)
 
 -- a run holds a matrix over the pairs of at most 32 ports
 pub record MatrixFits (n : ℕ) (m : List ℕ) : Type 0 where

@@ -1,5 +1,6 @@
 -- Preview: what an operation on the book would give, and the two sums of bookings that would follow, those of the pair's row and of its column. It
 -- is said once for the four operations. Assumes nothing.
+use mathlib.Core.Bool.{Bool}
 use Prim.Native.Nat.{ℕ, _+_}
 use lib.Dec.{eqb}
 use Rattle.wsgs.specs.declared.Clock.{Clock}
@@ -28,9 +29,13 @@ counts-as rate-booking c m i j r = rise c m i j r
 counts-as slots-release c m i j d = 0
 counts-as rate-release c m i j r = 0
 
--- the sum that is shown: the one afterwards where the operation is accepted; where question 8 or 9 refuses it, the one that it asked about; else 0
+-- a sum did not fit: question 8 or 9 was the first no
+abbrev pub refused-by-sum : (refusal : ℕ) → Bool
+refused-by-sum r = between 8 9 r
+
+-- the sum that is shown: the one afterwards where the operation is accepted; where a sum did not fit, the one that the question asked about; else 0
 unfoldable pub shown : (refusal afterwards asked-about : ℕ) → ℕ
-shown r afterwards asked-about = pick (eqb r 0) afterwards (pick (between 8 9 r) asked-about 0)
+shown r afterwards asked-about = pick (eqb r 0) afterwards (pick (refused-by-sum r) asked-about 0)
 
 abbrev pub preview-of : (refusal row column : ℕ) → PreviewResult
 preview-of r row column = record { refusal = r; row = row; column = column }
