@@ -18,7 +18,7 @@ use Rattle.wsgs.specs.declared.HeadroomResult.{HeadroomResult}
 use Rattle.wsgs.specs.declared.PreviewResult.{PreviewResult}
 use Rattle.wsgs.specs.declared.TickResult.{TickResult}
 use Rattle.wsgs.specs.Basics.{pick, bit, between, Port}
-use Rattle.wsgs.specs.Steps.{Matching, empty-matching, nine-steps, listed, outputs-of, pass-word-of}
+use Rattle.wsgs.specs.Steps.{Matching, empty-matching, View, nine-steps, listed, outputs-of, pass-word-of}
 use Rattle.wsgs.specs.Questions.{Outcome, Effect, refused, clock-can-advance}
 use Rattle.wsgs.specs.Bookings.{Book}
 use Rattle.wsgs.specs.Book.{book-effect, rate-effect, release-effect, release-rate-effect, arrive-effect}
@@ -90,12 +90,12 @@ module _ (n : ℕ) (few : n ≤ 32) where
   narrow : {i : ℕ} → (Port 32 i → ⊥) → Port n i → ⊥
   narrow h p = h (omega arith)
 
-  steps-bounded : (credit queue₁ queue₂ : ℕ → ℕ → ℕ) → Bounded (nine-steps n credit queue₁ queue₂)
+  steps-bounded : (credit : ℕ → ℕ → ℕ) (v w : View) → Bounded (nine-steps n credit v w)
   unfolding nine-steps
-  steps-bounded credit queue₁ queue₂ =
+  steps-bounded credit v w =
       record {
-        output = λ i h. two-outside n queue₂ _ n i (narrow h) ∙ one-outside n credit queue₁ n i (narrow h);
-        first = λ i h. ap (ltb 0) (one-outside n credit queue₁ n i (narrow h));
+        output = λ i h. two-outside n (w .queue) (w .last) _ n i (narrow h) ∙ one-outside n credit (v .queue) (v .last) n i (narrow h);
+        first = λ i h. ap (ltb 0) (one-outside n credit (v .queue) (v .last) n i (narrow h));
       }
 
   -- the test of the ports fails outside them

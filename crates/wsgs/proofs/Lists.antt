@@ -12,7 +12,7 @@ use Rattle.wsgs.specs.Basics.{pick, Port}
 use Rattle.wsgs.specs.Steps.{Matching, empty-matching, nine-steps}
 use Rattle.wsgs.specs.Switch.{Switch, Form, direct, pipelined, Call, final}
 use Rattle.wsgs.specs.Ledger.{Ledger, ledger-of, answered, has-turns, tick-two}
-use Rattle.wsgs.specs.Seen.{Seen, seen, steps-answer, early-answer}
+use Rattle.wsgs.specs.Seen.{Seen, seen, second-view, steps-answer, early-answer}
 use Rattle.wsgs.specs.Claims.{all-of-form, opens, Same, PipelinedBegins, NoOutputTwice, MatchingMaximal, PacketsConserved, QueuesSeen}
 use Rattle.wsgs.proofs.Steps.{once, maximal}
 use Rattle.wsgs.proofs.Share.{Fair}
@@ -48,7 +48,7 @@ early-once : (l : Ledger) (h : Seen) (k : ℕ) → Once (l .ports) (early-answer
 unfolding early-answer
 early-once l h k = go (leb k (l .ports))
   where
-    go : (b : Bool) → Once (l .ports) (pick b empty-matching (nine-steps (l .ports) (λ i j. 0) (λ i j. 0) (λ i j. h .second (tick-two l k i) i j)))
+    go : (b : Bool) → Once (l .ports) (pick b empty-matching (nine-steps (l .ports) (λ i j. 0) (second-view l h k) (second-view l h k)))
     go true = λ i x pi px d g e. omega arith
     go false = once (l .ports) _ _ _
 

@@ -16,11 +16,11 @@ use Rattle.wsgs.specs.Direct
 use Rattle.wsgs.specs.Pipelined
 
 -- the runs that a call is lent
-abbrev pub direct-runs-of : (slots rates credits queues : List ℕ) → Direct.Runs
-direct-runs-of s r c q = record { book = book-of s r; credits = c; queues = q }
+abbrev pub direct-runs-of : (slots rates credits queues given : List ℕ) → Direct.Runs
+direct-runs-of s r c q g = record { book = book-of s r; credits = c; queues = q; given = g }
 
-abbrev pub pipelined-runs-of : (slots rates credits queues copy flight : List ℕ) → Pipelined.Runs
-pipelined-runs-of s r c q p f = record { book = book-of s r; credits = c; queues = q; copy = p; flight = f }
+abbrev pub pipelined-runs-of : (slots rates credits queues given copy flight : List ℕ) → Pipelined.Runs
+pipelined-runs-of s r c q g p f = record { book = book-of s r; credits = c; queues = q; given = g; copy = p; flight = f }
 
 -- what a start gives back, and with it the runs
 abbrev pub start-result-of : {Runs : Type 0} → Outcome Runs → StartResult

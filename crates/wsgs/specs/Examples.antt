@@ -54,6 +54,7 @@ some-switch =
       book = book-of (replicate 9 8) (replicate 9 1);
       credits = replicate 9 7;
       queues = replicate 9 6;
+      given = replicate 3 2;
       copy = replicate 9 5;
       flight = replicate 18 4;
     }

@@ -123,11 +123,13 @@ pub record DirectLong (n : ℕ) (w : Direct.Runs) : Type 0 where
   pub rates : n * n ≤ length (w .book .rates)
   pub credits : n * n ≤ length (w .credits)
   pub queues : n * n ≤ length (w .queues)
+  pub given : n ≤ length (w .given)
 
 -- those that the turns of a pipelined tick change, and all that it borrows
 pub record TurningLong (n : ℕ) (w : Pipelined.TurnRuns) : Type 0 where
   pub credits : n * n ≤ length (w .credits)
   pub queues : n * n ≤ length (w .queues)
+  pub given : n ≤ length (w .given)
   pub flight : 2 * n * n ≤ length (w .flight)
 
 pub record PipelinedLong (n : ℕ) (w : Pipelined.Runs) : Type 0 where
@@ -148,10 +150,18 @@ direct-yes n f w qs y =
     let a = both (holds-book n (w .book)) _ (y .1 .1 .0) in
     let m = both (leb (n * n) (length (w .book .slots))) _ (a .0) in
     let b = both (leb (n * n) (length (w .credits))) _ (a .1) in
+    let c = both (leb (n * n) (length (w .queues))) _ (b .1) in
     record {
       ports = in-range 1 32 n (y .0);
       frame = in-range 1 10000 f (y .1 .0);
-      long = record { slots = leb→le _ _ (m .0); rates = leb→le _ _ (m .1); credits = leb→le _ _ (b .0); queues = leb→le _ _ (b .1) };
+      long =
+          record {
+            slots = leb→le _ _ (m .0);
+            rates = leb→le _ _ (m .1);
+            credits = leb→le _ _ (b .0);
+            queues = leb→le _ _ (c .0);
+            given = leb→le _ _ (c .1);
+          };
       later = y .1 .1 .1;
     }
 
@@ -162,7 +172,8 @@ pipelined-yes n f w qs y =
     let m = both (leb (n * n) (length (w .book .slots))) _ (a .0) in
     let b = both (leb (n * n) (length (w .credits))) _ (a .1) in
     let c = both (leb (n * n) (length (w .queues))) _ (b .1) in
-    let d = both (leb (n * n) (length (w .copy))) _ (c .1) in (
+    let g = both (leb n (length (w .given))) _ (c .1) in
+    let d = both (leb (n * n) (length (w .copy))) _ (g .1) in (
       leb→le n f (y .1 .1 .0),
       record {
         ports = in-range 1 32 n (y .0);
@@ -172,7 +183,8 @@ pipelined-yes n f w qs y =
               slots = leb→le _ _ (m .0);
               rates = leb→le _ _ (m .1);
               copy = leb→le _ _ (d .0);
-              sized = record { credits = leb→le _ _ (b .0); queues = leb→le _ _ (c .0); flight = leb→le _ _ (d .1) };
+              sized =
+                  record { credits = leb→le _ _ (b .0); queues = leb→le _ _ (c .0); given = leb→le _ _ (g .0); flight = leb→le _ _ (d .1) };
             };
         later = y .1 .1 .1 .1;
       },

@@ -139,7 +139,7 @@ module _ (n : ℕ) (few : n ≤ 32) (i j : ℕ) (pi : Port n i) (pj : Port n j) 
     one-holds =
         rw (turn-one-is n s x w)
         (choice-holds (wants₁ n s x w) (less-one n (w .credits) x (choice₁ n s x w)) (100 + choice₁ n s x w) (choice₁ n s x w)
-        (choice-is n true _ (wants₁ n s x w) x)
+        (choice-is n true _ (wants₁ n s x w) _ x)
         (λ t. ltb→lt 0 _ (both (ltb 0 (word n (w .credits) x (choice₁ n s x w))) _ t .1))
         (λ p. rw (lt-ltb 0 (choice₁ n s x w) (p .low)) at (output-code n (choice₁ n s x w) 0 few (p .high) (omega arith))))
 
@@ -147,7 +147,7 @@ module _ (n : ℕ) (few : n ≤ 32) (i j : ℕ) (pi : Port n i) (pj : Port n j) 
     two-holds : held-in (turn-two n s x w) ≡ held-in w
     two-holds =
         rw (turn-two-is n s x w)
-        (choice-holds (wants₂ n s x w) (w .credits) (choice₂ n s x w) (choice₂ n s x w) (choice-is n true _ (wants₂ n s x w) x)
+        (choice-holds (wants₂ n s x w) (w .credits) (choice₂ n s x w) (choice₂ n s x w) (choice-is n true _ (wants₂ n s x w) _ x)
         (λ t. ltb→lt 0 _ t) (λ p. output-code n 0 (choice₂ n s x w) few (omega arith) (p .high)))
 
   -- the turns of all inputs
