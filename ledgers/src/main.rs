@@ -4,12 +4,14 @@
 //!
 //! - `clock N F SLOT LINE` and `run NAME WORD ..`: the switch that the list finds, of any words, in runs for three ports;
 //! - `call REFUSAL CALL`: the calls in turn, written as crates/wsgs/specs/Switch.antt has them;
+//! - `lowest TICKS CLAIMS`: how many of the ticks would answer otherwise, and how many of the claims would be others, if each turn took the lowest
+//!   output that it may take;
 //! - `claim I J FIRST A M B SERVED`: every pair in every frame since the last accepted start;
 //! - `headroom I J REFUSAL NUMBER`: every pair after the last call, and two that the switch has not;
 //! - `preview OPERATION I J AMOUNT REFUSAL ROW COLUMN`: ten operations after the last call, of every kind.
 
 use second::book::Preview;
-use second::ledger::Ledger;
+use second::ledger::{Claim, Ledger};
 use second::switch::{used, EVERY_RUN, MAX_FRAME, MAX_LINE_RATE, MAX_PACKETS, MAX_PORTS, MAX_QUEUE};
 use second::{Answer, Clock, Form, Rules, Run, Switch, Words};
 use std::fmt;
@@ -132,13 +134,13 @@ impl fmt::Display for Call {
     }
 }
 
-/// A list in the making: the switch, the ledger since the last accepted start, and the calls so far with their refusals.
+/// A list in the making: the switch, the ledger since the last accepted start, and the calls so far with their answers.
 struct List {
     random: Random,
     form: Form,
     switch: Switch,
     ledger: Option<Ledger>,
-    calls: Vec<(Call, u32)>,
+    calls: Vec<(Call, Answer)>,
 }
 
 impl List {
@@ -172,7 +174,7 @@ impl List {
             (Call::Arrive { input, output, packets }, Some(l)) => l.arrive(no, input, output, packets),
             (Call::Tick { .. }, Some(l)) => l.tick(answer),
         }
-        self.calls.push((call, no));
+        self.calls.push((call, answer));
     }
 
     fn port(&mut self) -> u64 {
@@ -354,12 +356,35 @@ impl List {
     }
 }
 
-/// A clock and words that no calls have to have left: the runs of both forms at the level, with something in each word.
+/// Each turn takes the lowest output that it may take: the rules before T-04.
+const LOWEST: Rules = Rules { upto: 3 };
+
+/// The claims of the list, in numbers.
+fn claims(list: &List) -> Vec<[u64; 7]> {
+    let numbers = |c: Claim| [c.input as u64, c.output as u64, c.first as u64, c.booked, c.others, c.waited, c.served];
+    list.ledger.as_ref().expect("a list opens with an accepted start").claims().into_iter().map(numbers).collect()
+}
+
+/// How many ticks of the list, and how many of its claims, are not as the lowest output would have them on the switch that the list found.
+fn not_by_lowest(list: &List, found: &Switch) -> (usize, usize) {
+    let switch = Switch { rules: LOWEST, ..found.clone() };
+    let mut other = List { random: Random(0), form: list.form, switch, ledger: None, calls: Vec::new() };
+    list.calls.iter().for_each(|&(call, _)| other.put(call));
+    let ticks = list.calls.iter().zip(&other.calls).filter(|((call, answer), (_, by_lowest))| matches!(call, Call::Tick { .. }) && answer != by_lowest);
+    let (is, by_lowest) = (claims(list), claims(&other));
+    assert_eq!(is.len(), by_lowest.len());
+    (ticks.count(), is.iter().zip(&by_lowest).filter(|(is, by_lowest)| is != by_lowest).count())
+}
+
+/// A clock and words that no calls have to have left: the runs of both forms at the level, with something in each word. The last given outputs
+/// are drawn apart, so that the calls drawn after them are those of the level before.
 fn any_switch(r: &mut Random, rules: Rules) -> Switch {
+    let mut apart = Random(!r.0);
     let (ports, frame, last) = (r.of(&[0, 1, 2, 3, 9, 33]), r.of(&[0, 1, 2, 5, 10_001]), r.of(&[0, 1, 5, 77, 4_000_000_000]));
     let line = r.of(&[0, 1, 1_000, 100_000_001]);
     let mut words = Words::default();
     for run in EVERY_RUN {
+        let r = if run == Run::Given { &mut apart } else { &mut *r };
         *words.run_mut(run) = (0..length(rules, run)).map(|_| r.of(&[1, 1, 2, 2, 3, 4, 7, 101, 102, 103, 104])).collect();
     }
     Switch { rules, clock: Clock { ports, frame, last, line, ..Clock::default() }, words }
@@ -381,7 +406,7 @@ fn main() {
         let words: Vec<String> = switch.words.run(run).iter().map(u32::to_string).collect();
         println!("run {} {}", format!("{run:?}").to_lowercase(), words.join(" "));
     }
-    let form = if seed % 2 == 0 { Form::Direct } else { Form::Pipelined };
+    let (form, found) = (if seed % 2 == 0 { Form::Direct } else { Form::Pipelined }, switch.clone());
     let mut list = List { random, form, switch, ledger: None, calls: Vec::new() };
     if list.random.one_in(4) {
         let ticks = list.random.within(1, 6);
@@ -391,11 +416,13 @@ fn main() {
     list.part(ticks);
     let previewed = list.previewed();
     let not_there = [(list.switch.n() + 1, 1), (1, list.random.of(&[0, (1 << 32) + 1]))];
-    for (call, refusal) in list.calls {
-        println!("call {refusal} {call}");
+    for (call, answer) in &list.calls {
+        println!("call {} {call}", answer.refusal);
     }
-    for c in list.ledger.expect("a list opens with an accepted start").claims() {
-        println!("claim {} {} {} {} {} {} {}", c.input, c.output, c.first, c.booked, c.others, c.waited, c.served);
+    let (ticks, others) = not_by_lowest(&list, &found);
+    println!("lowest {ticks} {others}");
+    for [i, j, first, booked, others, waited, served] in claims(&list) {
+        println!("claim {i} {j} {first} {booked} {others} {waited} {served}");
     }
     for (input, output) in list.switch.pairs().into_iter().chain(not_there) {
         let (refusal, number) = list.switch.headroom(input, output);

@@ -5,8 +5,8 @@ use mathlib.Core.Path.{_≡_, refl}
 use mathlib.Core.List.{List, [], _∷_}
 use lib.IntN.{pos, negsuc}
 use Rattle.wsgs.specs.Clocks.{clock-of}
-use Rattle.wsgs.specs.Basics.{sum, some-of, least}
-use Rattle.wsgs.specs.Words.{word}
+use Rattle.wsgs.specs.Basics.{sum, some-of, first-from}
+use Rattle.wsgs.specs.Words.{word, port-word}
 use Rattle.wsgs.specs.Bookings.{book-of, booking, bookings, row-sum, column-sum}
 use Rattle.wsgs.specs.Frames.{into-frame}
 use Rattle.wsgs.specs.Book.{book-words, rate-words, release-words, release-rate-words, arrive-words}
@@ -27,6 +27,7 @@ list-1 =
             book = book-of (101 ∷ 1 ∷ 1 ∷ 2 ∷ 1 ∷ 2 ∷ 101 ∷ 4 ∷ 1 ∷ []) (1 ∷ 104 ∷ 104 ∷ 103 ∷ 1 ∷ 104 ∷ 2 ∷ 1 ∷ 4 ∷ []);
             credits = 2 ∷ 1 ∷ 2 ∷ 7 ∷ 4 ∷ 102 ∷ 103 ∷ 7 ∷ 1 ∷ [];
             queues = 7 ∷ 4 ∷ 101 ∷ 4 ∷ 101 ∷ 101 ∷ 1 ∷ 1 ∷ 102 ∷ [];
+            given = 104 ∷ 3 ∷ 101 ∷ [];
             copy = 2 ∷ 4 ∷ 7 ∷ 103 ∷ 102 ∷ 1 ∷ 102 ∷ 3 ∷ 103 ∷ [];
             flight = 1 ∷ 101 ∷ 103 ∷ 2 ∷ 102 ∷ 2 ∷ 101 ∷ 3 ∷ 102 ∷ 7 ∷ 101 ∷ 1 ∷ 7 ∷ 3 ∷ 104 ∷ 7 ∷ 1 ∷ 103 ∷ [];
           };
@@ -141,15 +142,15 @@ list-1 =
     }
 
 pub agrees-1 : first-wrong list-1 ≡ 0
-unfolding first-wrong entries apply Direct.start Direct.tick Pipelined.start Pipelined.tick book-words rate-words release-words release-rate-words headroom-refusal Preview.preview arrive-words into-frame booking bookings row-sum column-sum sum least some-of word
+unfolding first-wrong entries apply Direct.start Direct.tick Pipelined.start Pipelined.tick book-words rate-words release-words release-rate-words headroom-refusal Preview.preview arrive-words into-frame booking bookings row-sum column-sum sum first-from some-of word port-word
 agrees-1 = refl
 
 pub headroom-1 : first-wrong-headroom list-1 ≡ 0
-unfolding first-wrong-headroom final headroom-result pair-headroom headroom-over apply Direct.start Direct.tick Pipelined.start Pipelined.tick book-words rate-words release-words release-rate-words headroom-refusal Preview.preview arrive-words into-frame booking bookings row-sum column-sum sum least some-of word
+unfolding first-wrong-headroom final headroom-result pair-headroom headroom-over apply Direct.start Direct.tick Pipelined.start Pipelined.tick book-words rate-words release-words release-rate-words headroom-refusal Preview.preview arrive-words into-frame booking bookings row-sum column-sum sum first-from some-of word port-word
 headroom-1 = refl
 
 pub preview-1 : first-wrong-preview list-1 ≡ 0
-unfolding first-wrong-preview final apply Direct.start Direct.tick Pipelined.start Pipelined.tick book-words rate-words release-words release-rate-words headroom-refusal Preview.preview arrive-words into-frame booking bookings row-sum column-sum sum least some-of word
+unfolding first-wrong-preview final apply Direct.start Direct.tick Pipelined.start Pipelined.tick book-words rate-words release-words release-rate-words headroom-refusal Preview.preview arrive-words into-frame booking bookings row-sum column-sum sum first-from some-of word port-word
 preview-1 = refl
 
 abbrev list-2 : Case
@@ -161,6 +162,7 @@ list-2 =
             book = book-of (104 ∷ 3 ∷ 101 ∷ 104 ∷ 3 ∷ 3 ∷ 1 ∷ 103 ∷ 2 ∷ []) (103 ∷ 1 ∷ 104 ∷ 104 ∷ 4 ∷ 102 ∷ 7 ∷ 2 ∷ 2 ∷ []);
             credits = 102 ∷ 1 ∷ 4 ∷ 7 ∷ 104 ∷ 1 ∷ 104 ∷ 2 ∷ 3 ∷ [];
             queues = 104 ∷ 7 ∷ 104 ∷ 103 ∷ 2 ∷ 3 ∷ 1 ∷ 4 ∷ 1 ∷ [];
+            given = 2 ∷ 4 ∷ 2 ∷ [];
             copy = 4 ∷ 104 ∷ 4 ∷ 4 ∷ 3 ∷ 3 ∷ 101 ∷ 2 ∷ 2 ∷ [];
             flight = 3 ∷ 1 ∷ 2 ∷ 104 ∷ 2 ∷ 7 ∷ 2 ∷ 1 ∷ 104 ∷ 101 ∷ 2 ∷ 101 ∷ 102 ∷ 3 ∷ 103 ∷ 1 ∷ 102 ∷ 3 ∷ [];
           };
@@ -275,15 +277,15 @@ list-2 =
     }
 
 pub agrees-2 : first-wrong list-2 ≡ 0
-unfolding first-wrong entries apply Direct.start Direct.tick Pipelined.start Pipelined.tick book-words rate-words release-words release-rate-words headroom-refusal Preview.preview arrive-words into-frame booking bookings row-sum column-sum sum least some-of word
+unfolding first-wrong entries apply Direct.start Direct.tick Pipelined.start Pipelined.tick book-words rate-words release-words release-rate-words headroom-refusal Preview.preview arrive-words into-frame booking bookings row-sum column-sum sum first-from some-of word port-word
 agrees-2 = refl
 
 pub headroom-2 : first-wrong-headroom list-2 ≡ 0
-unfolding first-wrong-headroom final headroom-result pair-headroom headroom-over apply Direct.start Direct.tick Pipelined.start Pipelined.tick book-words rate-words release-words release-rate-words headroom-refusal Preview.preview arrive-words into-frame booking bookings row-sum column-sum sum least some-of word
+unfolding first-wrong-headroom final headroom-result pair-headroom headroom-over apply Direct.start Direct.tick Pipelined.start Pipelined.tick book-words rate-words release-words release-rate-words headroom-refusal Preview.preview arrive-words into-frame booking bookings row-sum column-sum sum first-from some-of word port-word
 headroom-2 = refl
 
 pub preview-2 : first-wrong-preview list-2 ≡ 0
-unfolding first-wrong-preview final apply Direct.start Direct.tick Pipelined.start Pipelined.tick book-words rate-words release-words release-rate-words headroom-refusal Preview.preview arrive-words into-frame booking bookings row-sum column-sum sum least some-of word
+unfolding first-wrong-preview final apply Direct.start Direct.tick Pipelined.start Pipelined.tick book-words rate-words release-words release-rate-words headroom-refusal Preview.preview arrive-words into-frame booking bookings row-sum column-sum sum first-from some-of word port-word
 preview-2 = refl
 
 abbrev list-3 : Case
@@ -295,6 +297,7 @@ list-3 =
             book = book-of (1 ∷ 103 ∷ 1 ∷ 2 ∷ 2 ∷ 2 ∷ 3 ∷ 2 ∷ 1 ∷ []) (2 ∷ 104 ∷ 104 ∷ 101 ∷ 101 ∷ 1 ∷ 102 ∷ 104 ∷ 1 ∷ []);
             credits = 2 ∷ 1 ∷ 7 ∷ 104 ∷ 101 ∷ 103 ∷ 2 ∷ 103 ∷ 102 ∷ [];
             queues = 4 ∷ 7 ∷ 2 ∷ 7 ∷ 101 ∷ 102 ∷ 101 ∷ 2 ∷ 104 ∷ [];
+            given = 4 ∷ 2 ∷ 103 ∷ [];
             copy = 1 ∷ 103 ∷ 102 ∷ 1 ∷ 104 ∷ 2 ∷ 103 ∷ 2 ∷ 1 ∷ [];
             flight = 103 ∷ 1 ∷ 4 ∷ 1 ∷ 102 ∷ 104 ∷ 3 ∷ 103 ∷ 1 ∷ 101 ∷ 102 ∷ 7 ∷ 1 ∷ 3 ∷ 2 ∷ 2 ∷ 2 ∷ 3 ∷ [];
           };
@@ -423,9 +426,9 @@ list-3 =
           ∷ claim 1 1 4 0 0 0 0
           ∷ claim 1 1 7 2 0 3 2
           ∷ claim 1 1 10 2 0 3 2
-          ∷ claim 1 1 13 2 0 2 2
+          ∷ claim 1 1 13 2 0 3 2
           ∷ claim 1 1 16 2 0 3 2
-          ∷ claim 1 1 19 2 0 2 2
+          ∷ claim 1 1 19 2 0 3 2
           ∷ claim 1 2 1 0 0 0 0
           ∷ claim 1 2 4 0 0 0 0
           ∷ claim 1 2 7 0 4 3 0
@@ -451,8 +454,8 @@ list-3 =
           ∷ claim 2 2 4 0 0 0 0
           ∷ claim 2 2 7 2 0 3 2
           ∷ claim 2 2 10 2 0 3 2
-          ∷ claim 2 2 13 2 0 1 1
-          ∷ claim 2 2 16 2 0 0 0
+          ∷ claim 2 2 13 2 0 3 2
+          ∷ claim 2 2 16 2 0 2 2
           ∷ claim 2 2 19 2 0 0 0
           ∷ claim 2 3 1 0 0 0 0
           ∷ claim 2 3 4 0 0 0 0
@@ -479,8 +482,8 @@ list-3 =
           ∷ claim 3 3 4 0 0 0 0
           ∷ claim 3 3 7 0 0 3 0
           ∷ claim 3 3 10 0 0 3 0
-          ∷ claim 3 3 13 0 0 0 0
-          ∷ claim 3 3 16 0 0 0 0
+          ∷ claim 3 3 13 0 0 3 0
+          ∷ claim 3 3 16 0 0 2 0
           ∷ claim 3 3 19 0 0 0 0
           ∷ [];
       headrooms =
@@ -511,15 +514,15 @@ list-3 =
     }
 
 pub agrees-3 : first-wrong list-3 ≡ 0
-unfolding first-wrong entries apply Direct.start Direct.tick Pipelined.start Pipelined.tick book-words rate-words release-words release-rate-words headroom-refusal Preview.preview arrive-words into-frame booking bookings row-sum column-sum sum least some-of word
+unfolding first-wrong entries apply Direct.start Direct.tick Pipelined.start Pipelined.tick book-words rate-words release-words release-rate-words headroom-refusal Preview.preview arrive-words into-frame booking bookings row-sum column-sum sum first-from some-of word port-word
 agrees-3 = refl
 
 pub headroom-3 : first-wrong-headroom list-3 ≡ 0
-unfolding first-wrong-headroom final headroom-result pair-headroom headroom-over apply Direct.start Direct.tick Pipelined.start Pipelined.tick book-words rate-words release-words release-rate-words headroom-refusal Preview.preview arrive-words into-frame booking bookings row-sum column-sum sum least some-of word
+unfolding first-wrong-headroom final headroom-result pair-headroom headroom-over apply Direct.start Direct.tick Pipelined.start Pipelined.tick book-words rate-words release-words release-rate-words headroom-refusal Preview.preview arrive-words into-frame booking bookings row-sum column-sum sum first-from some-of word port-word
 headroom-3 = refl
 
 pub preview-3 : first-wrong-preview list-3 ≡ 0
-unfolding first-wrong-preview final apply Direct.start Direct.tick Pipelined.start Pipelined.tick book-words rate-words release-words release-rate-words headroom-refusal Preview.preview arrive-words into-frame booking bookings row-sum column-sum sum least some-of word
+unfolding first-wrong-preview final apply Direct.start Direct.tick Pipelined.start Pipelined.tick book-words rate-words release-words release-rate-words headroom-refusal Preview.preview arrive-words into-frame booking bookings row-sum column-sum sum first-from some-of word port-word
 preview-3 = refl
 
 abbrev list-4 : Case
@@ -531,6 +534,7 @@ list-4 =
             book = book-of (101 ∷ 4 ∷ 1 ∷ 103 ∷ 104 ∷ 101 ∷ 4 ∷ 103 ∷ 101 ∷ []) (1 ∷ 2 ∷ 102 ∷ 2 ∷ 2 ∷ 103 ∷ 101 ∷ 2 ∷ 3 ∷ []);
             credits = 102 ∷ 2 ∷ 101 ∷ 104 ∷ 1 ∷ 1 ∷ 103 ∷ 4 ∷ 102 ∷ [];
             queues = 103 ∷ 103 ∷ 102 ∷ 2 ∷ 1 ∷ 1 ∷ 1 ∷ 102 ∷ 2 ∷ [];
+            given = 103 ∷ 101 ∷ 3 ∷ [];
             copy = 104 ∷ 103 ∷ 7 ∷ 101 ∷ 4 ∷ 2 ∷ 102 ∷ 104 ∷ 102 ∷ [];
             flight = 104 ∷ 7 ∷ 1 ∷ 2 ∷ 104 ∷ 2 ∷ 3 ∷ 4 ∷ 1 ∷ 102 ∷ 104 ∷ 7 ∷ 101 ∷ 3 ∷ 1 ∷ 4 ∷ 1 ∷ 3 ∷ [];
           };
@@ -600,9 +604,9 @@ list-4 =
           ∷ claim 1 1 3 0 0 2 0
           ∷ claim 1 1 5 0 0 2 0
           ∷ claim 1 1 7 0 0 2 0
-          ∷ claim 1 1 9 0 0 0 0
-          ∷ claim 1 1 11 0 0 0 0
-          ∷ claim 1 1 13 0 0 0 0
+          ∷ claim 1 1 9 0 0 2 0
+          ∷ claim 1 1 11 0 0 2 0
+          ∷ claim 1 1 13 0 0 2 0
           ∷ claim 1 2 1 0 1 2 0
           ∷ claim 1 2 3 0 1 2 0
           ∷ claim 1 2 5 0 1 2 0
@@ -688,15 +692,15 @@ list-4 =
     }
 
 pub agrees-4 : first-wrong list-4 ≡ 0
-unfolding first-wrong entries apply Direct.start Direct.tick Pipelined.start Pipelined.tick book-words rate-words release-words release-rate-words headroom-refusal Preview.preview arrive-words into-frame booking bookings row-sum column-sum sum least some-of word
+unfolding first-wrong entries apply Direct.start Direct.tick Pipelined.start Pipelined.tick book-words rate-words release-words release-rate-words headroom-refusal Preview.preview arrive-words into-frame booking bookings row-sum column-sum sum first-from some-of word port-word
 agrees-4 = refl
 
 pub headroom-4 : first-wrong-headroom list-4 ≡ 0
-unfolding first-wrong-headroom final headroom-result pair-headroom headroom-over apply Direct.start Direct.tick Pipelined.start Pipelined.tick book-words rate-words release-words release-rate-words headroom-refusal Preview.preview arrive-words into-frame booking bookings row-sum column-sum sum least some-of word
+unfolding first-wrong-headroom final headroom-result pair-headroom headroom-over apply Direct.start Direct.tick Pipelined.start Pipelined.tick book-words rate-words release-words release-rate-words headroom-refusal Preview.preview arrive-words into-frame booking bookings row-sum column-sum sum first-from some-of word port-word
 headroom-4 = refl
 
 pub preview-4 : first-wrong-preview list-4 ≡ 0
-unfolding first-wrong-preview final apply Direct.start Direct.tick Pipelined.start Pipelined.tick book-words rate-words release-words release-rate-words headroom-refusal Preview.preview arrive-words into-frame booking bookings row-sum column-sum sum least some-of word
+unfolding first-wrong-preview final apply Direct.start Direct.tick Pipelined.start Pipelined.tick book-words rate-words release-words release-rate-words headroom-refusal Preview.preview arrive-words into-frame booking bookings row-sum column-sum sum first-from some-of word port-word
 preview-4 = refl
 
 abbrev list-5 : Case
@@ -708,6 +712,7 @@ list-5 =
             book = book-of (3 ∷ 1 ∷ 102 ∷ 101 ∷ 3 ∷ 104 ∷ 3 ∷ 4 ∷ 4 ∷ []) (2 ∷ 1 ∷ 1 ∷ 1 ∷ 103 ∷ 7 ∷ 7 ∷ 1 ∷ 3 ∷ []);
             credits = 4 ∷ 102 ∷ 1 ∷ 4 ∷ 104 ∷ 101 ∷ 3 ∷ 1 ∷ 3 ∷ [];
             queues = 101 ∷ 2 ∷ 3 ∷ 1 ∷ 101 ∷ 1 ∷ 4 ∷ 102 ∷ 3 ∷ [];
+            given = 103 ∷ 104 ∷ 3 ∷ [];
             copy = 1 ∷ 3 ∷ 1 ∷ 2 ∷ 7 ∷ 7 ∷ 103 ∷ 103 ∷ 104 ∷ [];
             flight = 1 ∷ 7 ∷ 101 ∷ 1 ∷ 103 ∷ 101 ∷ 3 ∷ 103 ∷ 2 ∷ 3 ∷ 2 ∷ 4 ∷ 104 ∷ 101 ∷ 2 ∷ 1 ∷ 1 ∷ 1 ∷ [];
           };
@@ -801,15 +806,15 @@ list-5 =
     }
 
 pub agrees-5 : first-wrong list-5 ≡ 0
-unfolding first-wrong entries apply Direct.start Direct.tick Pipelined.start Pipelined.tick book-words rate-words release-words release-rate-words headroom-refusal Preview.preview arrive-words into-frame booking bookings row-sum column-sum sum least some-of word
+unfolding first-wrong entries apply Direct.start Direct.tick Pipelined.start Pipelined.tick book-words rate-words release-words release-rate-words headroom-refusal Preview.preview arrive-words into-frame booking bookings row-sum column-sum sum first-from some-of word port-word
 agrees-5 = refl
 
 pub headroom-5 : first-wrong-headroom list-5 ≡ 0
-unfolding first-wrong-headroom final headroom-result pair-headroom headroom-over apply Direct.start Direct.tick Pipelined.start Pipelined.tick book-words rate-words release-words release-rate-words headroom-refusal Preview.preview arrive-words into-frame booking bookings row-sum column-sum sum least some-of word
+unfolding first-wrong-headroom final headroom-result pair-headroom headroom-over apply Direct.start Direct.tick Pipelined.start Pipelined.tick book-words rate-words release-words release-rate-words headroom-refusal Preview.preview arrive-words into-frame booking bookings row-sum column-sum sum first-from some-of word port-word
 headroom-5 = refl
 
 pub preview-5 : first-wrong-preview list-5 ≡ 0
-unfolding first-wrong-preview final apply Direct.start Direct.tick Pipelined.start Pipelined.tick book-words rate-words release-words release-rate-words headroom-refusal Preview.preview arrive-words into-frame booking bookings row-sum column-sum sum least some-of word
+unfolding first-wrong-preview final apply Direct.start Direct.tick Pipelined.start Pipelined.tick book-words rate-words release-words release-rate-words headroom-refusal Preview.preview arrive-words into-frame booking bookings row-sum column-sum sum first-from some-of word port-word
 preview-5 = refl
 
 abbrev list-6 : Case
@@ -821,6 +826,7 @@ list-6 =
             book = book-of (7 ∷ 1 ∷ 103 ∷ 1 ∷ 101 ∷ 1 ∷ 101 ∷ 103 ∷ 1 ∷ []) (102 ∷ 103 ∷ 1 ∷ 4 ∷ 1 ∷ 103 ∷ 1 ∷ 1 ∷ 1 ∷ []);
             credits = 1 ∷ 103 ∷ 1 ∷ 104 ∷ 7 ∷ 7 ∷ 103 ∷ 2 ∷ 7 ∷ [];
             queues = 102 ∷ 1 ∷ 7 ∷ 2 ∷ 103 ∷ 7 ∷ 101 ∷ 2 ∷ 1 ∷ [];
+            given = 2 ∷ 1 ∷ 1 ∷ [];
             copy = 1 ∷ 4 ∷ 103 ∷ 1 ∷ 103 ∷ 103 ∷ 101 ∷ 1 ∷ 1 ∷ [];
             flight = 103 ∷ 1 ∷ 3 ∷ 102 ∷ 104 ∷ 103 ∷ 104 ∷ 3 ∷ 7 ∷ 3 ∷ 2 ∷ 1 ∷ 104 ∷ 3 ∷ 1 ∷ 4 ∷ 101 ∷ 1 ∷ [];
           };
@@ -897,9 +903,9 @@ list-6 =
           ∷ claim 1 1 7 1 1 3 1
           ∷ claim 1 1 10 1 0 3 1
           ∷ claim 1 1 13 0 0 3 0
-          ∷ claim 1 1 16 0 1 0 0
-          ∷ claim 1 1 19 0 1 0 0
-          ∷ claim 1 1 22 1 1 0 0
+          ∷ claim 1 1 16 0 1 3 0
+          ∷ claim 1 1 19 0 1 3 0
+          ∷ claim 1 1 22 1 1 1 1
           ∷ claim 1 2 1 0 1 0 0
           ∷ claim 1 2 4 0 1 0 0
           ∷ claim 1 2 7 0 2 0 0
@@ -915,7 +921,7 @@ list-6 =
           ∷ claim 1 3 13 0 1 3 0
           ∷ claim 1 3 16 1 1 3 1
           ∷ claim 1 3 19 1 1 3 1
-          ∷ claim 1 3 22 1 2 1 1
+          ∷ claim 1 3 22 1 2 1 0
           ∷ claim 2 1 1 0 3 0 0
           ∷ claim 2 1 4 0 3 0 0
           ∷ claim 2 1 7 0 2 0 0
@@ -993,15 +999,15 @@ list-6 =
     }
 
 pub agrees-6 : first-wrong list-6 ≡ 0
-unfolding first-wrong entries apply Direct.start Direct.tick Pipelined.start Pipelined.tick book-words rate-words release-words release-rate-words headroom-refusal Preview.preview arrive-words into-frame booking bookings row-sum column-sum sum least some-of word
+unfolding first-wrong entries apply Direct.start Direct.tick Pipelined.start Pipelined.tick book-words rate-words release-words release-rate-words headroom-refusal Preview.preview arrive-words into-frame booking bookings row-sum column-sum sum first-from some-of word port-word
 agrees-6 = refl
 
 pub headroom-6 : first-wrong-headroom list-6 ≡ 0
-unfolding first-wrong-headroom final headroom-result pair-headroom headroom-over apply Direct.start Direct.tick Pipelined.start Pipelined.tick book-words rate-words release-words release-rate-words headroom-refusal Preview.preview arrive-words into-frame booking bookings row-sum column-sum sum least some-of word
+unfolding first-wrong-headroom final headroom-result pair-headroom headroom-over apply Direct.start Direct.tick Pipelined.start Pipelined.tick book-words rate-words release-words release-rate-words headroom-refusal Preview.preview arrive-words into-frame booking bookings row-sum column-sum sum first-from some-of word port-word
 headroom-6 = refl
 
 pub preview-6 : first-wrong-preview list-6 ≡ 0
-unfolding first-wrong-preview final apply Direct.start Direct.tick Pipelined.start Pipelined.tick book-words rate-words release-words release-rate-words headroom-refusal Preview.preview arrive-words into-frame booking bookings row-sum column-sum sum least some-of word
+unfolding first-wrong-preview final apply Direct.start Direct.tick Pipelined.start Pipelined.tick book-words rate-words release-words release-rate-words headroom-refusal Preview.preview arrive-words into-frame booking bookings row-sum column-sum sum first-from some-of word port-word
 preview-6 = refl
 
 abbrev list-7 : Case
@@ -1013,6 +1019,7 @@ list-7 =
             book = book-of (101 ∷ 101 ∷ 1 ∷ 103 ∷ 2 ∷ 102 ∷ 1 ∷ 103 ∷ 103 ∷ []) (1 ∷ 4 ∷ 7 ∷ 1 ∷ 102 ∷ 103 ∷ 7 ∷ 2 ∷ 4 ∷ []);
             credits = 4 ∷ 2 ∷ 3 ∷ 1 ∷ 7 ∷ 3 ∷ 101 ∷ 2 ∷ 104 ∷ [];
             queues = 4 ∷ 2 ∷ 102 ∷ 4 ∷ 103 ∷ 102 ∷ 101 ∷ 3 ∷ 103 ∷ [];
+            given = 1 ∷ 1 ∷ 7 ∷ [];
             copy = 1 ∷ 104 ∷ 104 ∷ 2 ∷ 2 ∷ 1 ∷ 7 ∷ 4 ∷ 7 ∷ [];
             flight = 2 ∷ 2 ∷ 103 ∷ 3 ∷ 1 ∷ 7 ∷ 104 ∷ 104 ∷ 7 ∷ 103 ∷ 2 ∷ 4 ∷ 1 ∷ 103 ∷ 104 ∷ 101 ∷ 7 ∷ 3 ∷ [];
           };
@@ -1058,10 +1065,10 @@ list-7 =
           ∷ [];
       expected =
           claim 1 1 1 0 0 2 0
-          ∷ claim 1 1 7 2 1 1 1
+          ∷ claim 1 1 7 2 1 2 2
           ∷ claim 1 1 13 2 1 2 2
           ∷ claim 1 2 1 0 0 2 0
-          ∷ claim 1 2 7 1 2 5 1
+          ∷ claim 1 2 7 1 2 3 1
           ∷ claim 1 2 13 1 2 0 0
           ∷ claim 2 1 1 0 0 2 0
           ∷ claim 2 1 7 0 2 5 0
@@ -1093,15 +1100,15 @@ list-7 =
     }
 
 pub agrees-7 : first-wrong list-7 ≡ 0
-unfolding first-wrong entries apply Direct.start Direct.tick Pipelined.start Pipelined.tick book-words rate-words release-words release-rate-words headroom-refusal Preview.preview arrive-words into-frame booking bookings row-sum column-sum sum least some-of word
+unfolding first-wrong entries apply Direct.start Direct.tick Pipelined.start Pipelined.tick book-words rate-words release-words release-rate-words headroom-refusal Preview.preview arrive-words into-frame booking bookings row-sum column-sum sum first-from some-of word port-word
 agrees-7 = refl
 
 pub headroom-7 : first-wrong-headroom list-7 ≡ 0
-unfolding first-wrong-headroom final headroom-result pair-headroom headroom-over apply Direct.start Direct.tick Pipelined.start Pipelined.tick book-words rate-words release-words release-rate-words headroom-refusal Preview.preview arrive-words into-frame booking bookings row-sum column-sum sum least some-of word
+unfolding first-wrong-headroom final headroom-result pair-headroom headroom-over apply Direct.start Direct.tick Pipelined.start Pipelined.tick book-words rate-words release-words release-rate-words headroom-refusal Preview.preview arrive-words into-frame booking bookings row-sum column-sum sum first-from some-of word port-word
 headroom-7 = refl
 
 pub preview-7 : first-wrong-preview list-7 ≡ 0
-unfolding first-wrong-preview final apply Direct.start Direct.tick Pipelined.start Pipelined.tick book-words rate-words release-words release-rate-words headroom-refusal Preview.preview arrive-words into-frame booking bookings row-sum column-sum sum least some-of word
+unfolding first-wrong-preview final apply Direct.start Direct.tick Pipelined.start Pipelined.tick book-words rate-words release-words release-rate-words headroom-refusal Preview.preview arrive-words into-frame booking bookings row-sum column-sum sum first-from some-of word port-word
 preview-7 = refl
 
 abbrev list-8 : Case
@@ -1113,6 +1120,7 @@ list-8 =
             book = book-of (3 ∷ 104 ∷ 2 ∷ 4 ∷ 101 ∷ 3 ∷ 1 ∷ 2 ∷ 1 ∷ []) (103 ∷ 101 ∷ 103 ∷ 101 ∷ 103 ∷ 3 ∷ 102 ∷ 103 ∷ 2 ∷ []);
             credits = 4 ∷ 2 ∷ 2 ∷ 7 ∷ 103 ∷ 4 ∷ 2 ∷ 4 ∷ 3 ∷ [];
             queues = 3 ∷ 1 ∷ 103 ∷ 1 ∷ 3 ∷ 1 ∷ 103 ∷ 2 ∷ 104 ∷ [];
+            given = 7 ∷ 104 ∷ 4 ∷ [];
             copy = 101 ∷ 104 ∷ 104 ∷ 3 ∷ 101 ∷ 101 ∷ 3 ∷ 7 ∷ 101 ∷ [];
             flight = 102 ∷ 2 ∷ 1 ∷ 1 ∷ 103 ∷ 102 ∷ 3 ∷ 1 ∷ 7 ∷ 103 ∷ 101 ∷ 2 ∷ 4 ∷ 101 ∷ 3 ∷ 104 ∷ 103 ∷ 7 ∷ [];
           };
@@ -1200,15 +1208,15 @@ list-8 =
     }
 
 pub agrees-8 : first-wrong list-8 ≡ 0
-unfolding first-wrong entries apply Direct.start Direct.tick Pipelined.start Pipelined.tick book-words rate-words release-words release-rate-words headroom-refusal Preview.preview arrive-words into-frame booking bookings row-sum column-sum sum least some-of word
+unfolding first-wrong entries apply Direct.start Direct.tick Pipelined.start Pipelined.tick book-words rate-words release-words release-rate-words headroom-refusal Preview.preview arrive-words into-frame booking bookings row-sum column-sum sum first-from some-of word port-word
 agrees-8 = refl
 
 pub headroom-8 : first-wrong-headroom list-8 ≡ 0
-unfolding first-wrong-headroom final headroom-result pair-headroom headroom-over apply Direct.start Direct.tick Pipelined.start Pipelined.tick book-words rate-words release-words release-rate-words headroom-refusal Preview.preview arrive-words into-frame booking bookings row-sum column-sum sum least some-of word
+unfolding first-wrong-headroom final headroom-result pair-headroom headroom-over apply Direct.start Direct.tick Pipelined.start Pipelined.tick book-words rate-words release-words release-rate-words headroom-refusal Preview.preview arrive-words into-frame booking bookings row-sum column-sum sum first-from some-of word port-word
 headroom-8 = refl
 
 pub preview-8 : first-wrong-preview list-8 ≡ 0
-unfolding first-wrong-preview final apply Direct.start Direct.tick Pipelined.start Pipelined.tick book-words rate-words release-words release-rate-words headroom-refusal Preview.preview arrive-words into-frame booking bookings row-sum column-sum sum least some-of word
+unfolding first-wrong-preview final apply Direct.start Direct.tick Pipelined.start Pipelined.tick book-words rate-words release-words release-rate-words headroom-refusal Preview.preview arrive-words into-frame booking bookings row-sum column-sum sum first-from some-of word port-word
 preview-8 = refl
 
 abbrev list-9 : Case
@@ -1220,6 +1228,7 @@ list-9 =
             book = book-of (2 ∷ 1 ∷ 1 ∷ 101 ∷ 101 ∷ 3 ∷ 2 ∷ 1 ∷ 104 ∷ []) (1 ∷ 1 ∷ 2 ∷ 7 ∷ 101 ∷ 7 ∷ 4 ∷ 2 ∷ 1 ∷ []);
             credits = 7 ∷ 1 ∷ 102 ∷ 3 ∷ 7 ∷ 3 ∷ 7 ∷ 4 ∷ 2 ∷ [];
             queues = 3 ∷ 1 ∷ 104 ∷ 3 ∷ 103 ∷ 2 ∷ 104 ∷ 101 ∷ 2 ∷ [];
+            given = 1 ∷ 2 ∷ 1 ∷ [];
             copy = 2 ∷ 1 ∷ 1 ∷ 2 ∷ 4 ∷ 104 ∷ 103 ∷ 1 ∷ 2 ∷ [];
             flight = 101 ∷ 103 ∷ 102 ∷ 2 ∷ 101 ∷ 2 ∷ 1 ∷ 1 ∷ 3 ∷ 2 ∷ 1 ∷ 2 ∷ 3 ∷ 2 ∷ 103 ∷ 4 ∷ 101 ∷ 4 ∷ [];
           };
@@ -1305,15 +1314,15 @@ list-9 =
     }
 
 pub agrees-9 : first-wrong list-9 ≡ 0
-unfolding first-wrong entries apply Direct.start Direct.tick Pipelined.start Pipelined.tick book-words rate-words release-words release-rate-words headroom-refusal Preview.preview arrive-words into-frame booking bookings row-sum column-sum sum least some-of word
+unfolding first-wrong entries apply Direct.start Direct.tick Pipelined.start Pipelined.tick book-words rate-words release-words release-rate-words headroom-refusal Preview.preview arrive-words into-frame booking bookings row-sum column-sum sum first-from some-of word port-word
 agrees-9 = refl
 
 pub headroom-9 : first-wrong-headroom list-9 ≡ 0
-unfolding first-wrong-headroom final headroom-result pair-headroom headroom-over apply Direct.start Direct.tick Pipelined.start Pipelined.tick book-words rate-words release-words release-rate-words headroom-refusal Preview.preview arrive-words into-frame booking bookings row-sum column-sum sum least some-of word
+unfolding first-wrong-headroom final headroom-result pair-headroom headroom-over apply Direct.start Direct.tick Pipelined.start Pipelined.tick book-words rate-words release-words release-rate-words headroom-refusal Preview.preview arrive-words into-frame booking bookings row-sum column-sum sum first-from some-of word port-word
 headroom-9 = refl
 
 pub preview-9 : first-wrong-preview list-9 ≡ 0
-unfolding first-wrong-preview final apply Direct.start Direct.tick Pipelined.start Pipelined.tick book-words rate-words release-words release-rate-words headroom-refusal Preview.preview arrive-words into-frame booking bookings row-sum column-sum sum least some-of word
+unfolding first-wrong-preview final apply Direct.start Direct.tick Pipelined.start Pipelined.tick book-words rate-words release-words release-rate-words headroom-refusal Preview.preview arrive-words into-frame booking bookings row-sum column-sum sum first-from some-of word port-word
 preview-9 = refl
 
 abbrev list-10 : Case
@@ -1325,6 +1334,7 @@ list-10 =
             book = book-of (7 ∷ 2 ∷ 1 ∷ 2 ∷ 4 ∷ 2 ∷ 1 ∷ 3 ∷ 7 ∷ []) (1 ∷ 3 ∷ 4 ∷ 3 ∷ 103 ∷ 104 ∷ 2 ∷ 1 ∷ 104 ∷ []);
             credits = 3 ∷ 2 ∷ 101 ∷ 3 ∷ 101 ∷ 2 ∷ 103 ∷ 1 ∷ 3 ∷ [];
             queues = 1 ∷ 1 ∷ 2 ∷ 104 ∷ 4 ∷ 2 ∷ 104 ∷ 1 ∷ 1 ∷ [];
+            given = 102 ∷ 103 ∷ 7 ∷ [];
             copy = 1 ∷ 102 ∷ 102 ∷ 3 ∷ 103 ∷ 104 ∷ 7 ∷ 102 ∷ 1 ∷ [];
             flight = 101 ∷ 101 ∷ 7 ∷ 4 ∷ 1 ∷ 102 ∷ 101 ∷ 104 ∷ 103 ∷ 1 ∷ 102 ∷ 101 ∷ 1 ∷ 3 ∷ 1 ∷ 7 ∷ 7 ∷ 102 ∷ [];
           };
@@ -1444,15 +1454,15 @@ list-10 =
     }
 
 pub agrees-10 : first-wrong list-10 ≡ 0
-unfolding first-wrong entries apply Direct.start Direct.tick Pipelined.start Pipelined.tick book-words rate-words release-words release-rate-words headroom-refusal Preview.preview arrive-words into-frame booking bookings row-sum column-sum sum least some-of word
+unfolding first-wrong entries apply Direct.start Direct.tick Pipelined.start Pipelined.tick book-words rate-words release-words release-rate-words headroom-refusal Preview.preview arrive-words into-frame booking bookings row-sum column-sum sum first-from some-of word port-word
 agrees-10 = refl
 
 pub headroom-10 : first-wrong-headroom list-10 ≡ 0
-unfolding first-wrong-headroom final headroom-result pair-headroom headroom-over apply Direct.start Direct.tick Pipelined.start Pipelined.tick book-words rate-words release-words release-rate-words headroom-refusal Preview.preview arrive-words into-frame booking bookings row-sum column-sum sum least some-of word
+unfolding first-wrong-headroom final headroom-result pair-headroom headroom-over apply Direct.start Direct.tick Pipelined.start Pipelined.tick book-words rate-words release-words release-rate-words headroom-refusal Preview.preview arrive-words into-frame booking bookings row-sum column-sum sum first-from some-of word port-word
 headroom-10 = refl
 
 pub preview-10 : first-wrong-preview list-10 ≡ 0
-unfolding first-wrong-preview final apply Direct.start Direct.tick Pipelined.start Pipelined.tick book-words rate-words release-words release-rate-words headroom-refusal Preview.preview arrive-words into-frame booking bookings row-sum column-sum sum least some-of word
+unfolding first-wrong-preview final apply Direct.start Direct.tick Pipelined.start Pipelined.tick book-words rate-words release-words release-rate-words headroom-refusal Preview.preview arrive-words into-frame booking bookings row-sum column-sum sum first-from some-of word port-word
 preview-10 = refl
 
 abbrev list-11 : Case
@@ -1464,6 +1474,7 @@ list-11 =
             book = book-of (104 ∷ 101 ∷ 7 ∷ 1 ∷ 7 ∷ 2 ∷ 1 ∷ 4 ∷ 4 ∷ []) (3 ∷ 102 ∷ 2 ∷ 104 ∷ 2 ∷ 1 ∷ 1 ∷ 102 ∷ 2 ∷ []);
             credits = 2 ∷ 102 ∷ 102 ∷ 2 ∷ 102 ∷ 1 ∷ 101 ∷ 1 ∷ 103 ∷ [];
             queues = 102 ∷ 4 ∷ 2 ∷ 104 ∷ 102 ∷ 4 ∷ 102 ∷ 3 ∷ 103 ∷ [];
+            given = 103 ∷ 1 ∷ 103 ∷ [];
             copy = 103 ∷ 7 ∷ 2 ∷ 2 ∷ 102 ∷ 1 ∷ 1 ∷ 104 ∷ 3 ∷ [];
             flight = 1 ∷ 1 ∷ 4 ∷ 102 ∷ 3 ∷ 4 ∷ 101 ∷ 101 ∷ 1 ∷ 2 ∷ 3 ∷ 104 ∷ 103 ∷ 103 ∷ 101 ∷ 2 ∷ 4 ∷ 1 ∷ [];
           };
@@ -1524,15 +1535,15 @@ list-11 =
     }
 
 pub agrees-11 : first-wrong list-11 ≡ 0
-unfolding first-wrong entries apply Direct.start Direct.tick Pipelined.start Pipelined.tick book-words rate-words release-words release-rate-words headroom-refusal Preview.preview arrive-words into-frame booking bookings row-sum column-sum sum least some-of word
+unfolding first-wrong entries apply Direct.start Direct.tick Pipelined.start Pipelined.tick book-words rate-words release-words release-rate-words headroom-refusal Preview.preview arrive-words into-frame booking bookings row-sum column-sum sum first-from some-of word port-word
 agrees-11 = refl
 
 pub headroom-11 : first-wrong-headroom list-11 ≡ 0
-unfolding first-wrong-headroom final headroom-result pair-headroom headroom-over apply Direct.start Direct.tick Pipelined.start Pipelined.tick book-words rate-words release-words release-rate-words headroom-refusal Preview.preview arrive-words into-frame booking bookings row-sum column-sum sum least some-of word
+unfolding first-wrong-headroom final headroom-result pair-headroom headroom-over apply Direct.start Direct.tick Pipelined.start Pipelined.tick book-words rate-words release-words release-rate-words headroom-refusal Preview.preview arrive-words into-frame booking bookings row-sum column-sum sum first-from some-of word port-word
 headroom-11 = refl
 
 pub preview-11 : first-wrong-preview list-11 ≡ 0
-unfolding first-wrong-preview final apply Direct.start Direct.tick Pipelined.start Pipelined.tick book-words rate-words release-words release-rate-words headroom-refusal Preview.preview arrive-words into-frame booking bookings row-sum column-sum sum least some-of word
+unfolding first-wrong-preview final apply Direct.start Direct.tick Pipelined.start Pipelined.tick book-words rate-words release-words release-rate-words headroom-refusal Preview.preview arrive-words into-frame booking bookings row-sum column-sum sum first-from some-of word port-word
 preview-11 = refl
 
 abbrev list-12 : Case
@@ -1544,6 +1555,7 @@ list-12 =
             book = book-of (3 ∷ 4 ∷ 4 ∷ 1 ∷ 103 ∷ 1 ∷ 7 ∷ 101 ∷ 4 ∷ []) (2 ∷ 1 ∷ 7 ∷ 3 ∷ 102 ∷ 7 ∷ 7 ∷ 101 ∷ 1 ∷ []);
             credits = 103 ∷ 2 ∷ 4 ∷ 2 ∷ 2 ∷ 101 ∷ 3 ∷ 2 ∷ 2 ∷ [];
             queues = 103 ∷ 3 ∷ 4 ∷ 104 ∷ 4 ∷ 7 ∷ 4 ∷ 102 ∷ 1 ∷ [];
+            given = 2 ∷ 104 ∷ 101 ∷ [];
             copy = 1 ∷ 102 ∷ 2 ∷ 104 ∷ 101 ∷ 102 ∷ 104 ∷ 103 ∷ 102 ∷ [];
             flight = 2 ∷ 7 ∷ 3 ∷ 102 ∷ 2 ∷ 4 ∷ 4 ∷ 103 ∷ 2 ∷ 4 ∷ 1 ∷ 104 ∷ 4 ∷ 2 ∷ 2 ∷ 102 ∷ 1 ∷ 102 ∷ [];
           };
@@ -1615,15 +1627,15 @@ list-12 =
     }
 
 pub agrees-12 : first-wrong list-12 ≡ 0
-unfolding first-wrong entries apply Direct.start Direct.tick Pipelined.start Pipelined.tick book-words rate-words release-words release-rate-words headroom-refusal Preview.preview arrive-words into-frame booking bookings row-sum column-sum sum least some-of word
+unfolding first-wrong entries apply Direct.start Direct.tick Pipelined.start Pipelined.tick book-words rate-words release-words release-rate-words headroom-refusal Preview.preview arrive-words into-frame booking bookings row-sum column-sum sum first-from some-of word port-word
 agrees-12 = refl
 
 pub headroom-12 : first-wrong-headroom list-12 ≡ 0
-unfolding first-wrong-headroom final headroom-result pair-headroom headroom-over apply Direct.start Direct.tick Pipelined.start Pipelined.tick book-words rate-words release-words release-rate-words headroom-refusal Preview.preview arrive-words into-frame booking bookings row-sum column-sum sum least some-of word
+unfolding first-wrong-headroom final headroom-result pair-headroom headroom-over apply Direct.start Direct.tick Pipelined.start Pipelined.tick book-words rate-words release-words release-rate-words headroom-refusal Preview.preview arrive-words into-frame booking bookings row-sum column-sum sum first-from some-of word port-word
 headroom-12 = refl
 
 pub preview-12 : first-wrong-preview list-12 ≡ 0
-unfolding first-wrong-preview final apply Direct.start Direct.tick Pipelined.start Pipelined.tick book-words rate-words release-words release-rate-words headroom-refusal Preview.preview arrive-words into-frame booking bookings row-sum column-sum sum least some-of word
+unfolding first-wrong-preview final apply Direct.start Direct.tick Pipelined.start Pipelined.tick book-words rate-words release-words release-rate-words headroom-refusal Preview.preview arrive-words into-frame booking bookings row-sum column-sum sum first-from some-of word port-word
 preview-12 = refl
 
 abbrev list-13 : Case
@@ -1635,6 +1647,7 @@ list-13 =
             book = book-of (104 ∷ 4 ∷ 101 ∷ 102 ∷ 4 ∷ 2 ∷ 101 ∷ 2 ∷ 2 ∷ []) (1 ∷ 103 ∷ 102 ∷ 3 ∷ 3 ∷ 4 ∷ 1 ∷ 103 ∷ 101 ∷ []);
             credits = 2 ∷ 101 ∷ 102 ∷ 104 ∷ 104 ∷ 1 ∷ 1 ∷ 2 ∷ 102 ∷ [];
             queues = 103 ∷ 2 ∷ 2 ∷ 7 ∷ 104 ∷ 1 ∷ 102 ∷ 1 ∷ 2 ∷ [];
+            given = 2 ∷ 3 ∷ 3 ∷ [];
             copy = 4 ∷ 1 ∷ 4 ∷ 7 ∷ 1 ∷ 2 ∷ 7 ∷ 2 ∷ 1 ∷ [];
             flight = 1 ∷ 2 ∷ 104 ∷ 104 ∷ 4 ∷ 103 ∷ 7 ∷ 1 ∷ 1 ∷ 101 ∷ 3 ∷ 104 ∷ 4 ∷ 103 ∷ 2 ∷ 2 ∷ 4 ∷ 4 ∷ [];
           };
@@ -1746,15 +1759,15 @@ list-13 =
     }
 
 pub agrees-13 : first-wrong list-13 ≡ 0
-unfolding first-wrong entries apply Direct.start Direct.tick Pipelined.start Pipelined.tick book-words rate-words release-words release-rate-words headroom-refusal Preview.preview arrive-words into-frame booking bookings row-sum column-sum sum least some-of word
+unfolding first-wrong entries apply Direct.start Direct.tick Pipelined.start Pipelined.tick book-words rate-words release-words release-rate-words headroom-refusal Preview.preview arrive-words into-frame booking bookings row-sum column-sum sum first-from some-of word port-word
 agrees-13 = refl
 
 pub headroom-13 : first-wrong-headroom list-13 ≡ 0
-unfolding first-wrong-headroom final headroom-result pair-headroom headroom-over apply Direct.start Direct.tick Pipelined.start Pipelined.tick book-words rate-words release-words release-rate-words headroom-refusal Preview.preview arrive-words into-frame booking bookings row-sum column-sum sum least some-of word
+unfolding first-wrong-headroom final headroom-result pair-headroom headroom-over apply Direct.start Direct.tick Pipelined.start Pipelined.tick book-words rate-words release-words release-rate-words headroom-refusal Preview.preview arrive-words into-frame booking bookings row-sum column-sum sum first-from some-of word port-word
 headroom-13 = refl
 
 pub preview-13 : first-wrong-preview list-13 ≡ 0
-unfolding first-wrong-preview final apply Direct.start Direct.tick Pipelined.start Pipelined.tick book-words rate-words release-words release-rate-words headroom-refusal Preview.preview arrive-words into-frame booking bookings row-sum column-sum sum least some-of word
+unfolding first-wrong-preview final apply Direct.start Direct.tick Pipelined.start Pipelined.tick book-words rate-words release-words release-rate-words headroom-refusal Preview.preview arrive-words into-frame booking bookings row-sum column-sum sum first-from some-of word port-word
 preview-13 = refl
 
 abbrev list-14 : Case
@@ -1766,6 +1779,7 @@ list-14 =
             book = book-of (7 ∷ 2 ∷ 101 ∷ 2 ∷ 4 ∷ 102 ∷ 1 ∷ 1 ∷ 1 ∷ []) (1 ∷ 2 ∷ 101 ∷ 4 ∷ 7 ∷ 2 ∷ 101 ∷ 1 ∷ 2 ∷ []);
             credits = 4 ∷ 7 ∷ 3 ∷ 103 ∷ 104 ∷ 101 ∷ 4 ∷ 4 ∷ 2 ∷ [];
             queues = 4 ∷ 102 ∷ 102 ∷ 4 ∷ 101 ∷ 1 ∷ 2 ∷ 104 ∷ 1 ∷ [];
+            given = 2 ∷ 2 ∷ 103 ∷ [];
             copy = 7 ∷ 101 ∷ 2 ∷ 2 ∷ 1 ∷ 101 ∷ 103 ∷ 104 ∷ 1 ∷ [];
             flight = 103 ∷ 1 ∷ 4 ∷ 2 ∷ 1 ∷ 2 ∷ 103 ∷ 3 ∷ 2 ∷ 2 ∷ 1 ∷ 101 ∷ 2 ∷ 103 ∷ 3 ∷ 101 ∷ 7 ∷ 7 ∷ [];
           };
@@ -1841,9 +1855,9 @@ list-14 =
           claim 1 1 1 0 0 3 0
           ∷ claim 1 1 4 0 0 3 0
           ∷ claim 1 1 7 0 2 3 0
-          ∷ claim 1 1 10 0 3 0 0
-          ∷ claim 1 1 13 0 4 0 0
-          ∷ claim 1 1 16 0 4 1 0
+          ∷ claim 1 1 10 0 3 3 0
+          ∷ claim 1 1 13 0 4 3 0
+          ∷ claim 1 1 16 0 4 3 0
           ∷ claim 1 1 19 0 4 3 0
           ∷ claim 1 1 22 0 4 3 0
           ∷ claim 1 2 1 0 0 3 0
@@ -1858,8 +1872,8 @@ list-14 =
           ∷ claim 2 1 4 0 0 3 0
           ∷ claim 2 1 7 2 0 3 2
           ∷ claim 2 1 10 2 0 3 2
-          ∷ claim 2 1 13 2 0 3 2
-          ∷ claim 2 1 16 2 0 1 1
+          ∷ claim 2 1 13 2 0 2 2
+          ∷ claim 2 1 16 2 0 0 0
           ∷ claim 2 1 19 2 0 0 0
           ∷ claim 2 1 22 2 0 3 2
           ∷ claim 2 2 1 0 0 0 0
@@ -1894,15 +1908,15 @@ list-14 =
     }
 
 pub agrees-14 : first-wrong list-14 ≡ 0
-unfolding first-wrong entries apply Direct.start Direct.tick Pipelined.start Pipelined.tick book-words rate-words release-words release-rate-words headroom-refusal Preview.preview arrive-words into-frame booking bookings row-sum column-sum sum least some-of word
+unfolding first-wrong entries apply Direct.start Direct.tick Pipelined.start Pipelined.tick book-words rate-words release-words release-rate-words headroom-refusal Preview.preview arrive-words into-frame booking bookings row-sum column-sum sum first-from some-of word port-word
 agrees-14 = refl
 
 pub headroom-14 : first-wrong-headroom list-14 ≡ 0
-unfolding first-wrong-headroom final headroom-result pair-headroom headroom-over apply Direct.start Direct.tick Pipelined.start Pipelined.tick book-words rate-words release-words release-rate-words headroom-refusal Preview.preview arrive-words into-frame booking bookings row-sum column-sum sum least some-of word
+unfolding first-wrong-headroom final headroom-result pair-headroom headroom-over apply Direct.start Direct.tick Pipelined.start Pipelined.tick book-words rate-words release-words release-rate-words headroom-refusal Preview.preview arrive-words into-frame booking bookings row-sum column-sum sum first-from some-of word port-word
 headroom-14 = refl
 
 pub preview-14 : first-wrong-preview list-14 ≡ 0
-unfolding first-wrong-preview final apply Direct.start Direct.tick Pipelined.start Pipelined.tick book-words rate-words release-words release-rate-words headroom-refusal Preview.preview arrive-words into-frame booking bookings row-sum column-sum sum least some-of word
+unfolding first-wrong-preview final apply Direct.start Direct.tick Pipelined.start Pipelined.tick book-words rate-words release-words release-rate-words headroom-refusal Preview.preview arrive-words into-frame booking bookings row-sum column-sum sum first-from some-of word port-word
 preview-14 = refl
 
 abbrev list-15 : Case
@@ -1914,6 +1928,7 @@ list-15 =
             book = book-of (7 ∷ 4 ∷ 103 ∷ 103 ∷ 104 ∷ 2 ∷ 101 ∷ 104 ∷ 2 ∷ []) (4 ∷ 104 ∷ 4 ∷ 7 ∷ 104 ∷ 4 ∷ 7 ∷ 1 ∷ 1 ∷ []);
             credits = 101 ∷ 103 ∷ 2 ∷ 103 ∷ 103 ∷ 2 ∷ 2 ∷ 3 ∷ 1 ∷ [];
             queues = 1 ∷ 104 ∷ 7 ∷ 7 ∷ 104 ∷ 1 ∷ 1 ∷ 104 ∷ 4 ∷ [];
+            given = 104 ∷ 4 ∷ 3 ∷ [];
             copy = 1 ∷ 102 ∷ 1 ∷ 3 ∷ 7 ∷ 3 ∷ 2 ∷ 103 ∷ 104 ∷ [];
             flight = 1 ∷ 7 ∷ 2 ∷ 4 ∷ 102 ∷ 2 ∷ 101 ∷ 1 ∷ 7 ∷ 3 ∷ 102 ∷ 104 ∷ 103 ∷ 102 ∷ 103 ∷ 7 ∷ 2 ∷ 7 ∷ [];
           };
@@ -2056,15 +2071,15 @@ list-15 =
     }
 
 pub agrees-15 : first-wrong list-15 ≡ 0
-unfolding first-wrong entries apply Direct.start Direct.tick Pipelined.start Pipelined.tick book-words rate-words release-words release-rate-words headroom-refusal Preview.preview arrive-words into-frame booking bookings row-sum column-sum sum least some-of word
+unfolding first-wrong entries apply Direct.start Direct.tick Pipelined.start Pipelined.tick book-words rate-words release-words release-rate-words headroom-refusal Preview.preview arrive-words into-frame booking bookings row-sum column-sum sum first-from some-of word port-word
 agrees-15 = refl
 
 pub headroom-15 : first-wrong-headroom list-15 ≡ 0
-unfolding first-wrong-headroom final headroom-result pair-headroom headroom-over apply Direct.start Direct.tick Pipelined.start Pipelined.tick book-words rate-words release-words release-rate-words headroom-refusal Preview.preview arrive-words into-frame booking bookings row-sum column-sum sum least some-of word
+unfolding first-wrong-headroom final headroom-result pair-headroom headroom-over apply Direct.start Direct.tick Pipelined.start Pipelined.tick book-words rate-words release-words release-rate-words headroom-refusal Preview.preview arrive-words into-frame booking bookings row-sum column-sum sum first-from some-of word port-word
 headroom-15 = refl
 
 pub preview-15 : first-wrong-preview list-15 ≡ 0
-unfolding first-wrong-preview final apply Direct.start Direct.tick Pipelined.start Pipelined.tick book-words rate-words release-words release-rate-words headroom-refusal Preview.preview arrive-words into-frame booking bookings row-sum column-sum sum least some-of word
+unfolding first-wrong-preview final apply Direct.start Direct.tick Pipelined.start Pipelined.tick book-words rate-words release-words release-rate-words headroom-refusal Preview.preview arrive-words into-frame booking bookings row-sum column-sum sum first-from some-of word port-word
 preview-15 = refl
 
 abbrev list-16 : Case
@@ -2076,6 +2091,7 @@ list-16 =
             book = book-of (2 ∷ 1 ∷ 2 ∷ 103 ∷ 102 ∷ 101 ∷ 2 ∷ 1 ∷ 4 ∷ []) (4 ∷ 1 ∷ 3 ∷ 4 ∷ 1 ∷ 101 ∷ 102 ∷ 7 ∷ 1 ∷ []);
             credits = 101 ∷ 4 ∷ 4 ∷ 2 ∷ 4 ∷ 104 ∷ 3 ∷ 102 ∷ 3 ∷ [];
             queues = 1 ∷ 7 ∷ 2 ∷ 101 ∷ 103 ∷ 7 ∷ 102 ∷ 2 ∷ 102 ∷ [];
+            given = 3 ∷ 103 ∷ 104 ∷ [];
             copy = 2 ∷ 101 ∷ 2 ∷ 7 ∷ 4 ∷ 103 ∷ 102 ∷ 1 ∷ 2 ∷ [];
             flight = 4 ∷ 2 ∷ 101 ∷ 1 ∷ 104 ∷ 102 ∷ 7 ∷ 101 ∷ 1 ∷ 1 ∷ 1 ∷ 103 ∷ 7 ∷ 102 ∷ 104 ∷ 103 ∷ 3 ∷ 103 ∷ [];
           };
@@ -2144,15 +2160,15 @@ list-16 =
     }
 
 pub agrees-16 : first-wrong list-16 ≡ 0
-unfolding first-wrong entries apply Direct.start Direct.tick Pipelined.start Pipelined.tick book-words rate-words release-words release-rate-words headroom-refusal Preview.preview arrive-words into-frame booking bookings row-sum column-sum sum least some-of word
+unfolding first-wrong entries apply Direct.start Direct.tick Pipelined.start Pipelined.tick book-words rate-words release-words release-rate-words headroom-refusal Preview.preview arrive-words into-frame booking bookings row-sum column-sum sum first-from some-of word port-word
 agrees-16 = refl
 
 pub headroom-16 : first-wrong-headroom list-16 ≡ 0
-unfolding first-wrong-headroom final headroom-result pair-headroom headroom-over apply Direct.start Direct.tick Pipelined.start Pipelined.tick book-words rate-words release-words release-rate-words headroom-refusal Preview.preview arrive-words into-frame booking bookings row-sum column-sum sum least some-of word
+unfolding first-wrong-headroom final headroom-result pair-headroom headroom-over apply Direct.start Direct.tick Pipelined.start Pipelined.tick book-words rate-words release-words release-rate-words headroom-refusal Preview.preview arrive-words into-frame booking bookings row-sum column-sum sum first-from some-of word port-word
 headroom-16 = refl
 
 pub preview-16 : first-wrong-preview list-16 ≡ 0
-unfolding first-wrong-preview final apply Direct.start Direct.tick Pipelined.start Pipelined.tick book-words rate-words release-words release-rate-words headroom-refusal Preview.preview arrive-words into-frame booking bookings row-sum column-sum sum least some-of word
+unfolding first-wrong-preview final apply Direct.start Direct.tick Pipelined.start Pipelined.tick book-words rate-words release-words release-rate-words headroom-refusal Preview.preview arrive-words into-frame booking bookings row-sum column-sum sum first-from some-of word port-word
 preview-16 = refl
 
 abbrev list-17 : Case
@@ -2164,6 +2180,7 @@ list-17 =
             book = book-of (2 ∷ 101 ∷ 7 ∷ 104 ∷ 1 ∷ 104 ∷ 4 ∷ 104 ∷ 1 ∷ []) (101 ∷ 2 ∷ 3 ∷ 4 ∷ 104 ∷ 2 ∷ 7 ∷ 4 ∷ 7 ∷ []);
             credits = 7 ∷ 2 ∷ 103 ∷ 103 ∷ 104 ∷ 1 ∷ 4 ∷ 1 ∷ 1 ∷ [];
             queues = 1 ∷ 103 ∷ 101 ∷ 1 ∷ 102 ∷ 104 ∷ 4 ∷ 1 ∷ 7 ∷ [];
+            given = 104 ∷ 1 ∷ 7 ∷ [];
             copy = 4 ∷ 2 ∷ 102 ∷ 101 ∷ 2 ∷ 102 ∷ 101 ∷ 7 ∷ 102 ∷ [];
             flight = 4 ∷ 3 ∷ 4 ∷ 102 ∷ 2 ∷ 4 ∷ 103 ∷ 104 ∷ 102 ∷ 3 ∷ 102 ∷ 1 ∷ 1 ∷ 7 ∷ 7 ∷ 1 ∷ 1 ∷ 2 ∷ [];
           };
@@ -2291,15 +2308,15 @@ list-17 =
     }
 
 pub agrees-17 : first-wrong list-17 ≡ 0
-unfolding first-wrong entries apply Direct.start Direct.tick Pipelined.start Pipelined.tick book-words rate-words release-words release-rate-words headroom-refusal Preview.preview arrive-words into-frame booking bookings row-sum column-sum sum least some-of word
+unfolding first-wrong entries apply Direct.start Direct.tick Pipelined.start Pipelined.tick book-words rate-words release-words release-rate-words headroom-refusal Preview.preview arrive-words into-frame booking bookings row-sum column-sum sum first-from some-of word port-word
 agrees-17 = refl
 
 pub headroom-17 : first-wrong-headroom list-17 ≡ 0
-unfolding first-wrong-headroom final headroom-result pair-headroom headroom-over apply Direct.start Direct.tick Pipelined.start Pipelined.tick book-words rate-words release-words release-rate-words headroom-refusal Preview.preview arrive-words into-frame booking bookings row-sum column-sum sum least some-of word
+unfolding first-wrong-headroom final headroom-result pair-headroom headroom-over apply Direct.start Direct.tick Pipelined.start Pipelined.tick book-words rate-words release-words release-rate-words headroom-refusal Preview.preview arrive-words into-frame booking bookings row-sum column-sum sum first-from some-of word port-word
 headroom-17 = refl
 
 pub preview-17 : first-wrong-preview list-17 ≡ 0
-unfolding first-wrong-preview final apply Direct.start Direct.tick Pipelined.start Pipelined.tick book-words rate-words release-words release-rate-words headroom-refusal Preview.preview arrive-words into-frame booking bookings row-sum column-sum sum least some-of word
+unfolding first-wrong-preview final apply Direct.start Direct.tick Pipelined.start Pipelined.tick book-words rate-words release-words release-rate-words headroom-refusal Preview.preview arrive-words into-frame booking bookings row-sum column-sum sum first-from some-of word port-word
 preview-17 = refl
 
 abbrev list-18 : Case
@@ -2311,6 +2328,7 @@ list-18 =
             book = book-of (1 ∷ 102 ∷ 101 ∷ 7 ∷ 1 ∷ 3 ∷ 2 ∷ 101 ∷ 4 ∷ []) (101 ∷ 7 ∷ 103 ∷ 103 ∷ 1 ∷ 102 ∷ 1 ∷ 2 ∷ 1 ∷ []);
             credits = 104 ∷ 101 ∷ 101 ∷ 104 ∷ 4 ∷ 101 ∷ 1 ∷ 2 ∷ 7 ∷ [];
             queues = 101 ∷ 2 ∷ 104 ∷ 1 ∷ 104 ∷ 104 ∷ 2 ∷ 2 ∷ 4 ∷ [];
+            given = 3 ∷ 3 ∷ 1 ∷ [];
             copy = 1 ∷ 104 ∷ 1 ∷ 3 ∷ 1 ∷ 4 ∷ 4 ∷ 104 ∷ 2 ∷ [];
             flight = 4 ∷ 1 ∷ 2 ∷ 3 ∷ 2 ∷ 1 ∷ 103 ∷ 4 ∷ 1 ∷ 102 ∷ 4 ∷ 104 ∷ 103 ∷ 1 ∷ 101 ∷ 1 ∷ 3 ∷ 2 ∷ [];
           };
@@ -2423,15 +2441,15 @@ list-18 =
     }
 
 pub agrees-18 : first-wrong list-18 ≡ 0
-unfolding first-wrong entries apply Direct.start Direct.tick Pipelined.start Pipelined.tick book-words rate-words release-words release-rate-words headroom-refusal Preview.preview arrive-words into-frame booking bookings row-sum column-sum sum least some-of word
+unfolding first-wrong entries apply Direct.start Direct.tick Pipelined.start Pipelined.tick book-words rate-words release-words release-rate-words headroom-refusal Preview.preview arrive-words into-frame booking bookings row-sum column-sum sum first-from some-of word port-word
 agrees-18 = refl
 
 pub headroom-18 : first-wrong-headroom list-18 ≡ 0
-unfolding first-wrong-headroom final headroom-result pair-headroom headroom-over apply Direct.start Direct.tick Pipelined.start Pipelined.tick book-words rate-words release-words release-rate-words headroom-refusal Preview.preview arrive-words into-frame booking bookings row-sum column-sum sum least some-of word
+unfolding first-wrong-headroom final headroom-result pair-headroom headroom-over apply Direct.start Direct.tick Pipelined.start Pipelined.tick book-words rate-words release-words release-rate-words headroom-refusal Preview.preview arrive-words into-frame booking bookings row-sum column-sum sum first-from some-of word port-word
 headroom-18 = refl
 
 pub preview-18 : first-wrong-preview list-18 ≡ 0
-unfolding first-wrong-preview final apply Direct.start Direct.tick Pipelined.start Pipelined.tick book-words rate-words release-words release-rate-words headroom-refusal Preview.preview arrive-words into-frame booking bookings row-sum column-sum sum least some-of word
+unfolding first-wrong-preview final apply Direct.start Direct.tick Pipelined.start Pipelined.tick book-words rate-words release-words release-rate-words headroom-refusal Preview.preview arrive-words into-frame booking bookings row-sum column-sum sum first-from some-of word port-word
 preview-18 = refl
 
 abbrev list-19 : Case
@@ -2443,6 +2461,7 @@ list-19 =
             book = book-of (3 ∷ 101 ∷ 104 ∷ 1 ∷ 4 ∷ 7 ∷ 2 ∷ 2 ∷ 102 ∷ []) (103 ∷ 2 ∷ 102 ∷ 101 ∷ 101 ∷ 2 ∷ 101 ∷ 103 ∷ 1 ∷ []);
             credits = 2 ∷ 4 ∷ 104 ∷ 103 ∷ 2 ∷ 102 ∷ 1 ∷ 1 ∷ 1 ∷ [];
             queues = 3 ∷ 104 ∷ 1 ∷ 103 ∷ 3 ∷ 102 ∷ 1 ∷ 7 ∷ 2 ∷ [];
+            given = 1 ∷ 103 ∷ 103 ∷ [];
             copy = 101 ∷ 102 ∷ 101 ∷ 2 ∷ 1 ∷ 4 ∷ 1 ∷ 102 ∷ 4 ∷ [];
             flight = 4 ∷ 102 ∷ 2 ∷ 1 ∷ 7 ∷ 1 ∷ 103 ∷ 103 ∷ 104 ∷ 2 ∷ 3 ∷ 4 ∷ 3 ∷ 104 ∷ 104 ∷ 101 ∷ 7 ∷ 102 ∷ [];
           };
@@ -2574,15 +2593,15 @@ list-19 =
     }
 
 pub agrees-19 : first-wrong list-19 ≡ 0
-unfolding first-wrong entries apply Direct.start Direct.tick Pipelined.start Pipelined.tick book-words rate-words release-words release-rate-words headroom-refusal Preview.preview arrive-words into-frame booking bookings row-sum column-sum sum least some-of word
+unfolding first-wrong entries apply Direct.start Direct.tick Pipelined.start Pipelined.tick book-words rate-words release-words release-rate-words headroom-refusal Preview.preview arrive-words into-frame booking bookings row-sum column-sum sum first-from some-of word port-word
 agrees-19 = refl
 
 pub headroom-19 : first-wrong-headroom list-19 ≡ 0
-unfolding first-wrong-headroom final headroom-result pair-headroom headroom-over apply Direct.start Direct.tick Pipelined.start Pipelined.tick book-words rate-words release-words release-rate-words headroom-refusal Preview.preview arrive-words into-frame booking bookings row-sum column-sum sum least some-of word
+unfolding first-wrong-headroom final headroom-result pair-headroom headroom-over apply Direct.start Direct.tick Pipelined.start Pipelined.tick book-words rate-words release-words release-rate-words headroom-refusal Preview.preview arrive-words into-frame booking bookings row-sum column-sum sum first-from some-of word port-word
 headroom-19 = refl
 
 pub preview-19 : first-wrong-preview list-19 ≡ 0
-unfolding first-wrong-preview final apply Direct.start Direct.tick Pipelined.start Pipelined.tick book-words rate-words release-words release-rate-words headroom-refusal Preview.preview arrive-words into-frame booking bookings row-sum column-sum sum least some-of word
+unfolding first-wrong-preview final apply Direct.start Direct.tick Pipelined.start Pipelined.tick book-words rate-words release-words release-rate-words headroom-refusal Preview.preview arrive-words into-frame booking bookings row-sum column-sum sum first-from some-of word port-word
 preview-19 = refl
 
 abbrev list-20 : Case
@@ -2594,6 +2613,7 @@ list-20 =
             book = book-of (101 ∷ 7 ∷ 1 ∷ 2 ∷ 1 ∷ 101 ∷ 2 ∷ 7 ∷ 4 ∷ []) (1 ∷ 1 ∷ 3 ∷ 1 ∷ 102 ∷ 101 ∷ 102 ∷ 101 ∷ 1 ∷ []);
             credits = 4 ∷ 101 ∷ 7 ∷ 101 ∷ 2 ∷ 2 ∷ 1 ∷ 4 ∷ 101 ∷ [];
             queues = 1 ∷ 2 ∷ 102 ∷ 103 ∷ 2 ∷ 102 ∷ 4 ∷ 2 ∷ 103 ∷ [];
+            given = 1 ∷ 7 ∷ 4 ∷ [];
             copy = 101 ∷ 1 ∷ 1 ∷ 1 ∷ 3 ∷ 103 ∷ 101 ∷ 101 ∷ 101 ∷ [];
             flight = 104 ∷ 104 ∷ 104 ∷ 103 ∷ 102 ∷ 1 ∷ 2 ∷ 102 ∷ 2 ∷ 7 ∷ 7 ∷ 7 ∷ 104 ∷ 3 ∷ 2 ∷ 1 ∷ 103 ∷ 104 ∷ [];
           };
@@ -2657,15 +2677,15 @@ list-20 =
     }
 
 pub agrees-20 : first-wrong list-20 ≡ 0
-unfolding first-wrong entries apply Direct.start Direct.tick Pipelined.start Pipelined.tick book-words rate-words release-words release-rate-words headroom-refusal Preview.preview arrive-words into-frame booking bookings row-sum column-sum sum least some-of word
+unfolding first-wrong entries apply Direct.start Direct.tick Pipelined.start Pipelined.tick book-words rate-words release-words release-rate-words headroom-refusal Preview.preview arrive-words into-frame booking bookings row-sum column-sum sum first-from some-of word port-word
 agrees-20 = refl
 
 pub headroom-20 : first-wrong-headroom list-20 ≡ 0
-unfolding first-wrong-headroom final headroom-result pair-headroom headroom-over apply Direct.start Direct.tick Pipelined.start Pipelined.tick book-words rate-words release-words release-rate-words headroom-refusal Preview.preview arrive-words into-frame booking bookings row-sum column-sum sum least some-of word
+unfolding first-wrong-headroom final headroom-result pair-headroom headroom-over apply Direct.start Direct.tick Pipelined.start Pipelined.tick book-words rate-words release-words release-rate-words headroom-refusal Preview.preview arrive-words into-frame booking bookings row-sum column-sum sum first-from some-of word port-word
 headroom-20 = refl
 
 pub preview-20 : first-wrong-preview list-20 ≡ 0
-unfolding first-wrong-preview final apply Direct.start Direct.tick Pipelined.start Pipelined.tick book-words rate-words release-words release-rate-words headroom-refusal Preview.preview arrive-words into-frame booking bookings row-sum column-sum sum least some-of word
+unfolding first-wrong-preview final apply Direct.start Direct.tick Pipelined.start Pipelined.tick book-words rate-words release-words release-rate-words headroom-refusal Preview.preview arrive-words into-frame booking bookings row-sum column-sum sum first-from some-of word port-word
 preview-20 = refl
 
 abbrev list-21 : Case
@@ -2677,6 +2697,7 @@ list-21 =
             book = book-of (102 ∷ 103 ∷ 102 ∷ 2 ∷ 2 ∷ 2 ∷ 3 ∷ 2 ∷ 1 ∷ []) (1 ∷ 104 ∷ 101 ∷ 102 ∷ 3 ∷ 102 ∷ 101 ∷ 1 ∷ 103 ∷ []);
             credits = 104 ∷ 4 ∷ 1 ∷ 2 ∷ 3 ∷ 2 ∷ 4 ∷ 104 ∷ 102 ∷ [];
             queues = 4 ∷ 7 ∷ 2 ∷ 104 ∷ 104 ∷ 101 ∷ 102 ∷ 2 ∷ 103 ∷ [];
+            given = 7 ∷ 4 ∷ 3 ∷ [];
             copy = 104 ∷ 2 ∷ 2 ∷ 1 ∷ 102 ∷ 1 ∷ 4 ∷ 1 ∷ 1 ∷ [];
             flight = 1 ∷ 103 ∷ 7 ∷ 1 ∷ 1 ∷ 1 ∷ 4 ∷ 104 ∷ 1 ∷ 2 ∷ 101 ∷ 3 ∷ 4 ∷ 4 ∷ 2 ∷ 7 ∷ 101 ∷ 2 ∷ [];
           };
@@ -2761,26 +2782,26 @@ list-21 =
       expected =
           claim 1 1 1 0 0 0 0
           ∷ claim 1 1 5 0 0 2 0
-          ∷ claim 1 1 9 1 1 1 1
-          ∷ claim 1 1 13 1 1 0 0
+          ∷ claim 1 1 9 1 1 4 1
+          ∷ claim 1 1 13 1 1 1 1
           ∷ claim 1 1 17 1 1 0 0
           ∷ claim 1 1 21 0 1 0 0
           ∷ claim 1 2 1 0 0 0 0
           ∷ claim 1 2 5 0 0 2 0
           ∷ claim 1 2 9 0 4 4 0
           ∷ claim 1 2 13 0 4 4 0
-          ∷ claim 1 2 17 0 4 2 0
+          ∷ claim 1 2 17 0 4 3 0
           ∷ claim 1 2 21 0 3 0 0
           ∷ claim 1 3 1 0 0 0 0
           ∷ claim 1 3 5 0 0 2 0
           ∷ claim 1 3 9 1 1 4 1
-          ∷ claim 1 3 13 1 1 4 1
-          ∷ claim 1 3 17 1 2 1 1
+          ∷ claim 1 3 13 1 1 2 1
+          ∷ claim 1 3 17 1 2 0 0
           ∷ claim 1 3 21 1 1 0 0
           ∷ claim 2 1 1 0 0 0 0
           ∷ claim 2 1 5 0 0 2 0
           ∷ claim 2 1 9 0 3 4 0
-          ∷ claim 2 1 13 0 3 3 0
+          ∷ claim 2 1 13 0 3 2 0
           ∷ claim 2 1 17 0 3 0 0
           ∷ claim 2 1 21 0 2 0 0
           ∷ claim 2 2 1 0 0 0 0
@@ -2793,7 +2814,7 @@ list-21 =
           ∷ claim 2 3 5 0 0 0 0
           ∷ claim 2 3 9 0 3 2 0
           ∷ claim 2 3 13 0 3 4 0
-          ∷ claim 2 3 17 0 4 3 0
+          ∷ claim 2 3 17 0 4 2 0
           ∷ claim 2 3 21 0 4 0 0
           ∷ claim 3 1 1 0 0 0 0
           ∷ claim 3 1 5 0 0 2 0
@@ -2803,7 +2824,7 @@ list-21 =
           ∷ claim 3 1 21 0 1 0 0
           ∷ claim 3 2 1 0 0 0 0
           ∷ claim 3 2 5 0 0 2 0
-          ∷ claim 3 2 9 0 2 0 0
+          ∷ claim 3 2 9 0 2 1 0
           ∷ claim 3 2 13 0 2 0 0
           ∷ claim 3 2 17 0 3 0 0
           ∷ claim 3 2 21 0 3 0 0
@@ -2842,15 +2863,15 @@ list-21 =
     }
 
 pub agrees-21 : first-wrong list-21 ≡ 0
-unfolding first-wrong entries apply Direct.start Direct.tick Pipelined.start Pipelined.tick book-words rate-words release-words release-rate-words headroom-refusal Preview.preview arrive-words into-frame booking bookings row-sum column-sum sum least some-of word
+unfolding first-wrong entries apply Direct.start Direct.tick Pipelined.start Pipelined.tick book-words rate-words release-words release-rate-words headroom-refusal Preview.preview arrive-words into-frame booking bookings row-sum column-sum sum first-from some-of word port-word
 agrees-21 = refl
 
 pub headroom-21 : first-wrong-headroom list-21 ≡ 0
-unfolding first-wrong-headroom final headroom-result pair-headroom headroom-over apply Direct.start Direct.tick Pipelined.start Pipelined.tick book-words rate-words release-words release-rate-words headroom-refusal Preview.preview arrive-words into-frame booking bookings row-sum column-sum sum least some-of word
+unfolding first-wrong-headroom final headroom-result pair-headroom headroom-over apply Direct.start Direct.tick Pipelined.start Pipelined.tick book-words rate-words release-words release-rate-words headroom-refusal Preview.preview arrive-words into-frame booking bookings row-sum column-sum sum first-from some-of word port-word
 headroom-21 = refl
 
 pub preview-21 : first-wrong-preview list-21 ≡ 0
-unfolding first-wrong-preview final apply Direct.start Direct.tick Pipelined.start Pipelined.tick book-words rate-words release-words release-rate-words headroom-refusal Preview.preview arrive-words into-frame booking bookings row-sum column-sum sum least some-of word
+unfolding first-wrong-preview final apply Direct.start Direct.tick Pipelined.start Pipelined.tick book-words rate-words release-words release-rate-words headroom-refusal Preview.preview arrive-words into-frame booking bookings row-sum column-sum sum first-from some-of word port-word
 preview-21 = refl
 
 abbrev list-22 : Case
@@ -2862,6 +2883,7 @@ list-22 =
             book = book-of (102 ∷ 2 ∷ 7 ∷ 4 ∷ 7 ∷ 101 ∷ 103 ∷ 7 ∷ 101 ∷ []) (103 ∷ 2 ∷ 2 ∷ 7 ∷ 101 ∷ 1 ∷ 102 ∷ 104 ∷ 102 ∷ []);
             credits = 3 ∷ 1 ∷ 101 ∷ 4 ∷ 7 ∷ 101 ∷ 104 ∷ 4 ∷ 2 ∷ [];
             queues = 1 ∷ 1 ∷ 1 ∷ 103 ∷ 1 ∷ 102 ∷ 2 ∷ 3 ∷ 2 ∷ [];
+            given = 3 ∷ 2 ∷ 7 ∷ [];
             copy = 4 ∷ 1 ∷ 7 ∷ 7 ∷ 104 ∷ 2 ∷ 2 ∷ 2 ∷ 102 ∷ [];
             flight = 2 ∷ 7 ∷ 104 ∷ 7 ∷ 4 ∷ 103 ∷ 3 ∷ 3 ∷ 4 ∷ 2 ∷ 103 ∷ 2 ∷ 1 ∷ 104 ∷ 101 ∷ 3 ∷ 104 ∷ 103 ∷ [];
           };
@@ -3069,15 +3091,15 @@ list-22 =
     }
 
 pub agrees-22 : first-wrong list-22 ≡ 0
-unfolding first-wrong entries apply Direct.start Direct.tick Pipelined.start Pipelined.tick book-words rate-words release-words release-rate-words headroom-refusal Preview.preview arrive-words into-frame booking bookings row-sum column-sum sum least some-of word
+unfolding first-wrong entries apply Direct.start Direct.tick Pipelined.start Pipelined.tick book-words rate-words release-words release-rate-words headroom-refusal Preview.preview arrive-words into-frame booking bookings row-sum column-sum sum first-from some-of word port-word
 agrees-22 = refl
 
 pub headroom-22 : first-wrong-headroom list-22 ≡ 0
-unfolding first-wrong-headroom final headroom-result pair-headroom headroom-over apply Direct.start Direct.tick Pipelined.start Pipelined.tick book-words rate-words release-words release-rate-words headroom-refusal Preview.preview arrive-words into-frame booking bookings row-sum column-sum sum least some-of word
+unfolding first-wrong-headroom final headroom-result pair-headroom headroom-over apply Direct.start Direct.tick Pipelined.start Pipelined.tick book-words rate-words release-words release-rate-words headroom-refusal Preview.preview arrive-words into-frame booking bookings row-sum column-sum sum first-from some-of word port-word
 headroom-22 = refl
 
 pub preview-22 : first-wrong-preview list-22 ≡ 0
-unfolding first-wrong-preview final apply Direct.start Direct.tick Pipelined.start Pipelined.tick book-words rate-words release-words release-rate-words headroom-refusal Preview.preview arrive-words into-frame booking bookings row-sum column-sum sum least some-of word
+unfolding first-wrong-preview final apply Direct.start Direct.tick Pipelined.start Pipelined.tick book-words rate-words release-words release-rate-words headroom-refusal Preview.preview arrive-words into-frame booking bookings row-sum column-sum sum first-from some-of word port-word
 preview-22 = refl
 
 abbrev list-23 : Case
@@ -3089,6 +3111,7 @@ list-23 =
             book = book-of (2 ∷ 3 ∷ 103 ∷ 103 ∷ 102 ∷ 3 ∷ 104 ∷ 1 ∷ 101 ∷ []) (4 ∷ 104 ∷ 102 ∷ 102 ∷ 102 ∷ 4 ∷ 2 ∷ 1 ∷ 2 ∷ []);
             credits = 7 ∷ 1 ∷ 1 ∷ 2 ∷ 1 ∷ 3 ∷ 101 ∷ 101 ∷ 1 ∷ [];
             queues = 101 ∷ 1 ∷ 1 ∷ 7 ∷ 2 ∷ 7 ∷ 103 ∷ 2 ∷ 4 ∷ [];
+            given = 1 ∷ 103 ∷ 1 ∷ [];
             copy = 3 ∷ 4 ∷ 104 ∷ 101 ∷ 2 ∷ 2 ∷ 101 ∷ 4 ∷ 3 ∷ [];
             flight = 2 ∷ 104 ∷ 101 ∷ 2 ∷ 104 ∷ 104 ∷ 3 ∷ 7 ∷ 1 ∷ 4 ∷ 4 ∷ 1 ∷ 7 ∷ 101 ∷ 104 ∷ 104 ∷ 2 ∷ 1 ∷ [];
           };
@@ -3137,8 +3160,8 @@ list-23 =
           ∷ claim 1 1 3 0 0 0 0
           ∷ claim 1 1 5 1 0 2 1
           ∷ claim 1 1 7 0 0 2 0
-          ∷ claim 1 1 9 0 0 1 0
-          ∷ claim 1 1 11 0 0 0 0
+          ∷ claim 1 1 9 0 0 2 0
+          ∷ claim 1 1 11 0 0 1 0
           ∷ claim 1 2 1 0 0 0 0
           ∷ claim 1 2 3 0 0 0 0
           ∷ claim 1 2 5 0 2 1 0
@@ -3181,15 +3204,15 @@ list-23 =
     }
 
 pub agrees-23 : first-wrong list-23 ≡ 0
-unfolding first-wrong entries apply Direct.start Direct.tick Pipelined.start Pipelined.tick book-words rate-words release-words release-rate-words headroom-refusal Preview.preview arrive-words into-frame booking bookings row-sum column-sum sum least some-of word
+unfolding first-wrong entries apply Direct.start Direct.tick Pipelined.start Pipelined.tick book-words rate-words release-words release-rate-words headroom-refusal Preview.preview arrive-words into-frame booking bookings row-sum column-sum sum first-from some-of word port-word
 agrees-23 = refl
 
 pub headroom-23 : first-wrong-headroom list-23 ≡ 0
-unfolding first-wrong-headroom final headroom-result pair-headroom headroom-over apply Direct.start Direct.tick Pipelined.start Pipelined.tick book-words rate-words release-words release-rate-words headroom-refusal Preview.preview arrive-words into-frame booking bookings row-sum column-sum sum least some-of word
+unfolding first-wrong-headroom final headroom-result pair-headroom headroom-over apply Direct.start Direct.tick Pipelined.start Pipelined.tick book-words rate-words release-words release-rate-words headroom-refusal Preview.preview arrive-words into-frame booking bookings row-sum column-sum sum first-from some-of word port-word
 headroom-23 = refl
 
 pub preview-23 : first-wrong-preview list-23 ≡ 0
-unfolding first-wrong-preview final apply Direct.start Direct.tick Pipelined.start Pipelined.tick book-words rate-words release-words release-rate-words headroom-refusal Preview.preview arrive-words into-frame booking bookings row-sum column-sum sum least some-of word
+unfolding first-wrong-preview final apply Direct.start Direct.tick Pipelined.start Pipelined.tick book-words rate-words release-words release-rate-words headroom-refusal Preview.preview arrive-words into-frame booking bookings row-sum column-sum sum first-from some-of word port-word
 preview-23 = refl
 
 abbrev list-24 : Case
@@ -3201,6 +3224,7 @@ list-24 =
             book = book-of (7 ∷ 103 ∷ 7 ∷ 4 ∷ 102 ∷ 4 ∷ 2 ∷ 1 ∷ 4 ∷ []) (103 ∷ 1 ∷ 4 ∷ 1 ∷ 7 ∷ 103 ∷ 102 ∷ 2 ∷ 104 ∷ []);
             credits = 102 ∷ 101 ∷ 7 ∷ 4 ∷ 7 ∷ 7 ∷ 7 ∷ 4 ∷ 1 ∷ [];
             queues = 2 ∷ 104 ∷ 1 ∷ 3 ∷ 4 ∷ 103 ∷ 2 ∷ 2 ∷ 3 ∷ [];
+            given = 3 ∷ 4 ∷ 1 ∷ [];
             copy = 1 ∷ 2 ∷ 1 ∷ 4 ∷ 102 ∷ 4 ∷ 4 ∷ 7 ∷ 1 ∷ [];
             flight = 2 ∷ 104 ∷ 7 ∷ 103 ∷ 101 ∷ 101 ∷ 2 ∷ 104 ∷ 101 ∷ 101 ∷ 1 ∷ 3 ∷ 1 ∷ 1 ∷ 7 ∷ 1 ∷ 7 ∷ 4 ∷ [];
           };
@@ -3381,15 +3405,15 @@ list-24 =
     }
 
 pub agrees-24 : first-wrong list-24 ≡ 0
-unfolding first-wrong entries apply Direct.start Direct.tick Pipelined.start Pipelined.tick book-words rate-words release-words release-rate-words headroom-refusal Preview.preview arrive-words into-frame booking bookings row-sum column-sum sum least some-of word
+unfolding first-wrong entries apply Direct.start Direct.tick Pipelined.start Pipelined.tick book-words rate-words release-words release-rate-words headroom-refusal Preview.preview arrive-words into-frame booking bookings row-sum column-sum sum first-from some-of word port-word
 agrees-24 = refl
 
 pub headroom-24 : first-wrong-headroom list-24 ≡ 0
-unfolding first-wrong-headroom final headroom-result pair-headroom headroom-over apply Direct.start Direct.tick Pipelined.start Pipelined.tick book-words rate-words release-words release-rate-words headroom-refusal Preview.preview arrive-words into-frame booking bookings row-sum column-sum sum least some-of word
+unfolding first-wrong-headroom final headroom-result pair-headroom headroom-over apply Direct.start Direct.tick Pipelined.start Pipelined.tick book-words rate-words release-words release-rate-words headroom-refusal Preview.preview arrive-words into-frame booking bookings row-sum column-sum sum first-from some-of word port-word
 headroom-24 = refl
 
 pub preview-24 : first-wrong-preview list-24 ≡ 0
-unfolding first-wrong-preview final apply Direct.start Direct.tick Pipelined.start Pipelined.tick book-words rate-words release-words release-rate-words headroom-refusal Preview.preview arrive-words into-frame booking bookings row-sum column-sum sum least some-of word
+unfolding first-wrong-preview final apply Direct.start Direct.tick Pipelined.start Pipelined.tick book-words rate-words release-words release-rate-words headroom-refusal Preview.preview arrive-words into-frame booking bookings row-sum column-sum sum first-from some-of word port-word
 preview-24 = refl
 
 abbrev list-25 : Case
@@ -3401,6 +3425,7 @@ list-25 =
             book = book-of (2 ∷ 2 ∷ 103 ∷ 103 ∷ 1 ∷ 101 ∷ 2 ∷ 2 ∷ 101 ∷ []) (1 ∷ 103 ∷ 102 ∷ 7 ∷ 1 ∷ 104 ∷ 101 ∷ 4 ∷ 2 ∷ []);
             credits = 3 ∷ 4 ∷ 1 ∷ 3 ∷ 102 ∷ 3 ∷ 2 ∷ 4 ∷ 3 ∷ [];
             queues = 4 ∷ 102 ∷ 103 ∷ 2 ∷ 4 ∷ 1 ∷ 1 ∷ 3 ∷ 7 ∷ [];
+            given = 4 ∷ 2 ∷ 4 ∷ [];
             copy = 1 ∷ 104 ∷ 101 ∷ 2 ∷ 102 ∷ 1 ∷ 3 ∷ 3 ∷ 104 ∷ [];
             flight = 102 ∷ 2 ∷ 103 ∷ 7 ∷ 4 ∷ 102 ∷ 2 ∷ 102 ∷ 7 ∷ 103 ∷ 3 ∷ 3 ∷ 103 ∷ 1 ∷ 102 ∷ 3 ∷ 2 ∷ 104 ∷ [];
           };
@@ -3541,15 +3566,15 @@ list-25 =
     }
 
 pub agrees-25 : first-wrong list-25 ≡ 0
-unfolding first-wrong entries apply Direct.start Direct.tick Pipelined.start Pipelined.tick book-words rate-words release-words release-rate-words headroom-refusal Preview.preview arrive-words into-frame booking bookings row-sum column-sum sum least some-of word
+unfolding first-wrong entries apply Direct.start Direct.tick Pipelined.start Pipelined.tick book-words rate-words release-words release-rate-words headroom-refusal Preview.preview arrive-words into-frame booking bookings row-sum column-sum sum first-from some-of word port-word
 agrees-25 = refl
 
 pub headroom-25 : first-wrong-headroom list-25 ≡ 0
-unfolding first-wrong-headroom final headroom-result pair-headroom headroom-over apply Direct.start Direct.tick Pipelined.start Pipelined.tick book-words rate-words release-words release-rate-words headroom-refusal Preview.preview arrive-words into-frame booking bookings row-sum column-sum sum least some-of word
+unfolding first-wrong-headroom final headroom-result pair-headroom headroom-over apply Direct.start Direct.tick Pipelined.start Pipelined.tick book-words rate-words release-words release-rate-words headroom-refusal Preview.preview arrive-words into-frame booking bookings row-sum column-sum sum first-from some-of word port-word
 headroom-25 = refl
 
 pub preview-25 : first-wrong-preview list-25 ≡ 0
-unfolding first-wrong-preview final apply Direct.start Direct.tick Pipelined.start Pipelined.tick book-words rate-words release-words release-rate-words headroom-refusal Preview.preview arrive-words into-frame booking bookings row-sum column-sum sum least some-of word
+unfolding first-wrong-preview final apply Direct.start Direct.tick Pipelined.start Pipelined.tick book-words rate-words release-words release-rate-words headroom-refusal Preview.preview arrive-words into-frame booking bookings row-sum column-sum sum first-from some-of word port-word
 preview-25 = refl
 
 abbrev list-26 : Case
@@ -3561,6 +3586,7 @@ list-26 =
             book = book-of (1 ∷ 7 ∷ 1 ∷ 103 ∷ 1 ∷ 102 ∷ 103 ∷ 101 ∷ 101 ∷ []) (3 ∷ 101 ∷ 2 ∷ 101 ∷ 4 ∷ 101 ∷ 4 ∷ 102 ∷ 2 ∷ []);
             credits = 2 ∷ 7 ∷ 104 ∷ 1 ∷ 3 ∷ 3 ∷ 101 ∷ 1 ∷ 3 ∷ [];
             queues = 3 ∷ 103 ∷ 104 ∷ 4 ∷ 7 ∷ 1 ∷ 1 ∷ 104 ∷ 103 ∷ [];
+            given = 104 ∷ 2 ∷ 102 ∷ [];
             copy = 101 ∷ 103 ∷ 102 ∷ 1 ∷ 1 ∷ 4 ∷ 3 ∷ 3 ∷ 104 ∷ [];
             flight = 101 ∷ 2 ∷ 1 ∷ 103 ∷ 101 ∷ 3 ∷ 7 ∷ 2 ∷ 4 ∷ 103 ∷ 104 ∷ 103 ∷ 4 ∷ 101 ∷ 7 ∷ 2 ∷ 101 ∷ 4 ∷ [];
           };
@@ -3660,15 +3686,15 @@ list-26 =
     }
 
 pub agrees-26 : first-wrong list-26 ≡ 0
-unfolding first-wrong entries apply Direct.start Direct.tick Pipelined.start Pipelined.tick book-words rate-words release-words release-rate-words headroom-refusal Preview.preview arrive-words into-frame booking bookings row-sum column-sum sum least some-of word
+unfolding first-wrong entries apply Direct.start Direct.tick Pipelined.start Pipelined.tick book-words rate-words release-words release-rate-words headroom-refusal Preview.preview arrive-words into-frame booking bookings row-sum column-sum sum first-from some-of word port-word
 agrees-26 = refl
 
 pub headroom-26 : first-wrong-headroom list-26 ≡ 0
-unfolding first-wrong-headroom final headroom-result pair-headroom headroom-over apply Direct.start Direct.tick Pipelined.start Pipelined.tick book-words rate-words release-words release-rate-words headroom-refusal Preview.preview arrive-words into-frame booking bookings row-sum column-sum sum least some-of word
+unfolding first-wrong-headroom final headroom-result pair-headroom headroom-over apply Direct.start Direct.tick Pipelined.start Pipelined.tick book-words rate-words release-words release-rate-words headroom-refusal Preview.preview arrive-words into-frame booking bookings row-sum column-sum sum first-from some-of word port-word
 headroom-26 = refl
 
 pub preview-26 : first-wrong-preview list-26 ≡ 0
-unfolding first-wrong-preview final apply Direct.start Direct.tick Pipelined.start Pipelined.tick book-words rate-words release-words release-rate-words headroom-refusal Preview.preview arrive-words into-frame booking bookings row-sum column-sum sum least some-of word
+unfolding first-wrong-preview final apply Direct.start Direct.tick Pipelined.start Pipelined.tick book-words rate-words release-words release-rate-words headroom-refusal Preview.preview arrive-words into-frame booking bookings row-sum column-sum sum first-from some-of word port-word
 preview-26 = refl
 
 abbrev list-27 : Case
@@ -3680,6 +3706,7 @@ list-27 =
             book = book-of (101 ∷ 104 ∷ 1 ∷ 3 ∷ 104 ∷ 101 ∷ 3 ∷ 102 ∷ 101 ∷ []) (2 ∷ 1 ∷ 3 ∷ 102 ∷ 7 ∷ 2 ∷ 3 ∷ 102 ∷ 2 ∷ []);
             credits = 104 ∷ 103 ∷ 4 ∷ 102 ∷ 101 ∷ 3 ∷ 4 ∷ 7 ∷ 1 ∷ [];
             queues = 2 ∷ 3 ∷ 1 ∷ 104 ∷ 4 ∷ 104 ∷ 4 ∷ 2 ∷ 1 ∷ [];
+            given = 2 ∷ 1 ∷ 102 ∷ [];
             copy = 4 ∷ 102 ∷ 2 ∷ 2 ∷ 101 ∷ 101 ∷ 1 ∷ 101 ∷ 2 ∷ [];
             flight = 7 ∷ 3 ∷ 103 ∷ 4 ∷ 1 ∷ 104 ∷ 1 ∷ 4 ∷ 2 ∷ 7 ∷ 101 ∷ 1 ∷ 7 ∷ 104 ∷ 2 ∷ 4 ∷ 3 ∷ 102 ∷ [];
           };
@@ -3779,15 +3806,15 @@ list-27 =
     }
 
 pub agrees-27 : first-wrong list-27 ≡ 0
-unfolding first-wrong entries apply Direct.start Direct.tick Pipelined.start Pipelined.tick book-words rate-words release-words release-rate-words headroom-refusal Preview.preview arrive-words into-frame booking bookings row-sum column-sum sum least some-of word
+unfolding first-wrong entries apply Direct.start Direct.tick Pipelined.start Pipelined.tick book-words rate-words release-words release-rate-words headroom-refusal Preview.preview arrive-words into-frame booking bookings row-sum column-sum sum first-from some-of word port-word
 agrees-27 = refl
 
 pub headroom-27 : first-wrong-headroom list-27 ≡ 0
-unfolding first-wrong-headroom final headroom-result pair-headroom headroom-over apply Direct.start Direct.tick Pipelined.start Pipelined.tick book-words rate-words release-words release-rate-words headroom-refusal Preview.preview arrive-words into-frame booking bookings row-sum column-sum sum least some-of word
+unfolding first-wrong-headroom final headroom-result pair-headroom headroom-over apply Direct.start Direct.tick Pipelined.start Pipelined.tick book-words rate-words release-words release-rate-words headroom-refusal Preview.preview arrive-words into-frame booking bookings row-sum column-sum sum first-from some-of word port-word
 headroom-27 = refl
 
 pub preview-27 : first-wrong-preview list-27 ≡ 0
-unfolding first-wrong-preview final apply Direct.start Direct.tick Pipelined.start Pipelined.tick book-words rate-words release-words release-rate-words headroom-refusal Preview.preview arrive-words into-frame booking bookings row-sum column-sum sum least some-of word
+unfolding first-wrong-preview final apply Direct.start Direct.tick Pipelined.start Pipelined.tick book-words rate-words release-words release-rate-words headroom-refusal Preview.preview arrive-words into-frame booking bookings row-sum column-sum sum first-from some-of word port-word
 preview-27 = refl
 
 abbrev list-28 : Case
@@ -3799,6 +3826,7 @@ list-28 =
             book = book-of (1 ∷ 1 ∷ 101 ∷ 4 ∷ 2 ∷ 2 ∷ 3 ∷ 104 ∷ 102 ∷ []) (4 ∷ 2 ∷ 1 ∷ 1 ∷ 7 ∷ 2 ∷ 2 ∷ 102 ∷ 103 ∷ []);
             credits = 102 ∷ 2 ∷ 1 ∷ 7 ∷ 2 ∷ 7 ∷ 2 ∷ 2 ∷ 102 ∷ [];
             queues = 4 ∷ 2 ∷ 2 ∷ 7 ∷ 2 ∷ 103 ∷ 101 ∷ 101 ∷ 2 ∷ [];
+            given = 1 ∷ 4 ∷ 3 ∷ [];
             copy = 2 ∷ 2 ∷ 101 ∷ 103 ∷ 1 ∷ 7 ∷ 1 ∷ 1 ∷ 2 ∷ [];
             flight = 102 ∷ 2 ∷ 1 ∷ 2 ∷ 3 ∷ 103 ∷ 1 ∷ 1 ∷ 103 ∷ 103 ∷ 104 ∷ 101 ∷ 104 ∷ 104 ∷ 4 ∷ 102 ∷ 2 ∷ 7 ∷ [];
           };
@@ -3862,15 +3890,15 @@ list-28 =
     }
 
 pub agrees-28 : first-wrong list-28 ≡ 0
-unfolding first-wrong entries apply Direct.start Direct.tick Pipelined.start Pipelined.tick book-words rate-words release-words release-rate-words headroom-refusal Preview.preview arrive-words into-frame booking bookings row-sum column-sum sum least some-of word
+unfolding first-wrong entries apply Direct.start Direct.tick Pipelined.start Pipelined.tick book-words rate-words release-words release-rate-words headroom-refusal Preview.preview arrive-words into-frame booking bookings row-sum column-sum sum first-from some-of word port-word
 agrees-28 = refl
 
 pub headroom-28 : first-wrong-headroom list-28 ≡ 0
-unfolding first-wrong-headroom final headroom-result pair-headroom headroom-over apply Direct.start Direct.tick Pipelined.start Pipelined.tick book-words rate-words release-words release-rate-words headroom-refusal Preview.preview arrive-words into-frame booking bookings row-sum column-sum sum least some-of word
+unfolding first-wrong-headroom final headroom-result pair-headroom headroom-over apply Direct.start Direct.tick Pipelined.start Pipelined.tick book-words rate-words release-words release-rate-words headroom-refusal Preview.preview arrive-words into-frame booking bookings row-sum column-sum sum first-from some-of word port-word
 headroom-28 = refl
 
 pub preview-28 : first-wrong-preview list-28 ≡ 0
-unfolding first-wrong-preview final apply Direct.start Direct.tick Pipelined.start Pipelined.tick book-words rate-words release-words release-rate-words headroom-refusal Preview.preview arrive-words into-frame booking bookings row-sum column-sum sum least some-of word
+unfolding first-wrong-preview final apply Direct.start Direct.tick Pipelined.start Pipelined.tick book-words rate-words release-words release-rate-words headroom-refusal Preview.preview arrive-words into-frame booking bookings row-sum column-sum sum first-from some-of word port-word
 preview-28 = refl
 
 abbrev list-29 : Case
@@ -3882,6 +3910,7 @@ list-29 =
             book = book-of (2 ∷ 2 ∷ 103 ∷ 7 ∷ 2 ∷ 1 ∷ 101 ∷ 3 ∷ 103 ∷ []) (2 ∷ 3 ∷ 2 ∷ 102 ∷ 1 ∷ 102 ∷ 7 ∷ 2 ∷ 104 ∷ []);
             credits = 1 ∷ 103 ∷ 101 ∷ 1 ∷ 7 ∷ 3 ∷ 7 ∷ 2 ∷ 7 ∷ [];
             queues = 1 ∷ 3 ∷ 4 ∷ 2 ∷ 3 ∷ 103 ∷ 2 ∷ 1 ∷ 2 ∷ [];
+            given = 1 ∷ 3 ∷ 104 ∷ [];
             copy = 3 ∷ 2 ∷ 2 ∷ 104 ∷ 4 ∷ 2 ∷ 1 ∷ 7 ∷ 1 ∷ [];
             flight = 4 ∷ 102 ∷ 104 ∷ 1 ∷ 1 ∷ 101 ∷ 1 ∷ 101 ∷ 103 ∷ 102 ∷ 104 ∷ 2 ∷ 4 ∷ 103 ∷ 2 ∷ 1 ∷ 4 ∷ 1 ∷ [];
           };
@@ -3994,15 +4023,15 @@ list-29 =
     }
 
 pub agrees-29 : first-wrong list-29 ≡ 0
-unfolding first-wrong entries apply Direct.start Direct.tick Pipelined.start Pipelined.tick book-words rate-words release-words release-rate-words headroom-refusal Preview.preview arrive-words into-frame booking bookings row-sum column-sum sum least some-of word
+unfolding first-wrong entries apply Direct.start Direct.tick Pipelined.start Pipelined.tick book-words rate-words release-words release-rate-words headroom-refusal Preview.preview arrive-words into-frame booking bookings row-sum column-sum sum first-from some-of word port-word
 agrees-29 = refl
 
 pub headroom-29 : first-wrong-headroom list-29 ≡ 0
-unfolding first-wrong-headroom final headroom-result pair-headroom headroom-over apply Direct.start Direct.tick Pipelined.start Pipelined.tick book-words rate-words release-words release-rate-words headroom-refusal Preview.preview arrive-words into-frame booking bookings row-sum column-sum sum least some-of word
+unfolding first-wrong-headroom final headroom-result pair-headroom headroom-over apply Direct.start Direct.tick Pipelined.start Pipelined.tick book-words rate-words release-words release-rate-words headroom-refusal Preview.preview arrive-words into-frame booking bookings row-sum column-sum sum first-from some-of word port-word
 headroom-29 = refl
 
 pub preview-29 : first-wrong-preview list-29 ≡ 0
-unfolding first-wrong-preview final apply Direct.start Direct.tick Pipelined.start Pipelined.tick book-words rate-words release-words release-rate-words headroom-refusal Preview.preview arrive-words into-frame booking bookings row-sum column-sum sum least some-of word
+unfolding first-wrong-preview final apply Direct.start Direct.tick Pipelined.start Pipelined.tick book-words rate-words release-words release-rate-words headroom-refusal Preview.preview arrive-words into-frame booking bookings row-sum column-sum sum first-from some-of word port-word
 preview-29 = refl
 
 abbrev list-30 : Case
@@ -4014,6 +4043,7 @@ list-30 =
             book = book-of (2 ∷ 7 ∷ 101 ∷ 2 ∷ 4 ∷ 1 ∷ 7 ∷ 103 ∷ 7 ∷ []) (3 ∷ 102 ∷ 101 ∷ 102 ∷ 103 ∷ 1 ∷ 104 ∷ 1 ∷ 2 ∷ []);
             credits = 103 ∷ 3 ∷ 103 ∷ 102 ∷ 2 ∷ 1 ∷ 103 ∷ 3 ∷ 4 ∷ [];
             queues = 101 ∷ 104 ∷ 2 ∷ 2 ∷ 2 ∷ 103 ∷ 103 ∷ 103 ∷ 102 ∷ [];
+            given = 2 ∷ 4 ∷ 1 ∷ [];
             copy = 103 ∷ 104 ∷ 3 ∷ 1 ∷ 7 ∷ 102 ∷ 101 ∷ 4 ∷ 7 ∷ [];
             flight = 4 ∷ 2 ∷ 4 ∷ 103 ∷ 7 ∷ 103 ∷ 4 ∷ 7 ∷ 3 ∷ 1 ∷ 3 ∷ 102 ∷ 103 ∷ 103 ∷ 1 ∷ 4 ∷ 104 ∷ 103 ∷ [];
           };
@@ -4182,15 +4212,15 @@ list-30 =
     }
 
 pub agrees-30 : first-wrong list-30 ≡ 0
-unfolding first-wrong entries apply Direct.start Direct.tick Pipelined.start Pipelined.tick book-words rate-words release-words release-rate-words headroom-refusal Preview.preview arrive-words into-frame booking bookings row-sum column-sum sum least some-of word
+unfolding first-wrong entries apply Direct.start Direct.tick Pipelined.start Pipelined.tick book-words rate-words release-words release-rate-words headroom-refusal Preview.preview arrive-words into-frame booking bookings row-sum column-sum sum first-from some-of word port-word
 agrees-30 = refl
 
 pub headroom-30 : first-wrong-headroom list-30 ≡ 0
-unfolding first-wrong-headroom final headroom-result pair-headroom headroom-over apply Direct.start Direct.tick Pipelined.start Pipelined.tick book-words rate-words release-words release-rate-words headroom-refusal Preview.preview arrive-words into-frame booking bookings row-sum column-sum sum least some-of word
+unfolding first-wrong-headroom final headroom-result pair-headroom headroom-over apply Direct.start Direct.tick Pipelined.start Pipelined.tick book-words rate-words release-words release-rate-words headroom-refusal Preview.preview arrive-words into-frame booking bookings row-sum column-sum sum first-from some-of word port-word
 headroom-30 = refl
 
 pub preview-30 : first-wrong-preview list-30 ≡ 0
-unfolding first-wrong-preview final apply Direct.start Direct.tick Pipelined.start Pipelined.tick book-words rate-words release-words release-rate-words headroom-refusal Preview.preview arrive-words into-frame booking bookings row-sum column-sum sum least some-of word
+unfolding first-wrong-preview final apply Direct.start Direct.tick Pipelined.start Pipelined.tick book-words rate-words release-words release-rate-words headroom-refusal Preview.preview arrive-words into-frame booking bookings row-sum column-sum sum first-from some-of word port-word
 preview-30 = refl
 
 abbrev list-31 : Case
@@ -4202,6 +4232,7 @@ list-31 =
             book = book-of (2 ∷ 3 ∷ 7 ∷ 1 ∷ 102 ∷ 4 ∷ 2 ∷ 1 ∷ 3 ∷ []) (103 ∷ 104 ∷ 1 ∷ 1 ∷ 7 ∷ 1 ∷ 101 ∷ 103 ∷ 4 ∷ []);
             credits = 3 ∷ 2 ∷ 2 ∷ 101 ∷ 101 ∷ 2 ∷ 1 ∷ 103 ∷ 3 ∷ [];
             queues = 102 ∷ 101 ∷ 3 ∷ 1 ∷ 102 ∷ 3 ∷ 3 ∷ 3 ∷ 4 ∷ [];
+            given = 7 ∷ 1 ∷ 3 ∷ [];
             copy = 102 ∷ 1 ∷ 104 ∷ 101 ∷ 3 ∷ 2 ∷ 1 ∷ 1 ∷ 1 ∷ [];
             flight = 7 ∷ 3 ∷ 7 ∷ 7 ∷ 1 ∷ 101 ∷ 101 ∷ 3 ∷ 103 ∷ 2 ∷ 104 ∷ 102 ∷ 7 ∷ 103 ∷ 102 ∷ 4 ∷ 102 ∷ 1 ∷ [];
           };
@@ -4329,15 +4360,15 @@ list-31 =
     }
 
 pub agrees-31 : first-wrong list-31 ≡ 0
-unfolding first-wrong entries apply Direct.start Direct.tick Pipelined.start Pipelined.tick book-words rate-words release-words release-rate-words headroom-refusal Preview.preview arrive-words into-frame booking bookings row-sum column-sum sum least some-of word
+unfolding first-wrong entries apply Direct.start Direct.tick Pipelined.start Pipelined.tick book-words rate-words release-words release-rate-words headroom-refusal Preview.preview arrive-words into-frame booking bookings row-sum column-sum sum first-from some-of word port-word
 agrees-31 = refl
 
 pub headroom-31 : first-wrong-headroom list-31 ≡ 0
-unfolding first-wrong-headroom final headroom-result pair-headroom headroom-over apply Direct.start Direct.tick Pipelined.start Pipelined.tick book-words rate-words release-words release-rate-words headroom-refusal Preview.preview arrive-words into-frame booking bookings row-sum column-sum sum least some-of word
+unfolding first-wrong-headroom final headroom-result pair-headroom headroom-over apply Direct.start Direct.tick Pipelined.start Pipelined.tick book-words rate-words release-words release-rate-words headroom-refusal Preview.preview arrive-words into-frame booking bookings row-sum column-sum sum first-from some-of word port-word
 headroom-31 = refl
 
 pub preview-31 : first-wrong-preview list-31 ≡ 0
-unfolding first-wrong-preview final apply Direct.start Direct.tick Pipelined.start Pipelined.tick book-words rate-words release-words release-rate-words headroom-refusal Preview.preview arrive-words into-frame booking bookings row-sum column-sum sum least some-of word
+unfolding first-wrong-preview final apply Direct.start Direct.tick Pipelined.start Pipelined.tick book-words rate-words release-words release-rate-words headroom-refusal Preview.preview arrive-words into-frame booking bookings row-sum column-sum sum first-from some-of word port-word
 preview-31 = refl
 
 abbrev list-32 : Case
@@ -4349,6 +4380,7 @@ list-32 =
             book = book-of (101 ∷ 103 ∷ 4 ∷ 4 ∷ 3 ∷ 2 ∷ 1 ∷ 2 ∷ 2 ∷ []) (103 ∷ 102 ∷ 3 ∷ 2 ∷ 1 ∷ 4 ∷ 102 ∷ 2 ∷ 3 ∷ []);
             credits = 7 ∷ 2 ∷ 103 ∷ 2 ∷ 2 ∷ 2 ∷ 104 ∷ 2 ∷ 101 ∷ [];
             queues = 101 ∷ 101 ∷ 4 ∷ 102 ∷ 103 ∷ 4 ∷ 101 ∷ 3 ∷ 101 ∷ [];
+            given = 104 ∷ 104 ∷ 101 ∷ [];
             copy = 101 ∷ 3 ∷ 101 ∷ 2 ∷ 2 ∷ 102 ∷ 1 ∷ 2 ∷ 4 ∷ [];
             flight = 7 ∷ 2 ∷ 1 ∷ 101 ∷ 2 ∷ 104 ∷ 4 ∷ 3 ∷ 4 ∷ 102 ∷ 2 ∷ 103 ∷ 102 ∷ 7 ∷ 7 ∷ 102 ∷ 102 ∷ 1 ∷ [];
           };
@@ -4406,15 +4438,15 @@ list-32 =
     }
 
 pub agrees-32 : first-wrong list-32 ≡ 0
-unfolding first-wrong entries apply Direct.start Direct.tick Pipelined.start Pipelined.tick book-words rate-words release-words release-rate-words headroom-refusal Preview.preview arrive-words into-frame booking bookings row-sum column-sum sum least some-of word
+unfolding first-wrong entries apply Direct.start Direct.tick Pipelined.start Pipelined.tick book-words rate-words release-words release-rate-words headroom-refusal Preview.preview arrive-words into-frame booking bookings row-sum column-sum sum first-from some-of word port-word
 agrees-32 = refl
 
 pub headroom-32 : first-wrong-headroom list-32 ≡ 0
-unfolding first-wrong-headroom final headroom-result pair-headroom headroom-over apply Direct.start Direct.tick Pipelined.start Pipelined.tick book-words rate-words release-words release-rate-words headroom-refusal Preview.preview arrive-words into-frame booking bookings row-sum column-sum sum least some-of word
+unfolding first-wrong-headroom final headroom-result pair-headroom headroom-over apply Direct.start Direct.tick Pipelined.start Pipelined.tick book-words rate-words release-words release-rate-words headroom-refusal Preview.preview arrive-words into-frame booking bookings row-sum column-sum sum first-from some-of word port-word
 headroom-32 = refl
 
 pub preview-32 : first-wrong-preview list-32 ≡ 0
-unfolding first-wrong-preview final apply Direct.start Direct.tick Pipelined.start Pipelined.tick book-words rate-words release-words release-rate-words headroom-refusal Preview.preview arrive-words into-frame booking bookings row-sum column-sum sum least some-of word
+unfolding first-wrong-preview final apply Direct.start Direct.tick Pipelined.start Pipelined.tick book-words rate-words release-words release-rate-words headroom-refusal Preview.preview arrive-words into-frame booking bookings row-sum column-sum sum first-from some-of word port-word
 preview-32 = refl
 
 abbrev list-33 : Case
@@ -4426,6 +4458,7 @@ list-33 =
             book = book-of (102 ∷ 1 ∷ 7 ∷ 104 ∷ 1 ∷ 2 ∷ 103 ∷ 102 ∷ 2 ∷ []) (1 ∷ 101 ∷ 3 ∷ 4 ∷ 102 ∷ 102 ∷ 2 ∷ 1 ∷ 1 ∷ []);
             credits = 4 ∷ 103 ∷ 1 ∷ 3 ∷ 1 ∷ 2 ∷ 7 ∷ 2 ∷ 1 ∷ [];
             queues = 103 ∷ 7 ∷ 2 ∷ 103 ∷ 4 ∷ 104 ∷ 2 ∷ 103 ∷ 104 ∷ [];
+            given = 103 ∷ 2 ∷ 3 ∷ [];
             copy = 102 ∷ 102 ∷ 2 ∷ 101 ∷ 2 ∷ 2 ∷ 102 ∷ 2 ∷ 3 ∷ [];
             flight = 102 ∷ 7 ∷ 103 ∷ 103 ∷ 104 ∷ 102 ∷ 3 ∷ 3 ∷ 1 ∷ 2 ∷ 1 ∷ 101 ∷ 2 ∷ 2 ∷ 3 ∷ 1 ∷ 103 ∷ 104 ∷ [];
           };
@@ -4507,15 +4540,15 @@ list-33 =
     }
 
 pub agrees-33 : first-wrong list-33 ≡ 0
-unfolding first-wrong entries apply Direct.start Direct.tick Pipelined.start Pipelined.tick book-words rate-words release-words release-rate-words headroom-refusal Preview.preview arrive-words into-frame booking bookings row-sum column-sum sum least some-of word
+unfolding first-wrong entries apply Direct.start Direct.tick Pipelined.start Pipelined.tick book-words rate-words release-words release-rate-words headroom-refusal Preview.preview arrive-words into-frame booking bookings row-sum column-sum sum first-from some-of word port-word
 agrees-33 = refl
 
 pub headroom-33 : first-wrong-headroom list-33 ≡ 0
-unfolding first-wrong-headroom final headroom-result pair-headroom headroom-over apply Direct.start Direct.tick Pipelined.start Pipelined.tick book-words rate-words release-words release-rate-words headroom-refusal Preview.preview arrive-words into-frame booking bookings row-sum column-sum sum least some-of word
+unfolding first-wrong-headroom final headroom-result pair-headroom headroom-over apply Direct.start Direct.tick Pipelined.start Pipelined.tick book-words rate-words release-words release-rate-words headroom-refusal Preview.preview arrive-words into-frame booking bookings row-sum column-sum sum first-from some-of word port-word
 headroom-33 = refl
 
 pub preview-33 : first-wrong-preview list-33 ≡ 0
-unfolding first-wrong-preview final apply Direct.start Direct.tick Pipelined.start Pipelined.tick book-words rate-words release-words release-rate-words headroom-refusal Preview.preview arrive-words into-frame booking bookings row-sum column-sum sum least some-of word
+unfolding first-wrong-preview final apply Direct.start Direct.tick Pipelined.start Pipelined.tick book-words rate-words release-words release-rate-words headroom-refusal Preview.preview arrive-words into-frame booking bookings row-sum column-sum sum first-from some-of word port-word
 preview-33 = refl
 
 abbrev list-34 : Case
@@ -4527,6 +4560,7 @@ list-34 =
             book = book-of (1 ∷ 4 ∷ 1 ∷ 2 ∷ 2 ∷ 104 ∷ 102 ∷ 3 ∷ 2 ∷ []) (3 ∷ 101 ∷ 2 ∷ 101 ∷ 7 ∷ 102 ∷ 101 ∷ 3 ∷ 104 ∷ []);
             credits = 103 ∷ 104 ∷ 2 ∷ 3 ∷ 3 ∷ 1 ∷ 4 ∷ 101 ∷ 2 ∷ [];
             queues = 1 ∷ 101 ∷ 1 ∷ 2 ∷ 3 ∷ 101 ∷ 2 ∷ 1 ∷ 1 ∷ [];
+            given = 102 ∷ 104 ∷ 2 ∷ [];
             copy = 7 ∷ 1 ∷ 1 ∷ 3 ∷ 7 ∷ 3 ∷ 2 ∷ 1 ∷ 4 ∷ [];
             flight = 1 ∷ 103 ∷ 7 ∷ 4 ∷ 101 ∷ 2 ∷ 1 ∷ 2 ∷ 1 ∷ 102 ∷ 2 ∷ 104 ∷ 102 ∷ 2 ∷ 2 ∷ 102 ∷ 104 ∷ 1 ∷ [];
           };
@@ -4620,15 +4654,15 @@ list-34 =
     }
 
 pub agrees-34 : first-wrong list-34 ≡ 0
-unfolding first-wrong entries apply Direct.start Direct.tick Pipelined.start Pipelined.tick book-words rate-words release-words release-rate-words headroom-refusal Preview.preview arrive-words into-frame booking bookings row-sum column-sum sum least some-of word
+unfolding first-wrong entries apply Direct.start Direct.tick Pipelined.start Pipelined.tick book-words rate-words release-words release-rate-words headroom-refusal Preview.preview arrive-words into-frame booking bookings row-sum column-sum sum first-from some-of word port-word
 agrees-34 = refl
 
 pub headroom-34 : first-wrong-headroom list-34 ≡ 0
-unfolding first-wrong-headroom final headroom-result pair-headroom headroom-over apply Direct.start Direct.tick Pipelined.start Pipelined.tick book-words rate-words release-words release-rate-words headroom-refusal Preview.preview arrive-words into-frame booking bookings row-sum column-sum sum least some-of word
+unfolding first-wrong-headroom final headroom-result pair-headroom headroom-over apply Direct.start Direct.tick Pipelined.start Pipelined.tick book-words rate-words release-words release-rate-words headroom-refusal Preview.preview arrive-words into-frame booking bookings row-sum column-sum sum first-from some-of word port-word
 headroom-34 = refl
 
 pub preview-34 : first-wrong-preview list-34 ≡ 0
-unfolding first-wrong-preview final apply Direct.start Direct.tick Pipelined.start Pipelined.tick book-words rate-words release-words release-rate-words headroom-refusal Preview.preview arrive-words into-frame booking bookings row-sum column-sum sum least some-of word
+unfolding first-wrong-preview final apply Direct.start Direct.tick Pipelined.start Pipelined.tick book-words rate-words release-words release-rate-words headroom-refusal Preview.preview arrive-words into-frame booking bookings row-sum column-sum sum first-from some-of word port-word
 preview-34 = refl
 
 abbrev list-35 : Case
@@ -4640,6 +4674,7 @@ list-35 =
             book = book-of (104 ∷ 1 ∷ 101 ∷ 1 ∷ 1 ∷ 7 ∷ 4 ∷ 102 ∷ 2 ∷ []) (2 ∷ 102 ∷ 7 ∷ 101 ∷ 104 ∷ 7 ∷ 1 ∷ 1 ∷ 102 ∷ []);
             credits = 1 ∷ 2 ∷ 101 ∷ 102 ∷ 102 ∷ 2 ∷ 1 ∷ 3 ∷ 1 ∷ [];
             queues = 104 ∷ 7 ∷ 1 ∷ 101 ∷ 103 ∷ 1 ∷ 101 ∷ 2 ∷ 1 ∷ [];
+            given = 1 ∷ 2 ∷ 101 ∷ [];
             copy = 2 ∷ 1 ∷ 2 ∷ 3 ∷ 2 ∷ 1 ∷ 104 ∷ 1 ∷ 3 ∷ [];
             flight = 2 ∷ 2 ∷ 4 ∷ 101 ∷ 2 ∷ 102 ∷ 3 ∷ 4 ∷ 4 ∷ 1 ∷ 103 ∷ 103 ∷ 101 ∷ 101 ∷ 2 ∷ 4 ∷ 2 ∷ 7 ∷ [];
           };
@@ -4793,15 +4828,15 @@ list-35 =
     }
 
 pub agrees-35 : first-wrong list-35 ≡ 0
-unfolding first-wrong entries apply Direct.start Direct.tick Pipelined.start Pipelined.tick book-words rate-words release-words release-rate-words headroom-refusal Preview.preview arrive-words into-frame booking bookings row-sum column-sum sum least some-of word
+unfolding first-wrong entries apply Direct.start Direct.tick Pipelined.start Pipelined.tick book-words rate-words release-words release-rate-words headroom-refusal Preview.preview arrive-words into-frame booking bookings row-sum column-sum sum first-from some-of word port-word
 agrees-35 = refl
 
 pub headroom-35 : first-wrong-headroom list-35 ≡ 0
-unfolding first-wrong-headroom final headroom-result pair-headroom headroom-over apply Direct.start Direct.tick Pipelined.start Pipelined.tick book-words rate-words release-words release-rate-words headroom-refusal Preview.preview arrive-words into-frame booking bookings row-sum column-sum sum least some-of word
+unfolding first-wrong-headroom final headroom-result pair-headroom headroom-over apply Direct.start Direct.tick Pipelined.start Pipelined.tick book-words rate-words release-words release-rate-words headroom-refusal Preview.preview arrive-words into-frame booking bookings row-sum column-sum sum first-from some-of word port-word
 headroom-35 = refl
 
 pub preview-35 : first-wrong-preview list-35 ≡ 0
-unfolding first-wrong-preview final apply Direct.start Direct.tick Pipelined.start Pipelined.tick book-words rate-words release-words release-rate-words headroom-refusal Preview.preview arrive-words into-frame booking bookings row-sum column-sum sum least some-of word
+unfolding first-wrong-preview final apply Direct.start Direct.tick Pipelined.start Pipelined.tick book-words rate-words release-words release-rate-words headroom-refusal Preview.preview arrive-words into-frame booking bookings row-sum column-sum sum first-from some-of word port-word
 preview-35 = refl
 
 abbrev list-36 : Case
@@ -4813,6 +4848,7 @@ list-36 =
             book = book-of (1 ∷ 3 ∷ 101 ∷ 2 ∷ 101 ∷ 7 ∷ 7 ∷ 104 ∷ 7 ∷ []) (103 ∷ 3 ∷ 104 ∷ 2 ∷ 7 ∷ 4 ∷ 2 ∷ 4 ∷ 7 ∷ []);
             credits = 103 ∷ 1 ∷ 104 ∷ 102 ∷ 1 ∷ 104 ∷ 3 ∷ 2 ∷ 1 ∷ [];
             queues = 101 ∷ 2 ∷ 103 ∷ 7 ∷ 102 ∷ 4 ∷ 3 ∷ 103 ∷ 104 ∷ [];
+            given = 3 ∷ 7 ∷ 1 ∷ [];
             copy = 104 ∷ 101 ∷ 4 ∷ 101 ∷ 102 ∷ 2 ∷ 2 ∷ 103 ∷ 7 ∷ [];
             flight = 104 ∷ 4 ∷ 4 ∷ 103 ∷ 7 ∷ 101 ∷ 3 ∷ 2 ∷ 103 ∷ 4 ∷ 3 ∷ 102 ∷ 1 ∷ 2 ∷ 2 ∷ 101 ∷ 3 ∷ 4 ∷ [];
           };
@@ -4942,15 +4978,15 @@ list-36 =
     }
 
 pub agrees-36 : first-wrong list-36 ≡ 0
-unfolding first-wrong entries apply Direct.start Direct.tick Pipelined.start Pipelined.tick book-words rate-words release-words release-rate-words headroom-refusal Preview.preview arrive-words into-frame booking bookings row-sum column-sum sum least some-of word
+unfolding first-wrong entries apply Direct.start Direct.tick Pipelined.start Pipelined.tick book-words rate-words release-words release-rate-words headroom-refusal Preview.preview arrive-words into-frame booking bookings row-sum column-sum sum first-from some-of word port-word
 agrees-36 = refl
 
 pub headroom-36 : first-wrong-headroom list-36 ≡ 0
-unfolding first-wrong-headroom final headroom-result pair-headroom headroom-over apply Direct.start Direct.tick Pipelined.start Pipelined.tick book-words rate-words release-words release-rate-words headroom-refusal Preview.preview arrive-words into-frame booking bookings row-sum column-sum sum least some-of word
+unfolding first-wrong-headroom final headroom-result pair-headroom headroom-over apply Direct.start Direct.tick Pipelined.start Pipelined.tick book-words rate-words release-words release-rate-words headroom-refusal Preview.preview arrive-words into-frame booking bookings row-sum column-sum sum first-from some-of word port-word
 headroom-36 = refl
 
 pub preview-36 : first-wrong-preview list-36 ≡ 0
-unfolding first-wrong-preview final apply Direct.start Direct.tick Pipelined.start Pipelined.tick book-words rate-words release-words release-rate-words headroom-refusal Preview.preview arrive-words into-frame booking bookings row-sum column-sum sum least some-of word
+unfolding first-wrong-preview final apply Direct.start Direct.tick Pipelined.start Pipelined.tick book-words rate-words release-words release-rate-words headroom-refusal Preview.preview arrive-words into-frame booking bookings row-sum column-sum sum first-from some-of word port-word
 preview-36 = refl
 
 abbrev list-37 : Case
@@ -4962,6 +4998,7 @@ list-37 =
             book = book-of (2 ∷ 4 ∷ 3 ∷ 7 ∷ 103 ∷ 2 ∷ 2 ∷ 3 ∷ 102 ∷ []) (7 ∷ 1 ∷ 1 ∷ 1 ∷ 7 ∷ 1 ∷ 103 ∷ 2 ∷ 1 ∷ []);
             credits = 103 ∷ 102 ∷ 104 ∷ 103 ∷ 4 ∷ 2 ∷ 3 ∷ 2 ∷ 1 ∷ [];
             queues = 7 ∷ 4 ∷ 2 ∷ 7 ∷ 103 ∷ 104 ∷ 2 ∷ 2 ∷ 104 ∷ [];
+            given = 102 ∷ 4 ∷ 1 ∷ [];
             copy = 3 ∷ 2 ∷ 4 ∷ 104 ∷ 2 ∷ 1 ∷ 104 ∷ 102 ∷ 102 ∷ [];
             flight = 104 ∷ 4 ∷ 2 ∷ 104 ∷ 4 ∷ 2 ∷ 101 ∷ 4 ∷ 101 ∷ 101 ∷ 4 ∷ 4 ∷ 4 ∷ 2 ∷ 101 ∷ 102 ∷ 3 ∷ 101 ∷ [];
           };
@@ -5059,15 +5096,15 @@ list-37 =
     }
 
 pub agrees-37 : first-wrong list-37 ≡ 0
-unfolding first-wrong entries apply Direct.start Direct.tick Pipelined.start Pipelined.tick book-words rate-words release-words release-rate-words headroom-refusal Preview.preview arrive-words into-frame booking bookings row-sum column-sum sum least some-of word
+unfolding first-wrong entries apply Direct.start Direct.tick Pipelined.start Pipelined.tick book-words rate-words release-words release-rate-words headroom-refusal Preview.preview arrive-words into-frame booking bookings row-sum column-sum sum first-from some-of word port-word
 agrees-37 = refl
 
 pub headroom-37 : first-wrong-headroom list-37 ≡ 0
-unfolding first-wrong-headroom final headroom-result pair-headroom headroom-over apply Direct.start Direct.tick Pipelined.start Pipelined.tick book-words rate-words release-words release-rate-words headroom-refusal Preview.preview arrive-words into-frame booking bookings row-sum column-sum sum least some-of word
+unfolding first-wrong-headroom final headroom-result pair-headroom headroom-over apply Direct.start Direct.tick Pipelined.start Pipelined.tick book-words rate-words release-words release-rate-words headroom-refusal Preview.preview arrive-words into-frame booking bookings row-sum column-sum sum first-from some-of word port-word
 headroom-37 = refl
 
 pub preview-37 : first-wrong-preview list-37 ≡ 0
-unfolding first-wrong-preview final apply Direct.start Direct.tick Pipelined.start Pipelined.tick book-words rate-words release-words release-rate-words headroom-refusal Preview.preview arrive-words into-frame booking bookings row-sum column-sum sum least some-of word
+unfolding first-wrong-preview final apply Direct.start Direct.tick Pipelined.start Pipelined.tick book-words rate-words release-words release-rate-words headroom-refusal Preview.preview arrive-words into-frame booking bookings row-sum column-sum sum first-from some-of word port-word
 preview-37 = refl
 
 abbrev list-38 : Case
@@ -5079,6 +5116,7 @@ list-38 =
             book = book-of (2 ∷ 2 ∷ 103 ∷ 102 ∷ 2 ∷ 103 ∷ 101 ∷ 1 ∷ 2 ∷ []) (1 ∷ 2 ∷ 1 ∷ 1 ∷ 103 ∷ 102 ∷ 3 ∷ 102 ∷ 2 ∷ []);
             credits = 4 ∷ 4 ∷ 1 ∷ 1 ∷ 104 ∷ 4 ∷ 2 ∷ 4 ∷ 102 ∷ [];
             queues = 3 ∷ 4 ∷ 7 ∷ 4 ∷ 7 ∷ 103 ∷ 103 ∷ 2 ∷ 102 ∷ [];
+            given = 104 ∷ 1 ∷ 1 ∷ [];
             copy = 104 ∷ 101 ∷ 7 ∷ 1 ∷ 7 ∷ 103 ∷ 101 ∷ 4 ∷ 4 ∷ [];
             flight = 3 ∷ 4 ∷ 103 ∷ 102 ∷ 104 ∷ 2 ∷ 2 ∷ 1 ∷ 7 ∷ 3 ∷ 2 ∷ 104 ∷ 2 ∷ 1 ∷ 2 ∷ 2 ∷ 7 ∷ 3 ∷ [];
           };
@@ -5243,15 +5281,15 @@ list-38 =
     }
 
 pub agrees-38 : first-wrong list-38 ≡ 0
-unfolding first-wrong entries apply Direct.start Direct.tick Pipelined.start Pipelined.tick book-words rate-words release-words release-rate-words headroom-refusal Preview.preview arrive-words into-frame booking bookings row-sum column-sum sum least some-of word
+unfolding first-wrong entries apply Direct.start Direct.tick Pipelined.start Pipelined.tick book-words rate-words release-words release-rate-words headroom-refusal Preview.preview arrive-words into-frame booking bookings row-sum column-sum sum first-from some-of word port-word
 agrees-38 = refl
 
 pub headroom-38 : first-wrong-headroom list-38 ≡ 0
-unfolding first-wrong-headroom final headroom-result pair-headroom headroom-over apply Direct.start Direct.tick Pipelined.start Pipelined.tick book-words rate-words release-words release-rate-words headroom-refusal Preview.preview arrive-words into-frame booking bookings row-sum column-sum sum least some-of word
+unfolding first-wrong-headroom final headroom-result pair-headroom headroom-over apply Direct.start Direct.tick Pipelined.start Pipelined.tick book-words rate-words release-words release-rate-words headroom-refusal Preview.preview arrive-words into-frame booking bookings row-sum column-sum sum first-from some-of word port-word
 headroom-38 = refl
 
 pub preview-38 : first-wrong-preview list-38 ≡ 0
-unfolding first-wrong-preview final apply Direct.start Direct.tick Pipelined.start Pipelined.tick book-words rate-words release-words release-rate-words headroom-refusal Preview.preview arrive-words into-frame booking bookings row-sum column-sum sum least some-of word
+unfolding first-wrong-preview final apply Direct.start Direct.tick Pipelined.start Pipelined.tick book-words rate-words release-words release-rate-words headroom-refusal Preview.preview arrive-words into-frame booking bookings row-sum column-sum sum first-from some-of word port-word
 preview-38 = refl
 
 abbrev list-39 : Case
@@ -5263,6 +5301,7 @@ list-39 =
             book = book-of (2 ∷ 1 ∷ 2 ∷ 2 ∷ 103 ∷ 104 ∷ 1 ∷ 104 ∷ 7 ∷ []) (1 ∷ 2 ∷ 4 ∷ 102 ∷ 2 ∷ 102 ∷ 102 ∷ 2 ∷ 3 ∷ []);
             credits = 4 ∷ 104 ∷ 2 ∷ 2 ∷ 1 ∷ 3 ∷ 104 ∷ 103 ∷ 2 ∷ [];
             queues = 2 ∷ 3 ∷ 3 ∷ 1 ∷ 3 ∷ 102 ∷ 101 ∷ 101 ∷ 101 ∷ [];
+            given = 103 ∷ 101 ∷ 102 ∷ [];
             copy = 1 ∷ 104 ∷ 1 ∷ 2 ∷ 1 ∷ 2 ∷ 102 ∷ 1 ∷ 102 ∷ [];
             flight = 104 ∷ 4 ∷ 102 ∷ 1 ∷ 102 ∷ 103 ∷ 104 ∷ 102 ∷ 102 ∷ 104 ∷ 104 ∷ 3 ∷ 104 ∷ 104 ∷ 2 ∷ 1 ∷ 103 ∷ 4 ∷ [];
           };
@@ -5340,15 +5379,15 @@ list-39 =
     }
 
 pub agrees-39 : first-wrong list-39 ≡ 0
-unfolding first-wrong entries apply Direct.start Direct.tick Pipelined.start Pipelined.tick book-words rate-words release-words release-rate-words headroom-refusal Preview.preview arrive-words into-frame booking bookings row-sum column-sum sum least some-of word
+unfolding first-wrong entries apply Direct.start Direct.tick Pipelined.start Pipelined.tick book-words rate-words release-words release-rate-words headroom-refusal Preview.preview arrive-words into-frame booking bookings row-sum column-sum sum first-from some-of word port-word
 agrees-39 = refl
 
 pub headroom-39 : first-wrong-headroom list-39 ≡ 0
-unfolding first-wrong-headroom final headroom-result pair-headroom headroom-over apply Direct.start Direct.tick Pipelined.start Pipelined.tick book-words rate-words release-words release-rate-words headroom-refusal Preview.preview arrive-words into-frame booking bookings row-sum column-sum sum least some-of word
+unfolding first-wrong-headroom final headroom-result pair-headroom headroom-over apply Direct.start Direct.tick Pipelined.start Pipelined.tick book-words rate-words release-words release-rate-words headroom-refusal Preview.preview arrive-words into-frame booking bookings row-sum column-sum sum first-from some-of word port-word
 headroom-39 = refl
 
 pub preview-39 : first-wrong-preview list-39 ≡ 0
-unfolding first-wrong-preview final apply Direct.start Direct.tick Pipelined.start Pipelined.tick book-words rate-words release-words release-rate-words headroom-refusal Preview.preview arrive-words into-frame booking bookings row-sum column-sum sum least some-of word
+unfolding first-wrong-preview final apply Direct.start Direct.tick Pipelined.start Pipelined.tick book-words rate-words release-words release-rate-words headroom-refusal Preview.preview arrive-words into-frame booking bookings row-sum column-sum sum first-from some-of word port-word
 preview-39 = refl
 
 abbrev list-40 : Case
@@ -5360,6 +5399,7 @@ list-40 =
             book = book-of (1 ∷ 102 ∷ 2 ∷ 103 ∷ 7 ∷ 3 ∷ 4 ∷ 4 ∷ 2 ∷ []) (101 ∷ 103 ∷ 4 ∷ 101 ∷ 1 ∷ 102 ∷ 1 ∷ 4 ∷ 101 ∷ []);
             credits = 102 ∷ 3 ∷ 104 ∷ 2 ∷ 102 ∷ 104 ∷ 104 ∷ 102 ∷ 2 ∷ [];
             queues = 1 ∷ 3 ∷ 103 ∷ 1 ∷ 101 ∷ 1 ∷ 1 ∷ 1 ∷ 4 ∷ [];
+            given = 104 ∷ 2 ∷ 102 ∷ [];
             copy = 4 ∷ 7 ∷ 2 ∷ 103 ∷ 102 ∷ 2 ∷ 4 ∷ 4 ∷ 103 ∷ [];
             flight = 103 ∷ 1 ∷ 101 ∷ 104 ∷ 4 ∷ 1 ∷ 7 ∷ 103 ∷ 7 ∷ 3 ∷ 1 ∷ 2 ∷ 4 ∷ 2 ∷ 7 ∷ 103 ∷ 103 ∷ 104 ∷ [];
           };
@@ -5465,15 +5505,15 @@ list-40 =
     }
 
 pub agrees-40 : first-wrong list-40 ≡ 0
-unfolding first-wrong entries apply Direct.start Direct.tick Pipelined.start Pipelined.tick book-words rate-words release-words release-rate-words headroom-refusal Preview.preview arrive-words into-frame booking bookings row-sum column-sum sum least some-of word
+unfolding first-wrong entries apply Direct.start Direct.tick Pipelined.start Pipelined.tick book-words rate-words release-words release-rate-words headroom-refusal Preview.preview arrive-words into-frame booking bookings row-sum column-sum sum first-from some-of word port-word
 agrees-40 = refl
 
 pub headroom-40 : first-wrong-headroom list-40 ≡ 0
-unfolding first-wrong-headroom final headroom-result pair-headroom headroom-over apply Direct.start Direct.tick Pipelined.start Pipelined.tick book-words rate-words release-words release-rate-words headroom-refusal Preview.preview arrive-words into-frame booking bookings row-sum column-sum sum least some-of word
+unfolding first-wrong-headroom final headroom-result pair-headroom headroom-over apply Direct.start Direct.tick Pipelined.start Pipelined.tick book-words rate-words release-words release-rate-words headroom-refusal Preview.preview arrive-words into-frame booking bookings row-sum column-sum sum first-from some-of word port-word
 headroom-40 = refl
 
 pub preview-40 : first-wrong-preview list-40 ≡ 0
-unfolding first-wrong-preview final apply Direct.start Direct.tick Pipelined.start Pipelined.tick book-words rate-words release-words release-rate-words headroom-refusal Preview.preview arrive-words into-frame booking bookings row-sum column-sum sum least some-of word
+unfolding first-wrong-preview final apply Direct.start Direct.tick Pipelined.start Pipelined.tick book-words rate-words release-words release-rate-words headroom-refusal Preview.preview arrive-words into-frame booking bookings row-sum column-sum sum first-from some-of word port-word
 preview-40 = refl
 
 abbrev list-41 : Case
@@ -5485,6 +5525,7 @@ list-41 =
             book = book-of (2 ∷ 7 ∷ 3 ∷ 104 ∷ 1 ∷ 3 ∷ 104 ∷ 3 ∷ 4 ∷ []) (2 ∷ 103 ∷ 3 ∷ 1 ∷ 2 ∷ 103 ∷ 3 ∷ 101 ∷ 4 ∷ []);
             credits = 1 ∷ 101 ∷ 102 ∷ 101 ∷ 4 ∷ 104 ∷ 1 ∷ 2 ∷ 1 ∷ [];
             queues = 1 ∷ 102 ∷ 4 ∷ 2 ∷ 7 ∷ 3 ∷ 103 ∷ 102 ∷ 102 ∷ [];
+            given = 3 ∷ 101 ∷ 104 ∷ [];
             copy = 102 ∷ 7 ∷ 3 ∷ 2 ∷ 1 ∷ 101 ∷ 1 ∷ 1 ∷ 4 ∷ [];
             flight = 7 ∷ 2 ∷ 102 ∷ 104 ∷ 1 ∷ 7 ∷ 102 ∷ 1 ∷ 102 ∷ 102 ∷ 7 ∷ 1 ∷ 7 ∷ 2 ∷ 4 ∷ 102 ∷ 3 ∷ 101 ∷ [];
           };
@@ -5560,8 +5601,8 @@ list-41 =
           ∷ claim 2 1 1 0 0 0 0
           ∷ claim 2 1 5 0 0 2 0
           ∷ claim 2 1 9 0 1 4 0
-          ∷ claim 2 1 13 0 1 1 0
-          ∷ claim 2 1 17 0 0 0 0
+          ∷ claim 2 1 13 0 1 4 0
+          ∷ claim 2 1 17 0 0 1 0
           ∷ claim 2 2 1 0 0 0 0
           ∷ claim 2 2 5 0 0 1 0
           ∷ claim 2 2 9 1 1 4 1
@@ -5616,15 +5657,15 @@ list-41 =
     }
 
 pub agrees-41 : first-wrong list-41 ≡ 0
-unfolding first-wrong entries apply Direct.start Direct.tick Pipelined.start Pipelined.tick book-words rate-words release-words release-rate-words headroom-refusal Preview.preview arrive-words into-frame booking bookings row-sum column-sum sum least some-of word
+unfolding first-wrong entries apply Direct.start Direct.tick Pipelined.start Pipelined.tick book-words rate-words release-words release-rate-words headroom-refusal Preview.preview arrive-words into-frame booking bookings row-sum column-sum sum first-from some-of word port-word
 agrees-41 = refl
 
 pub headroom-41 : first-wrong-headroom list-41 ≡ 0
-unfolding first-wrong-headroom final headroom-result pair-headroom headroom-over apply Direct.start Direct.tick Pipelined.start Pipelined.tick book-words rate-words release-words release-rate-words headroom-refusal Preview.preview arrive-words into-frame booking bookings row-sum column-sum sum least some-of word
+unfolding first-wrong-headroom final headroom-result pair-headroom headroom-over apply Direct.start Direct.tick Pipelined.start Pipelined.tick book-words rate-words release-words release-rate-words headroom-refusal Preview.preview arrive-words into-frame booking bookings row-sum column-sum sum first-from some-of word port-word
 headroom-41 = refl
 
 pub preview-41 : first-wrong-preview list-41 ≡ 0
-unfolding first-wrong-preview final apply Direct.start Direct.tick Pipelined.start Pipelined.tick book-words rate-words release-words release-rate-words headroom-refusal Preview.preview arrive-words into-frame booking bookings row-sum column-sum sum least some-of word
+unfolding first-wrong-preview final apply Direct.start Direct.tick Pipelined.start Pipelined.tick book-words rate-words release-words release-rate-words headroom-refusal Preview.preview arrive-words into-frame booking bookings row-sum column-sum sum first-from some-of word port-word
 preview-41 = refl
 
 abbrev list-42 : Case
@@ -5636,6 +5677,7 @@ list-42 =
             book = book-of (2 ∷ 103 ∷ 101 ∷ 2 ∷ 104 ∷ 104 ∷ 2 ∷ 3 ∷ 102 ∷ []) (3 ∷ 104 ∷ 4 ∷ 1 ∷ 103 ∷ 3 ∷ 2 ∷ 101 ∷ 7 ∷ []);
             credits = 3 ∷ 102 ∷ 2 ∷ 4 ∷ 1 ∷ 104 ∷ 104 ∷ 104 ∷ 1 ∷ [];
             queues = 3 ∷ 1 ∷ 3 ∷ 102 ∷ 2 ∷ 102 ∷ 104 ∷ 101 ∷ 102 ∷ [];
+            given = 2 ∷ 102 ∷ 3 ∷ [];
             copy = 102 ∷ 2 ∷ 1 ∷ 2 ∷ 101 ∷ 101 ∷ 103 ∷ 7 ∷ 3 ∷ [];
             flight = 7 ∷ 7 ∷ 7 ∷ 102 ∷ 102 ∷ 102 ∷ 7 ∷ 7 ∷ 103 ∷ 104 ∷ 101 ∷ 101 ∷ 1 ∷ 4 ∷ 3 ∷ 103 ∷ 2 ∷ 102 ∷ [];
           };
@@ -5711,15 +5753,15 @@ list-42 =
     }
 
 pub agrees-42 : first-wrong list-42 ≡ 0
-unfolding first-wrong entries apply Direct.start Direct.tick Pipelined.start Pipelined.tick book-words rate-words release-words release-rate-words headroom-refusal Preview.preview arrive-words into-frame booking bookings row-sum column-sum sum least some-of word
+unfolding first-wrong entries apply Direct.start Direct.tick Pipelined.start Pipelined.tick book-words rate-words release-words release-rate-words headroom-refusal Preview.preview arrive-words into-frame booking bookings row-sum column-sum sum first-from some-of word port-word
 agrees-42 = refl
 
 pub headroom-42 : first-wrong-headroom list-42 ≡ 0
-unfolding first-wrong-headroom final headroom-result pair-headroom headroom-over apply Direct.start Direct.tick Pipelined.start Pipelined.tick book-words rate-words release-words release-rate-words headroom-refusal Preview.preview arrive-words into-frame booking bookings row-sum column-sum sum least some-of word
+unfolding first-wrong-headroom final headroom-result pair-headroom headroom-over apply Direct.start Direct.tick Pipelined.start Pipelined.tick book-words rate-words release-words release-rate-words headroom-refusal Preview.preview arrive-words into-frame booking bookings row-sum column-sum sum first-from some-of word port-word
 headroom-42 = refl
 
 pub preview-42 : first-wrong-preview list-42 ≡ 0
-unfolding first-wrong-preview final apply Direct.start Direct.tick Pipelined.start Pipelined.tick book-words rate-words release-words release-rate-words headroom-refusal Preview.preview arrive-words into-frame booking bookings row-sum column-sum sum least some-of word
+unfolding first-wrong-preview final apply Direct.start Direct.tick Pipelined.start Pipelined.tick book-words rate-words release-words release-rate-words headroom-refusal Preview.preview arrive-words into-frame booking bookings row-sum column-sum sum first-from some-of word port-word
 preview-42 = refl
 
 abbrev list-43 : Case
@@ -5731,6 +5773,7 @@ list-43 =
             book = book-of (4 ∷ 1 ∷ 2 ∷ 103 ∷ 1 ∷ 4 ∷ 1 ∷ 4 ∷ 103 ∷ []) (3 ∷ 3 ∷ 4 ∷ 2 ∷ 102 ∷ 1 ∷ 102 ∷ 101 ∷ 4 ∷ []);
             credits = 1 ∷ 104 ∷ 104 ∷ 102 ∷ 7 ∷ 1 ∷ 101 ∷ 104 ∷ 3 ∷ [];
             queues = 102 ∷ 102 ∷ 101 ∷ 1 ∷ 103 ∷ 1 ∷ 7 ∷ 103 ∷ 3 ∷ [];
+            given = 4 ∷ 102 ∷ 4 ∷ [];
             copy = 1 ∷ 103 ∷ 4 ∷ 3 ∷ 3 ∷ 103 ∷ 101 ∷ 3 ∷ 4 ∷ [];
             flight = 7 ∷ 102 ∷ 1 ∷ 7 ∷ 102 ∷ 103 ∷ 102 ∷ 103 ∷ 3 ∷ 102 ∷ 2 ∷ 2 ∷ 4 ∷ 2 ∷ 4 ∷ 2 ∷ 104 ∷ 4 ∷ [];
           };
@@ -5804,24 +5847,24 @@ list-43 =
           ∷ [];
       expected =
           claim 1 1 1 0 0 1 0
-          ∷ claim 1 1 8 0 2 2 0
+          ∷ claim 1 1 8 0 2 7 0
           ∷ claim 1 1 15 0 2 0 0
           ∷ claim 1 1 22 0 1 2 0
           ∷ claim 1 2 1 0 0 1 0
           ∷ claim 1 2 8 1 3 7 1
-          ∷ claim 1 2 15 1 2 0 0
+          ∷ claim 1 2 15 1 2 1 1
           ∷ claim 1 2 22 1 0 0 0
           ∷ claim 1 3 1 0 0 1 0
           ∷ claim 1 3 8 1 4 7 1
           ∷ claim 1 3 15 1 3 7 1
-          ∷ claim 1 3 22 0 3 1 0
+          ∷ claim 1 3 22 0 3 0 0
           ∷ claim 2 1 1 0 0 1 0
           ∷ claim 2 1 8 0 1 7 0
-          ∷ claim 2 1 15 0 0 4 0
+          ∷ claim 2 1 15 0 0 6 0
           ∷ claim 2 1 22 0 0 0 0
           ∷ claim 2 2 1 0 0 1 0
           ∷ claim 2 2 8 0 4 7 0
-          ∷ claim 2 2 15 0 2 5 0
+          ∷ claim 2 2 15 0 2 2 0
           ∷ claim 2 2 22 0 1 0 0
           ∷ claim 2 3 1 0 0 1 0
           ∷ claim 2 3 8 1 3 7 1
@@ -5830,7 +5873,7 @@ list-43 =
           ∷ claim 3 1 1 0 0 1 0
           ∷ claim 3 1 8 0 4 7 0
           ∷ claim 3 1 15 0 3 7 0
-          ∷ claim 3 1 22 0 2 3 0
+          ∷ claim 3 1 22 0 2 0 0
           ∷ claim 3 2 1 0 0 1 0
           ∷ claim 3 2 8 2 3 7 2
           ∷ claim 3 2 15 1 3 3 1
@@ -5838,7 +5881,7 @@ list-43 =
           ∷ claim 3 3 1 0 0 1 0
           ∷ claim 3 3 8 2 4 7 2
           ∷ claim 3 3 15 2 2 7 2
-          ∷ claim 3 3 22 2 0 2 2
+          ∷ claim 3 3 22 2 0 3 2
           ∷ [];
       headrooms =
           told 1 1 0 (pos 6)
@@ -5868,15 +5911,15 @@ list-43 =
     }
 
 pub agrees-43 : first-wrong list-43 ≡ 0
-unfolding first-wrong entries apply Direct.start Direct.tick Pipelined.start Pipelined.tick book-words rate-words release-words release-rate-words headroom-refusal Preview.preview arrive-words into-frame booking bookings row-sum column-sum sum least some-of word
+unfolding first-wrong entries apply Direct.start Direct.tick Pipelined.start Pipelined.tick book-words rate-words release-words release-rate-words headroom-refusal Preview.preview arrive-words into-frame booking bookings row-sum column-sum sum first-from some-of word port-word
 agrees-43 = refl
 
 pub headroom-43 : first-wrong-headroom list-43 ≡ 0
-unfolding first-wrong-headroom final headroom-result pair-headroom headroom-over apply Direct.start Direct.tick Pipelined.start Pipelined.tick book-words rate-words release-words release-rate-words headroom-refusal Preview.preview arrive-words into-frame booking bookings row-sum column-sum sum least some-of word
+unfolding first-wrong-headroom final headroom-result pair-headroom headroom-over apply Direct.start Direct.tick Pipelined.start Pipelined.tick book-words rate-words release-words release-rate-words headroom-refusal Preview.preview arrive-words into-frame booking bookings row-sum column-sum sum first-from some-of word port-word
 headroom-43 = refl
 
 pub preview-43 : first-wrong-preview list-43 ≡ 0
-unfolding first-wrong-preview final apply Direct.start Direct.tick Pipelined.start Pipelined.tick book-words rate-words release-words release-rate-words headroom-refusal Preview.preview arrive-words into-frame booking bookings row-sum column-sum sum least some-of word
+unfolding first-wrong-preview final apply Direct.start Direct.tick Pipelined.start Pipelined.tick book-words rate-words release-words release-rate-words headroom-refusal Preview.preview arrive-words into-frame booking bookings row-sum column-sum sum first-from some-of word port-word
 preview-43 = refl
 
 abbrev list-44 : Case
@@ -5888,6 +5931,7 @@ list-44 =
             book = book-of (2 ∷ 1 ∷ 3 ∷ 102 ∷ 4 ∷ 101 ∷ 1 ∷ 1 ∷ 2 ∷ []) (3 ∷ 1 ∷ 3 ∷ 2 ∷ 104 ∷ 102 ∷ 3 ∷ 4 ∷ 2 ∷ []);
             credits = 103 ∷ 4 ∷ 102 ∷ 102 ∷ 4 ∷ 1 ∷ 7 ∷ 103 ∷ 2 ∷ [];
             queues = 104 ∷ 101 ∷ 2 ∷ 101 ∷ 101 ∷ 103 ∷ 103 ∷ 2 ∷ 4 ∷ [];
+            given = 7 ∷ 2 ∷ 7 ∷ [];
             copy = 1 ∷ 104 ∷ 1 ∷ 101 ∷ 2 ∷ 4 ∷ 7 ∷ 102 ∷ 104 ∷ [];
             flight = 101 ∷ 1 ∷ 2 ∷ 101 ∷ 7 ∷ 104 ∷ 101 ∷ 2 ∷ 104 ∷ 4 ∷ 2 ∷ 102 ∷ 103 ∷ 104 ∷ 3 ∷ 7 ∷ 1 ∷ 2 ∷ [];
           };
@@ -5984,7 +6028,7 @@ list-44 =
           ∷ claim 1 3 8 0 2 0 0
           ∷ claim 1 3 15 0 2 0 0
           ∷ claim 1 3 22 0 2 0 0
-          ∷ claim 2 1 1 1 2 6 1
+          ∷ claim 2 1 1 1 2 7 1
           ∷ claim 2 1 8 2 2 0 0
           ∷ claim 2 1 15 1 3 0 0
           ∷ claim 2 1 22 1 3 0 0
@@ -5999,7 +6043,7 @@ list-44 =
           ∷ claim 3 1 1 0 3 0 0
           ∷ claim 3 1 8 0 2 0 0
           ∷ claim 3 1 15 0 3 4 0
-          ∷ claim 3 1 22 0 3 0 0
+          ∷ claim 3 1 22 0 3 3 0
           ∷ claim 3 2 1 0 6 7 0
           ∷ claim 3 2 8 0 4 7 0
           ∷ claim 3 2 15 0 3 7 0
@@ -6037,15 +6081,15 @@ list-44 =
     }
 
 pub agrees-44 : first-wrong list-44 ≡ 0
-unfolding first-wrong entries apply Direct.start Direct.tick Pipelined.start Pipelined.tick book-words rate-words release-words release-rate-words headroom-refusal Preview.preview arrive-words into-frame booking bookings row-sum column-sum sum least some-of word
+unfolding first-wrong entries apply Direct.start Direct.tick Pipelined.start Pipelined.tick book-words rate-words release-words release-rate-words headroom-refusal Preview.preview arrive-words into-frame booking bookings row-sum column-sum sum first-from some-of word port-word
 agrees-44 = refl
 
 pub headroom-44 : first-wrong-headroom list-44 ≡ 0
-unfolding first-wrong-headroom final headroom-result pair-headroom headroom-over apply Direct.start Direct.tick Pipelined.start Pipelined.tick book-words rate-words release-words release-rate-words headroom-refusal Preview.preview arrive-words into-frame booking bookings row-sum column-sum sum least some-of word
+unfolding first-wrong-headroom final headroom-result pair-headroom headroom-over apply Direct.start Direct.tick Pipelined.start Pipelined.tick book-words rate-words release-words release-rate-words headroom-refusal Preview.preview arrive-words into-frame booking bookings row-sum column-sum sum first-from some-of word port-word
 headroom-44 = refl
 
 pub preview-44 : first-wrong-preview list-44 ≡ 0
-unfolding first-wrong-preview final apply Direct.start Direct.tick Pipelined.start Pipelined.tick book-words rate-words release-words release-rate-words headroom-refusal Preview.preview arrive-words into-frame booking bookings row-sum column-sum sum least some-of word
+unfolding first-wrong-preview final apply Direct.start Direct.tick Pipelined.start Pipelined.tick book-words rate-words release-words release-rate-words headroom-refusal Preview.preview arrive-words into-frame booking bookings row-sum column-sum sum first-from some-of word port-word
 preview-44 = refl
 
 abbrev list-45 : Case
@@ -6057,6 +6101,7 @@ list-45 =
             book = book-of (1 ∷ 4 ∷ 102 ∷ 104 ∷ 104 ∷ 101 ∷ 103 ∷ 3 ∷ 2 ∷ []) (103 ∷ 7 ∷ 2 ∷ 3 ∷ 101 ∷ 2 ∷ 102 ∷ 1 ∷ 7 ∷ []);
             credits = 3 ∷ 1 ∷ 7 ∷ 104 ∷ 103 ∷ 7 ∷ 2 ∷ 101 ∷ 2 ∷ [];
             queues = 102 ∷ 104 ∷ 2 ∷ 1 ∷ 2 ∷ 7 ∷ 7 ∷ 3 ∷ 7 ∷ [];
+            given = 103 ∷ 1 ∷ 4 ∷ [];
             copy = 103 ∷ 1 ∷ 1 ∷ 102 ∷ 101 ∷ 3 ∷ 2 ∷ 7 ∷ 101 ∷ [];
             flight = 1 ∷ 104 ∷ 104 ∷ 102 ∷ 7 ∷ 103 ∷ 7 ∷ 2 ∷ 1 ∷ 7 ∷ 102 ∷ 103 ∷ 104 ∷ 101 ∷ 1 ∷ 104 ∷ 104 ∷ 1 ∷ [];
           };
@@ -6212,15 +6257,15 @@ list-45 =
     }
 
 pub agrees-45 : first-wrong list-45 ≡ 0
-unfolding first-wrong entries apply Direct.start Direct.tick Pipelined.start Pipelined.tick book-words rate-words release-words release-rate-words headroom-refusal Preview.preview arrive-words into-frame booking bookings row-sum column-sum sum least some-of word
+unfolding first-wrong entries apply Direct.start Direct.tick Pipelined.start Pipelined.tick book-words rate-words release-words release-rate-words headroom-refusal Preview.preview arrive-words into-frame booking bookings row-sum column-sum sum first-from some-of word port-word
 agrees-45 = refl
 
 pub headroom-45 : first-wrong-headroom list-45 ≡ 0
-unfolding first-wrong-headroom final headroom-result pair-headroom headroom-over apply Direct.start Direct.tick Pipelined.start Pipelined.tick book-words rate-words release-words release-rate-words headroom-refusal Preview.preview arrive-words into-frame booking bookings row-sum column-sum sum least some-of word
+unfolding first-wrong-headroom final headroom-result pair-headroom headroom-over apply Direct.start Direct.tick Pipelined.start Pipelined.tick book-words rate-words release-words release-rate-words headroom-refusal Preview.preview arrive-words into-frame booking bookings row-sum column-sum sum first-from some-of word port-word
 headroom-45 = refl
 
 pub preview-45 : first-wrong-preview list-45 ≡ 0
-unfolding first-wrong-preview final apply Direct.start Direct.tick Pipelined.start Pipelined.tick book-words rate-words release-words release-rate-words headroom-refusal Preview.preview arrive-words into-frame booking bookings row-sum column-sum sum least some-of word
+unfolding first-wrong-preview final apply Direct.start Direct.tick Pipelined.start Pipelined.tick book-words rate-words release-words release-rate-words headroom-refusal Preview.preview arrive-words into-frame booking bookings row-sum column-sum sum first-from some-of word port-word
 preview-45 = refl
 
 abbrev list-46 : Case
@@ -6232,6 +6277,7 @@ list-46 =
             book = book-of (104 ∷ 103 ∷ 3 ∷ 102 ∷ 1 ∷ 1 ∷ 2 ∷ 104 ∷ 104 ∷ []) (3 ∷ 102 ∷ 101 ∷ 4 ∷ 2 ∷ 4 ∷ 102 ∷ 7 ∷ 103 ∷ []);
             credits = 2 ∷ 1 ∷ 102 ∷ 103 ∷ 7 ∷ 1 ∷ 3 ∷ 4 ∷ 1 ∷ [];
             queues = 1 ∷ 102 ∷ 4 ∷ 103 ∷ 104 ∷ 3 ∷ 2 ∷ 2 ∷ 2 ∷ [];
+            given = 7 ∷ 2 ∷ 103 ∷ [];
             copy = 7 ∷ 1 ∷ 104 ∷ 2 ∷ 101 ∷ 103 ∷ 1 ∷ 2 ∷ 102 ∷ [];
             flight = 104 ∷ 1 ∷ 102 ∷ 2 ∷ 101 ∷ 103 ∷ 2 ∷ 3 ∷ 102 ∷ 102 ∷ 2 ∷ 2 ∷ 4 ∷ 7 ∷ 1 ∷ 101 ∷ 101 ∷ 3 ∷ [];
           };
@@ -6323,15 +6369,15 @@ list-46 =
     }
 
 pub agrees-46 : first-wrong list-46 ≡ 0
-unfolding first-wrong entries apply Direct.start Direct.tick Pipelined.start Pipelined.tick book-words rate-words release-words release-rate-words headroom-refusal Preview.preview arrive-words into-frame booking bookings row-sum column-sum sum least some-of word
+unfolding first-wrong entries apply Direct.start Direct.tick Pipelined.start Pipelined.tick book-words rate-words release-words release-rate-words headroom-refusal Preview.preview arrive-words into-frame booking bookings row-sum column-sum sum first-from some-of word port-word
 agrees-46 = refl
 
 pub headroom-46 : first-wrong-headroom list-46 ≡ 0
-unfolding first-wrong-headroom final headroom-result pair-headroom headroom-over apply Direct.start Direct.tick Pipelined.start Pipelined.tick book-words rate-words release-words release-rate-words headroom-refusal Preview.preview arrive-words into-frame booking bookings row-sum column-sum sum least some-of word
+unfolding first-wrong-headroom final headroom-result pair-headroom headroom-over apply Direct.start Direct.tick Pipelined.start Pipelined.tick book-words rate-words release-words release-rate-words headroom-refusal Preview.preview arrive-words into-frame booking bookings row-sum column-sum sum first-from some-of word port-word
 headroom-46 = refl
 
 pub preview-46 : first-wrong-preview list-46 ≡ 0
-unfolding first-wrong-preview final apply Direct.start Direct.tick Pipelined.start Pipelined.tick book-words rate-words release-words release-rate-words headroom-refusal Preview.preview arrive-words into-frame booking bookings row-sum column-sum sum least some-of word
+unfolding first-wrong-preview final apply Direct.start Direct.tick Pipelined.start Pipelined.tick book-words rate-words release-words release-rate-words headroom-refusal Preview.preview arrive-words into-frame booking bookings row-sum column-sum sum first-from some-of word port-word
 preview-46 = refl
 
 abbrev list-47 : Case
@@ -6343,6 +6389,7 @@ list-47 =
             book = book-of (102 ∷ 7 ∷ 1 ∷ 104 ∷ 7 ∷ 103 ∷ 2 ∷ 7 ∷ 102 ∷ []) (2 ∷ 3 ∷ 103 ∷ 104 ∷ 3 ∷ 2 ∷ 101 ∷ 3 ∷ 104 ∷ []);
             credits = 2 ∷ 103 ∷ 104 ∷ 4 ∷ 101 ∷ 104 ∷ 101 ∷ 1 ∷ 104 ∷ [];
             queues = 7 ∷ 103 ∷ 2 ∷ 3 ∷ 2 ∷ 104 ∷ 103 ∷ 102 ∷ 104 ∷ [];
+            given = 2 ∷ 1 ∷ 2 ∷ [];
             copy = 1 ∷ 3 ∷ 1 ∷ 7 ∷ 104 ∷ 1 ∷ 101 ∷ 7 ∷ 102 ∷ [];
             flight = 2 ∷ 102 ∷ 102 ∷ 104 ∷ 4 ∷ 2 ∷ 104 ∷ 1 ∷ 102 ∷ 1 ∷ 103 ∷ 102 ∷ 2 ∷ 102 ∷ 1 ∷ 104 ∷ 2 ∷ 1 ∷ [];
           };
@@ -6506,15 +6553,15 @@ list-47 =
     }
 
 pub agrees-47 : first-wrong list-47 ≡ 0
-unfolding first-wrong entries apply Direct.start Direct.tick Pipelined.start Pipelined.tick book-words rate-words release-words release-rate-words headroom-refusal Preview.preview arrive-words into-frame booking bookings row-sum column-sum sum least some-of word
+unfolding first-wrong entries apply Direct.start Direct.tick Pipelined.start Pipelined.tick book-words rate-words release-words release-rate-words headroom-refusal Preview.preview arrive-words into-frame booking bookings row-sum column-sum sum first-from some-of word port-word
 agrees-47 = refl
 
 pub headroom-47 : first-wrong-headroom list-47 ≡ 0
-unfolding first-wrong-headroom final headroom-result pair-headroom headroom-over apply Direct.start Direct.tick Pipelined.start Pipelined.tick book-words rate-words release-words release-rate-words headroom-refusal Preview.preview arrive-words into-frame booking bookings row-sum column-sum sum least some-of word
+unfolding first-wrong-headroom final headroom-result pair-headroom headroom-over apply Direct.start Direct.tick Pipelined.start Pipelined.tick book-words rate-words release-words release-rate-words headroom-refusal Preview.preview arrive-words into-frame booking bookings row-sum column-sum sum first-from some-of word port-word
 headroom-47 = refl
 
 pub preview-47 : first-wrong-preview list-47 ≡ 0
-unfolding first-wrong-preview final apply Direct.start Direct.tick Pipelined.start Pipelined.tick book-words rate-words release-words release-rate-words headroom-refusal Preview.preview arrive-words into-frame booking bookings row-sum column-sum sum least some-of word
+unfolding first-wrong-preview final apply Direct.start Direct.tick Pipelined.start Pipelined.tick book-words rate-words release-words release-rate-words headroom-refusal Preview.preview arrive-words into-frame booking bookings row-sum column-sum sum first-from some-of word port-word
 preview-47 = refl
 
 abbrev list-48 : Case
@@ -6526,6 +6573,7 @@ list-48 =
             book = book-of (7 ∷ 2 ∷ 102 ∷ 1 ∷ 3 ∷ 101 ∷ 101 ∷ 1 ∷ 101 ∷ []) (2 ∷ 102 ∷ 1 ∷ 1 ∷ 1 ∷ 1 ∷ 104 ∷ 2 ∷ 2 ∷ []);
             credits = 4 ∷ 4 ∷ 101 ∷ 4 ∷ 7 ∷ 1 ∷ 103 ∷ 1 ∷ 4 ∷ [];
             queues = 4 ∷ 1 ∷ 102 ∷ 1 ∷ 103 ∷ 2 ∷ 103 ∷ 1 ∷ 3 ∷ [];
+            given = 103 ∷ 3 ∷ 104 ∷ [];
             copy = 7 ∷ 104 ∷ 102 ∷ 4 ∷ 104 ∷ 2 ∷ 1 ∷ 3 ∷ 104 ∷ [];
             flight = 101 ∷ 1 ∷ 1 ∷ 4 ∷ 1 ∷ 3 ∷ 1 ∷ 101 ∷ 4 ∷ 104 ∷ 7 ∷ 4 ∷ 3 ∷ 102 ∷ 101 ∷ 1 ∷ 4 ∷ 103 ∷ [];
           };
@@ -6620,23 +6668,23 @@ list-48 =
           ∷ claim 1 3 7 0 1 0 0
           ∷ claim 1 3 13 0 2 0 0
           ∷ claim 2 1 1 0 0 6 0
-          ∷ claim 2 1 7 0 2 3 0
-          ∷ claim 2 1 13 0 2 0 0
+          ∷ claim 2 1 7 0 2 6 0
+          ∷ claim 2 1 13 0 2 5 0
           ∷ claim 2 2 1 0 0 6 0
           ∷ claim 2 2 7 0 0 6 0
           ∷ claim 2 2 13 0 0 5 0
           ∷ claim 2 3 1 0 0 6 0
           ∷ claim 2 3 7 0 0 6 0
-          ∷ claim 2 3 13 0 0 5 0
+          ∷ claim 2 3 13 0 0 3 0
           ∷ claim 3 1 1 0 0 5 0
-          ∷ claim 3 1 7 1 1 5 1
+          ∷ claim 3 1 7 1 1 0 0
           ∷ claim 3 1 13 0 2 0 0
           ∷ claim 3 2 1 0 0 6 0
           ∷ claim 3 2 7 0 1 6 0
           ∷ claim 3 2 13 0 0 5 0
-          ∷ claim 3 3 1 0 0 4 0
-          ∷ claim 3 3 7 0 1 3 0
-          ∷ claim 3 3 13 0 0 1 0
+          ∷ claim 3 3 1 0 0 6 0
+          ∷ claim 3 3 7 0 1 4 0
+          ∷ claim 3 3 13 0 0 0 0
           ∷ [];
       headrooms =
           told 1 1 0 (pos 4)
@@ -6666,15 +6714,15 @@ list-48 =
     }
 
 pub agrees-48 : first-wrong list-48 ≡ 0
-unfolding first-wrong entries apply Direct.start Direct.tick Pipelined.start Pipelined.tick book-words rate-words release-words release-rate-words headroom-refusal Preview.preview arrive-words into-frame booking bookings row-sum column-sum sum least some-of word
+unfolding first-wrong entries apply Direct.start Direct.tick Pipelined.start Pipelined.tick book-words rate-words release-words release-rate-words headroom-refusal Preview.preview arrive-words into-frame booking bookings row-sum column-sum sum first-from some-of word port-word
 agrees-48 = refl
 
 pub headroom-48 : first-wrong-headroom list-48 ≡ 0
-unfolding first-wrong-headroom final headroom-result pair-headroom headroom-over apply Direct.start Direct.tick Pipelined.start Pipelined.tick book-words rate-words release-words release-rate-words headroom-refusal Preview.preview arrive-words into-frame booking bookings row-sum column-sum sum least some-of word
+unfolding first-wrong-headroom final headroom-result pair-headroom headroom-over apply Direct.start Direct.tick Pipelined.start Pipelined.tick book-words rate-words release-words release-rate-words headroom-refusal Preview.preview arrive-words into-frame booking bookings row-sum column-sum sum first-from some-of word port-word
 headroom-48 = refl
 
 pub preview-48 : first-wrong-preview list-48 ≡ 0
-unfolding first-wrong-preview final apply Direct.start Direct.tick Pipelined.start Pipelined.tick book-words rate-words release-words release-rate-words headroom-refusal Preview.preview arrive-words into-frame booking bookings row-sum column-sum sum least some-of word
+unfolding first-wrong-preview final apply Direct.start Direct.tick Pipelined.start Pipelined.tick book-words rate-words release-words release-rate-words headroom-refusal Preview.preview arrive-words into-frame booking bookings row-sum column-sum sum first-from some-of word port-word
 preview-48 = refl
 
 abbrev list-49 : Case
@@ -6686,6 +6734,7 @@ list-49 =
             book = book-of (101 ∷ 102 ∷ 102 ∷ 101 ∷ 103 ∷ 103 ∷ 103 ∷ 102 ∷ 3 ∷ []) (101 ∷ 1 ∷ 1 ∷ 2 ∷ 103 ∷ 104 ∷ 2 ∷ 2 ∷ 104 ∷ []);
             credits = 102 ∷ 101 ∷ 1 ∷ 2 ∷ 103 ∷ 1 ∷ 103 ∷ 101 ∷ 2 ∷ [];
             queues = 1 ∷ 1 ∷ 1 ∷ 1 ∷ 2 ∷ 3 ∷ 2 ∷ 101 ∷ 1 ∷ [];
+            given = 4 ∷ 101 ∷ 1 ∷ [];
             copy = 104 ∷ 7 ∷ 2 ∷ 1 ∷ 101 ∷ 2 ∷ 104 ∷ 1 ∷ 4 ∷ [];
             flight = 4 ∷ 101 ∷ 101 ∷ 1 ∷ 4 ∷ 101 ∷ 1 ∷ 1 ∷ 4 ∷ 104 ∷ 1 ∷ 102 ∷ 104 ∷ 101 ∷ 2 ∷ 1 ∷ 2 ∷ 1 ∷ [];
           };
@@ -6759,15 +6808,15 @@ list-49 =
     }
 
 pub agrees-49 : first-wrong list-49 ≡ 0
-unfolding first-wrong entries apply Direct.start Direct.tick Pipelined.start Pipelined.tick book-words rate-words release-words release-rate-words headroom-refusal Preview.preview arrive-words into-frame booking bookings row-sum column-sum sum least some-of word
+unfolding first-wrong entries apply Direct.start Direct.tick Pipelined.start Pipelined.tick book-words rate-words release-words release-rate-words headroom-refusal Preview.preview arrive-words into-frame booking bookings row-sum column-sum sum first-from some-of word port-word
 agrees-49 = refl
 
 pub headroom-49 : first-wrong-headroom list-49 ≡ 0
-unfolding first-wrong-headroom final headroom-result pair-headroom headroom-over apply Direct.start Direct.tick Pipelined.start Pipelined.tick book-words rate-words release-words release-rate-words headroom-refusal Preview.preview arrive-words into-frame booking bookings row-sum column-sum sum least some-of word
+unfolding first-wrong-headroom final headroom-result pair-headroom headroom-over apply Direct.start Direct.tick Pipelined.start Pipelined.tick book-words rate-words release-words release-rate-words headroom-refusal Preview.preview arrive-words into-frame booking bookings row-sum column-sum sum first-from some-of word port-word
 headroom-49 = refl
 
 pub preview-49 : first-wrong-preview list-49 ≡ 0
-unfolding first-wrong-preview final apply Direct.start Direct.tick Pipelined.start Pipelined.tick book-words rate-words release-words release-rate-words headroom-refusal Preview.preview arrive-words into-frame booking bookings row-sum column-sum sum least some-of word
+unfolding first-wrong-preview final apply Direct.start Direct.tick Pipelined.start Pipelined.tick book-words rate-words release-words release-rate-words headroom-refusal Preview.preview arrive-words into-frame booking bookings row-sum column-sum sum first-from some-of word port-word
 preview-49 = refl
 
 abbrev list-50 : Case
@@ -6779,6 +6828,7 @@ list-50 =
             book = book-of (1 ∷ 1 ∷ 4 ∷ 1 ∷ 2 ∷ 3 ∷ 4 ∷ 103 ∷ 103 ∷ []) (101 ∷ 2 ∷ 3 ∷ 2 ∷ 2 ∷ 2 ∷ 102 ∷ 1 ∷ 1 ∷ []);
             credits = 1 ∷ 3 ∷ 3 ∷ 2 ∷ 104 ∷ 2 ∷ 1 ∷ 2 ∷ 7 ∷ [];
             queues = 2 ∷ 1 ∷ 4 ∷ 102 ∷ 1 ∷ 2 ∷ 2 ∷ 7 ∷ 102 ∷ [];
+            given = 4 ∷ 101 ∷ 7 ∷ [];
             copy = 104 ∷ 4 ∷ 1 ∷ 1 ∷ 103 ∷ 2 ∷ 4 ∷ 7 ∷ 2 ∷ [];
             flight = 1 ∷ 101 ∷ 103 ∷ 4 ∷ 4 ∷ 103 ∷ 101 ∷ 7 ∷ 7 ∷ 3 ∷ 1 ∷ 4 ∷ 1 ∷ 101 ∷ 2 ∷ 103 ∷ 7 ∷ 2 ∷ [];
           };
@@ -6896,15 +6946,15 @@ list-50 =
     }
 
 pub agrees-50 : first-wrong list-50 ≡ 0
-unfolding first-wrong entries apply Direct.start Direct.tick Pipelined.start Pipelined.tick book-words rate-words release-words release-rate-words headroom-refusal Preview.preview arrive-words into-frame booking bookings row-sum column-sum sum least some-of word
+unfolding first-wrong entries apply Direct.start Direct.tick Pipelined.start Pipelined.tick book-words rate-words release-words release-rate-words headroom-refusal Preview.preview arrive-words into-frame booking bookings row-sum column-sum sum first-from some-of word port-word
 agrees-50 = refl
 
 pub headroom-50 : first-wrong-headroom list-50 ≡ 0
-unfolding first-wrong-headroom final headroom-result pair-headroom headroom-over apply Direct.start Direct.tick Pipelined.start Pipelined.tick book-words rate-words release-words release-rate-words headroom-refusal Preview.preview arrive-words into-frame booking bookings row-sum column-sum sum least some-of word
+unfolding first-wrong-headroom final headroom-result pair-headroom headroom-over apply Direct.start Direct.tick Pipelined.start Pipelined.tick book-words rate-words release-words release-rate-words headroom-refusal Preview.preview arrive-words into-frame booking bookings row-sum column-sum sum first-from some-of word port-word
 headroom-50 = refl
 
 pub preview-50 : first-wrong-preview list-50 ≡ 0
-unfolding first-wrong-preview final apply Direct.start Direct.tick Pipelined.start Pipelined.tick book-words rate-words release-words release-rate-words headroom-refusal Preview.preview arrive-words into-frame booking bookings row-sum column-sum sum least some-of word
+unfolding first-wrong-preview final apply Direct.start Direct.tick Pipelined.start Pipelined.tick book-words rate-words release-words release-rate-words headroom-refusal Preview.preview arrive-words into-frame booking bookings row-sum column-sum sum first-from some-of word port-word
 preview-50 = refl
 
 abbrev list-51 : Case
@@ -6916,6 +6966,7 @@ list-51 =
             book = book-of (2 ∷ 2 ∷ 4 ∷ 2 ∷ 1 ∷ 3 ∷ 2 ∷ 2 ∷ 2 ∷ []) (103 ∷ 1 ∷ 104 ∷ 102 ∷ 1 ∷ 1 ∷ 1 ∷ 1 ∷ 101 ∷ []);
             credits = 7 ∷ 102 ∷ 4 ∷ 2 ∷ 4 ∷ 7 ∷ 1 ∷ 2 ∷ 7 ∷ [];
             queues = 2 ∷ 4 ∷ 103 ∷ 2 ∷ 1 ∷ 102 ∷ 102 ∷ 1 ∷ 101 ∷ [];
+            given = 102 ∷ 7 ∷ 1 ∷ [];
             copy = 7 ∷ 102 ∷ 101 ∷ 2 ∷ 4 ∷ 103 ∷ 3 ∷ 3 ∷ 102 ∷ [];
             flight = 3 ∷ 7 ∷ 103 ∷ 1 ∷ 4 ∷ 101 ∷ 4 ∷ 2 ∷ 2 ∷ 7 ∷ 1 ∷ 2 ∷ 2 ∷ 2 ∷ 3 ∷ 2 ∷ 102 ∷ 7 ∷ [];
           };
@@ -6953,7 +7004,7 @@ list-51 =
           ∷ tick pipelined
           ∷ [];
       expected =
-          claim 1 1 1 0 0 2 0
+          claim 1 1 1 0 0 3 0
           ∷ claim 1 1 8 0 2 0 0
           ∷ claim 1 2 1 0 0 3 0
           ∷ claim 1 2 8 0 2 4 0
@@ -6985,15 +7036,15 @@ list-51 =
     }
 
 pub agrees-51 : first-wrong list-51 ≡ 0
-unfolding first-wrong entries apply Direct.start Direct.tick Pipelined.start Pipelined.tick book-words rate-words release-words release-rate-words headroom-refusal Preview.preview arrive-words into-frame booking bookings row-sum column-sum sum least some-of word
+unfolding first-wrong entries apply Direct.start Direct.tick Pipelined.start Pipelined.tick book-words rate-words release-words release-rate-words headroom-refusal Preview.preview arrive-words into-frame booking bookings row-sum column-sum sum first-from some-of word port-word
 agrees-51 = refl
 
 pub headroom-51 : first-wrong-headroom list-51 ≡ 0
-unfolding first-wrong-headroom final headroom-result pair-headroom headroom-over apply Direct.start Direct.tick Pipelined.start Pipelined.tick book-words rate-words release-words release-rate-words headroom-refusal Preview.preview arrive-words into-frame booking bookings row-sum column-sum sum least some-of word
+unfolding first-wrong-headroom final headroom-result pair-headroom headroom-over apply Direct.start Direct.tick Pipelined.start Pipelined.tick book-words rate-words release-words release-rate-words headroom-refusal Preview.preview arrive-words into-frame booking bookings row-sum column-sum sum first-from some-of word port-word
 headroom-51 = refl
 
 pub preview-51 : first-wrong-preview list-51 ≡ 0
-unfolding first-wrong-preview final apply Direct.start Direct.tick Pipelined.start Pipelined.tick book-words rate-words release-words release-rate-words headroom-refusal Preview.preview arrive-words into-frame booking bookings row-sum column-sum sum least some-of word
+unfolding first-wrong-preview final apply Direct.start Direct.tick Pipelined.start Pipelined.tick book-words rate-words release-words release-rate-words headroom-refusal Preview.preview arrive-words into-frame booking bookings row-sum column-sum sum first-from some-of word port-word
 preview-51 = refl
 
 abbrev list-52 : Case
@@ -7005,6 +7056,7 @@ list-52 =
             book = book-of (2 ∷ 104 ∷ 102 ∷ 1 ∷ 2 ∷ 2 ∷ 1 ∷ 102 ∷ 101 ∷ []) (2 ∷ 1 ∷ 3 ∷ 104 ∷ 104 ∷ 101 ∷ 1 ∷ 103 ∷ 3 ∷ []);
             credits = 4 ∷ 104 ∷ 4 ∷ 1 ∷ 2 ∷ 104 ∷ 2 ∷ 103 ∷ 1 ∷ [];
             queues = 101 ∷ 4 ∷ 4 ∷ 1 ∷ 2 ∷ 4 ∷ 2 ∷ 7 ∷ 2 ∷ [];
+            given = 2 ∷ 102 ∷ 101 ∷ [];
             copy = 101 ∷ 104 ∷ 102 ∷ 2 ∷ 2 ∷ 101 ∷ 104 ∷ 1 ∷ 104 ∷ [];
             flight = 7 ∷ 102 ∷ 2 ∷ 3 ∷ 1 ∷ 102 ∷ 1 ∷ 4 ∷ 3 ∷ 2 ∷ 104 ∷ 104 ∷ 4 ∷ 7 ∷ 2 ∷ 2 ∷ 7 ∷ 104 ∷ [];
           };
@@ -7077,15 +7129,15 @@ list-52 =
     }
 
 pub agrees-52 : first-wrong list-52 ≡ 0
-unfolding first-wrong entries apply Direct.start Direct.tick Pipelined.start Pipelined.tick book-words rate-words release-words release-rate-words headroom-refusal Preview.preview arrive-words into-frame booking bookings row-sum column-sum sum least some-of word
+unfolding first-wrong entries apply Direct.start Direct.tick Pipelined.start Pipelined.tick book-words rate-words release-words release-rate-words headroom-refusal Preview.preview arrive-words into-frame booking bookings row-sum column-sum sum first-from some-of word port-word
 agrees-52 = refl
 
 pub headroom-52 : first-wrong-headroom list-52 ≡ 0
-unfolding first-wrong-headroom final headroom-result pair-headroom headroom-over apply Direct.start Direct.tick Pipelined.start Pipelined.tick book-words rate-words release-words release-rate-words headroom-refusal Preview.preview arrive-words into-frame booking bookings row-sum column-sum sum least some-of word
+unfolding first-wrong-headroom final headroom-result pair-headroom headroom-over apply Direct.start Direct.tick Pipelined.start Pipelined.tick book-words rate-words release-words release-rate-words headroom-refusal Preview.preview arrive-words into-frame booking bookings row-sum column-sum sum first-from some-of word port-word
 headroom-52 = refl
 
 pub preview-52 : first-wrong-preview list-52 ≡ 0
-unfolding first-wrong-preview final apply Direct.start Direct.tick Pipelined.start Pipelined.tick book-words rate-words release-words release-rate-words headroom-refusal Preview.preview arrive-words into-frame booking bookings row-sum column-sum sum least some-of word
+unfolding first-wrong-preview final apply Direct.start Direct.tick Pipelined.start Pipelined.tick book-words rate-words release-words release-rate-words headroom-refusal Preview.preview arrive-words into-frame booking bookings row-sum column-sum sum first-from some-of word port-word
 preview-52 = refl
 
 abbrev list-53 : Case
@@ -7097,6 +7149,7 @@ list-53 =
             book = book-of (3 ∷ 102 ∷ 2 ∷ 1 ∷ 2 ∷ 1 ∷ 7 ∷ 7 ∷ 101 ∷ []) (2 ∷ 7 ∷ 3 ∷ 2 ∷ 2 ∷ 101 ∷ 101 ∷ 2 ∷ 4 ∷ []);
             credits = 1 ∷ 104 ∷ 4 ∷ 7 ∷ 103 ∷ 1 ∷ 101 ∷ 2 ∷ 2 ∷ [];
             queues = 104 ∷ 1 ∷ 1 ∷ 102 ∷ 102 ∷ 101 ∷ 1 ∷ 4 ∷ 1 ∷ [];
+            given = 2 ∷ 7 ∷ 1 ∷ [];
             copy = 101 ∷ 104 ∷ 102 ∷ 1 ∷ 3 ∷ 3 ∷ 2 ∷ 102 ∷ 102 ∷ [];
             flight = 103 ∷ 4 ∷ 102 ∷ 2 ∷ 7 ∷ 1 ∷ 1 ∷ 7 ∷ 3 ∷ 3 ∷ 1 ∷ 7 ∷ 102 ∷ 104 ∷ 2 ∷ 7 ∷ 7 ∷ 2 ∷ [];
           };
@@ -7147,16 +7200,16 @@ list-53 =
       expected =
           claim 1 1 1 0 0 0 0
           ∷ claim 1 1 4 0 0 2 0
-          ∷ claim 1 1 7 2 0 1 1
+          ∷ claim 1 1 7 2 0 2 2
           ∷ claim 1 1 10 2 0 0 0
           ∷ claim 1 2 1 0 0 0 0
           ∷ claim 1 2 4 0 0 2 0
-          ∷ claim 1 2 7 0 4 3 0
-          ∷ claim 1 2 10 0 4 1 0
+          ∷ claim 1 2 7 0 4 2 0
+          ∷ claim 1 2 10 0 4 2 0
           ∷ claim 2 1 1 0 0 0 0
           ∷ claim 2 1 4 0 0 0 0
           ∷ claim 2 1 7 0 4 2 0
-          ∷ claim 2 1 10 0 4 1 0
+          ∷ claim 2 1 10 0 4 2 0
           ∷ claim 2 2 1 0 0 0 0
           ∷ claim 2 2 4 0 0 0 0
           ∷ claim 2 2 7 2 0 0 0
@@ -7185,15 +7238,15 @@ list-53 =
     }
 
 pub agrees-53 : first-wrong list-53 ≡ 0
-unfolding first-wrong entries apply Direct.start Direct.tick Pipelined.start Pipelined.tick book-words rate-words release-words release-rate-words headroom-refusal Preview.preview arrive-words into-frame booking bookings row-sum column-sum sum least some-of word
+unfolding first-wrong entries apply Direct.start Direct.tick Pipelined.start Pipelined.tick book-words rate-words release-words release-rate-words headroom-refusal Preview.preview arrive-words into-frame booking bookings row-sum column-sum sum first-from some-of word port-word
 agrees-53 = refl
 
 pub headroom-53 : first-wrong-headroom list-53 ≡ 0
-unfolding first-wrong-headroom final headroom-result pair-headroom headroom-over apply Direct.start Direct.tick Pipelined.start Pipelined.tick book-words rate-words release-words release-rate-words headroom-refusal Preview.preview arrive-words into-frame booking bookings row-sum column-sum sum least some-of word
+unfolding first-wrong-headroom final headroom-result pair-headroom headroom-over apply Direct.start Direct.tick Pipelined.start Pipelined.tick book-words rate-words release-words release-rate-words headroom-refusal Preview.preview arrive-words into-frame booking bookings row-sum column-sum sum first-from some-of word port-word
 headroom-53 = refl
 
 pub preview-53 : first-wrong-preview list-53 ≡ 0
-unfolding first-wrong-preview final apply Direct.start Direct.tick Pipelined.start Pipelined.tick book-words rate-words release-words release-rate-words headroom-refusal Preview.preview arrive-words into-frame booking bookings row-sum column-sum sum least some-of word
+unfolding first-wrong-preview final apply Direct.start Direct.tick Pipelined.start Pipelined.tick book-words rate-words release-words release-rate-words headroom-refusal Preview.preview arrive-words into-frame booking bookings row-sum column-sum sum first-from some-of word port-word
 preview-53 = refl
 
 abbrev list-54 : Case
@@ -7205,6 +7258,7 @@ list-54 =
             book = book-of (104 ∷ 1 ∷ 104 ∷ 104 ∷ 102 ∷ 7 ∷ 4 ∷ 102 ∷ 7 ∷ []) (1 ∷ 2 ∷ 4 ∷ 1 ∷ 1 ∷ 7 ∷ 103 ∷ 2 ∷ 2 ∷ []);
             credits = 104 ∷ 1 ∷ 2 ∷ 102 ∷ 1 ∷ 2 ∷ 7 ∷ 1 ∷ 7 ∷ [];
             queues = 103 ∷ 104 ∷ 102 ∷ 2 ∷ 102 ∷ 2 ∷ 104 ∷ 103 ∷ 3 ∷ [];
+            given = 104 ∷ 1 ∷ 7 ∷ [];
             copy = 102 ∷ 1 ∷ 104 ∷ 1 ∷ 1 ∷ 3 ∷ 101 ∷ 7 ∷ 2 ∷ [];
             flight = 101 ∷ 1 ∷ 1 ∷ 3 ∷ 4 ∷ 104 ∷ 1 ∷ 3 ∷ 4 ∷ 101 ∷ 1 ∷ 7 ∷ 2 ∷ 1 ∷ 2 ∷ 2 ∷ 101 ∷ 2 ∷ [];
           };
@@ -7306,7 +7360,7 @@ list-54 =
           ∷ claim 3 1 9 1 1 0 0
           ∷ claim 3 1 13 1 1 3 1
           ∷ claim 3 1 17 1 1 4 1
-          ∷ claim 3 1 21 1 1 1 1
+          ∷ claim 3 1 21 1 1 3 1
           ∷ claim 3 2 1 0 1 0 0
           ∷ claim 3 2 5 0 1 0 0
           ∷ claim 3 2 9 0 1 0 0
@@ -7348,15 +7402,15 @@ list-54 =
     }
 
 pub agrees-54 : first-wrong list-54 ≡ 0
-unfolding first-wrong entries apply Direct.start Direct.tick Pipelined.start Pipelined.tick book-words rate-words release-words release-rate-words headroom-refusal Preview.preview arrive-words into-frame booking bookings row-sum column-sum sum least some-of word
+unfolding first-wrong entries apply Direct.start Direct.tick Pipelined.start Pipelined.tick book-words rate-words release-words release-rate-words headroom-refusal Preview.preview arrive-words into-frame booking bookings row-sum column-sum sum first-from some-of word port-word
 agrees-54 = refl
 
 pub headroom-54 : first-wrong-headroom list-54 ≡ 0
-unfolding first-wrong-headroom final headroom-result pair-headroom headroom-over apply Direct.start Direct.tick Pipelined.start Pipelined.tick book-words rate-words release-words release-rate-words headroom-refusal Preview.preview arrive-words into-frame booking bookings row-sum column-sum sum least some-of word
+unfolding first-wrong-headroom final headroom-result pair-headroom headroom-over apply Direct.start Direct.tick Pipelined.start Pipelined.tick book-words rate-words release-words release-rate-words headroom-refusal Preview.preview arrive-words into-frame booking bookings row-sum column-sum sum first-from some-of word port-word
 headroom-54 = refl
 
 pub preview-54 : first-wrong-preview list-54 ≡ 0
-unfolding first-wrong-preview final apply Direct.start Direct.tick Pipelined.start Pipelined.tick book-words rate-words release-words release-rate-words headroom-refusal Preview.preview arrive-words into-frame booking bookings row-sum column-sum sum least some-of word
+unfolding first-wrong-preview final apply Direct.start Direct.tick Pipelined.start Pipelined.tick book-words rate-words release-words release-rate-words headroom-refusal Preview.preview arrive-words into-frame booking bookings row-sum column-sum sum first-from some-of word port-word
 preview-54 = refl
 
 abbrev list-55 : Case
@@ -7368,6 +7422,7 @@ list-55 =
             book = book-of (3 ∷ 1 ∷ 104 ∷ 1 ∷ 2 ∷ 2 ∷ 2 ∷ 7 ∷ 1 ∷ []) (103 ∷ 2 ∷ 7 ∷ 4 ∷ 2 ∷ 101 ∷ 104 ∷ 2 ∷ 1 ∷ []);
             credits = 1 ∷ 4 ∷ 2 ∷ 7 ∷ 7 ∷ 102 ∷ 1 ∷ 7 ∷ 102 ∷ [];
             queues = 102 ∷ 1 ∷ 2 ∷ 3 ∷ 7 ∷ 4 ∷ 3 ∷ 4 ∷ 7 ∷ [];
+            given = 2 ∷ 102 ∷ 103 ∷ [];
             copy = 1 ∷ 102 ∷ 1 ∷ 101 ∷ 103 ∷ 7 ∷ 103 ∷ 1 ∷ 103 ∷ [];
             flight = 1 ∷ 2 ∷ 101 ∷ 1 ∷ 7 ∷ 7 ∷ 7 ∷ 1 ∷ 7 ∷ 2 ∷ 104 ∷ 1 ∷ 4 ∷ 102 ∷ 101 ∷ 101 ∷ 102 ∷ 103 ∷ [];
           };
@@ -7496,15 +7551,15 @@ list-55 =
     }
 
 pub agrees-55 : first-wrong list-55 ≡ 0
-unfolding first-wrong entries apply Direct.start Direct.tick Pipelined.start Pipelined.tick book-words rate-words release-words release-rate-words headroom-refusal Preview.preview arrive-words into-frame booking bookings row-sum column-sum sum least some-of word
+unfolding first-wrong entries apply Direct.start Direct.tick Pipelined.start Pipelined.tick book-words rate-words release-words release-rate-words headroom-refusal Preview.preview arrive-words into-frame booking bookings row-sum column-sum sum first-from some-of word port-word
 agrees-55 = refl
 
 pub headroom-55 : first-wrong-headroom list-55 ≡ 0
-unfolding first-wrong-headroom final headroom-result pair-headroom headroom-over apply Direct.start Direct.tick Pipelined.start Pipelined.tick book-words rate-words release-words release-rate-words headroom-refusal Preview.preview arrive-words into-frame booking bookings row-sum column-sum sum least some-of word
+unfolding first-wrong-headroom final headroom-result pair-headroom headroom-over apply Direct.start Direct.tick Pipelined.start Pipelined.tick book-words rate-words release-words release-rate-words headroom-refusal Preview.preview arrive-words into-frame booking bookings row-sum column-sum sum first-from some-of word port-word
 headroom-55 = refl
 
 pub preview-55 : first-wrong-preview list-55 ≡ 0
-unfolding first-wrong-preview final apply Direct.start Direct.tick Pipelined.start Pipelined.tick book-words rate-words release-words release-rate-words headroom-refusal Preview.preview arrive-words into-frame booking bookings row-sum column-sum sum least some-of word
+unfolding first-wrong-preview final apply Direct.start Direct.tick Pipelined.start Pipelined.tick book-words rate-words release-words release-rate-words headroom-refusal Preview.preview arrive-words into-frame booking bookings row-sum column-sum sum first-from some-of word port-word
 preview-55 = refl
 
 abbrev list-56 : Case
@@ -7516,6 +7571,7 @@ list-56 =
             book = book-of (1 ∷ 7 ∷ 1 ∷ 3 ∷ 2 ∷ 1 ∷ 104 ∷ 4 ∷ 2 ∷ []) (1 ∷ 1 ∷ 2 ∷ 1 ∷ 103 ∷ 4 ∷ 103 ∷ 103 ∷ 7 ∷ []);
             credits = 103 ∷ 102 ∷ 7 ∷ 2 ∷ 2 ∷ 1 ∷ 102 ∷ 1 ∷ 1 ∷ [];
             queues = 2 ∷ 4 ∷ 104 ∷ 101 ∷ 2 ∷ 1 ∷ 4 ∷ 4 ∷ 7 ∷ [];
+            given = 1 ∷ 1 ∷ 101 ∷ [];
             copy = 1 ∷ 102 ∷ 4 ∷ 2 ∷ 2 ∷ 1 ∷ 1 ∷ 4 ∷ 2 ∷ [];
             flight = 2 ∷ 2 ∷ 3 ∷ 2 ∷ 4 ∷ 2 ∷ 103 ∷ 104 ∷ 2 ∷ 7 ∷ 7 ∷ 4 ∷ 3 ∷ 2 ∷ 103 ∷ 3 ∷ 2 ∷ 1 ∷ [];
           };
@@ -7601,15 +7657,15 @@ list-56 =
     }
 
 pub agrees-56 : first-wrong list-56 ≡ 0
-unfolding first-wrong entries apply Direct.start Direct.tick Pipelined.start Pipelined.tick book-words rate-words release-words release-rate-words headroom-refusal Preview.preview arrive-words into-frame booking bookings row-sum column-sum sum least some-of word
+unfolding first-wrong entries apply Direct.start Direct.tick Pipelined.start Pipelined.tick book-words rate-words release-words release-rate-words headroom-refusal Preview.preview arrive-words into-frame booking bookings row-sum column-sum sum first-from some-of word port-word
 agrees-56 = refl
 
 pub headroom-56 : first-wrong-headroom list-56 ≡ 0
-unfolding first-wrong-headroom final headroom-result pair-headroom headroom-over apply Direct.start Direct.tick Pipelined.start Pipelined.tick book-words rate-words release-words release-rate-words headroom-refusal Preview.preview arrive-words into-frame booking bookings row-sum column-sum sum least some-of word
+unfolding first-wrong-headroom final headroom-result pair-headroom headroom-over apply Direct.start Direct.tick Pipelined.start Pipelined.tick book-words rate-words release-words release-rate-words headroom-refusal Preview.preview arrive-words into-frame booking bookings row-sum column-sum sum first-from some-of word port-word
 headroom-56 = refl
 
 pub preview-56 : first-wrong-preview list-56 ≡ 0
-unfolding first-wrong-preview final apply Direct.start Direct.tick Pipelined.start Pipelined.tick book-words rate-words release-words release-rate-words headroom-refusal Preview.preview arrive-words into-frame booking bookings row-sum column-sum sum least some-of word
+unfolding first-wrong-preview final apply Direct.start Direct.tick Pipelined.start Pipelined.tick book-words rate-words release-words release-rate-words headroom-refusal Preview.preview arrive-words into-frame booking bookings row-sum column-sum sum first-from some-of word port-word
 preview-56 = refl
 
 abbrev list-57 : Case
@@ -7621,6 +7677,7 @@ list-57 =
             book = book-of (101 ∷ 102 ∷ 3 ∷ 2 ∷ 1 ∷ 101 ∷ 3 ∷ 104 ∷ 104 ∷ []) (102 ∷ 7 ∷ 1 ∷ 2 ∷ 4 ∷ 101 ∷ 101 ∷ 1 ∷ 7 ∷ []);
             credits = 2 ∷ 7 ∷ 3 ∷ 7 ∷ 1 ∷ 1 ∷ 4 ∷ 4 ∷ 102 ∷ [];
             queues = 3 ∷ 2 ∷ 101 ∷ 104 ∷ 7 ∷ 4 ∷ 102 ∷ 7 ∷ 7 ∷ [];
+            given = 102 ∷ 3 ∷ 4 ∷ [];
             copy = 102 ∷ 2 ∷ 1 ∷ 2 ∷ 104 ∷ 104 ∷ 7 ∷ 2 ∷ 3 ∷ [];
             flight = 2 ∷ 2 ∷ 4 ∷ 2 ∷ 7 ∷ 103 ∷ 1 ∷ 4 ∷ 7 ∷ 1 ∷ 4 ∷ 3 ∷ 1 ∷ 102 ∷ 4 ∷ 2 ∷ 2 ∷ 1 ∷ [];
           };
@@ -7671,13 +7728,13 @@ list-57 =
           ∷ claim 1 1 4 0 0 0 0
           ∷ claim 1 1 7 0 3 3 0
           ∷ claim 1 1 10 0 3 3 0
-          ∷ claim 1 1 13 0 3 2 0
-          ∷ claim 1 1 16 0 3 0 0
+          ∷ claim 1 1 13 0 3 3 0
+          ∷ claim 1 1 16 0 3 1 0
           ∷ claim 1 2 1 0 0 0 0
           ∷ claim 1 2 4 0 0 0 0
           ∷ claim 1 2 7 1 2 3 1
           ∷ claim 1 2 10 1 2 3 1
-          ∷ claim 1 2 13 1 2 3 1
+          ∷ claim 1 2 13 1 2 0 0
           ∷ claim 1 2 16 1 2 0 0
           ∷ claim 1 3 1 0 0 0 0
           ∷ claim 1 3 4 0 0 0 0
@@ -7750,15 +7807,15 @@ list-57 =
     }
 
 pub agrees-57 : first-wrong list-57 ≡ 0
-unfolding first-wrong entries apply Direct.start Direct.tick Pipelined.start Pipelined.tick book-words rate-words release-words release-rate-words headroom-refusal Preview.preview arrive-words into-frame booking bookings row-sum column-sum sum least some-of word
+unfolding first-wrong entries apply Direct.start Direct.tick Pipelined.start Pipelined.tick book-words rate-words release-words release-rate-words headroom-refusal Preview.preview arrive-words into-frame booking bookings row-sum column-sum sum first-from some-of word port-word
 agrees-57 = refl
 
 pub headroom-57 : first-wrong-headroom list-57 ≡ 0
-unfolding first-wrong-headroom final headroom-result pair-headroom headroom-over apply Direct.start Direct.tick Pipelined.start Pipelined.tick book-words rate-words release-words release-rate-words headroom-refusal Preview.preview arrive-words into-frame booking bookings row-sum column-sum sum least some-of word
+unfolding first-wrong-headroom final headroom-result pair-headroom headroom-over apply Direct.start Direct.tick Pipelined.start Pipelined.tick book-words rate-words release-words release-rate-words headroom-refusal Preview.preview arrive-words into-frame booking bookings row-sum column-sum sum first-from some-of word port-word
 headroom-57 = refl
 
 pub preview-57 : first-wrong-preview list-57 ≡ 0
-unfolding first-wrong-preview final apply Direct.start Direct.tick Pipelined.start Pipelined.tick book-words rate-words release-words release-rate-words headroom-refusal Preview.preview arrive-words into-frame booking bookings row-sum column-sum sum least some-of word
+unfolding first-wrong-preview final apply Direct.start Direct.tick Pipelined.start Pipelined.tick book-words rate-words release-words release-rate-words headroom-refusal Preview.preview arrive-words into-frame booking bookings row-sum column-sum sum first-from some-of word port-word
 preview-57 = refl
 
 abbrev list-58 : Case
@@ -7770,6 +7827,7 @@ list-58 =
             book = book-of (3 ∷ 7 ∷ 102 ∷ 2 ∷ 1 ∷ 1 ∷ 1 ∷ 101 ∷ 7 ∷ []) (3 ∷ 103 ∷ 101 ∷ 1 ∷ 3 ∷ 102 ∷ 7 ∷ 104 ∷ 102 ∷ []);
             credits = 2 ∷ 7 ∷ 102 ∷ 104 ∷ 102 ∷ 4 ∷ 2 ∷ 1 ∷ 4 ∷ [];
             queues = 104 ∷ 2 ∷ 2 ∷ 1 ∷ 4 ∷ 101 ∷ 3 ∷ 102 ∷ 103 ∷ [];
+            given = 2 ∷ 1 ∷ 102 ∷ [];
             copy = 2 ∷ 2 ∷ 1 ∷ 101 ∷ 104 ∷ 1 ∷ 103 ∷ 3 ∷ 2 ∷ [];
             flight = 1 ∷ 4 ∷ 4 ∷ 2 ∷ 101 ∷ 101 ∷ 2 ∷ 1 ∷ 4 ∷ 4 ∷ 2 ∷ 2 ∷ 1 ∷ 2 ∷ 104 ∷ 2 ∷ 101 ∷ 102 ∷ [];
           };
@@ -7835,12 +7893,12 @@ list-58 =
           ∷ [];
       expected =
           claim 1 1 1 0 0 1 0
-          ∷ claim 1 1 4 0 0 2 0
-          ∷ claim 1 1 7 0 0 2 0
+          ∷ claim 1 1 4 0 0 3 0
+          ∷ claim 1 1 7 0 0 3 0
           ∷ claim 1 1 10 1 2 3 1
-          ∷ claim 1 1 13 1 1 1 1
+          ∷ claim 1 1 13 1 1 3 1
           ∷ claim 1 1 16 1 1 3 1
-          ∷ claim 1 1 19 1 1 0 0
+          ∷ claim 1 1 19 1 1 3 1
           ∷ claim 1 1 22 1 2 0 0
           ∷ claim 1 2 1 0 1 3 0
           ∷ claim 1 2 4 0 0 3 0
@@ -7852,8 +7910,8 @@ list-58 =
           ∷ claim 1 2 22 1 2 1 1
           ∷ claim 2 1 1 0 1 3 0
           ∷ claim 2 1 4 0 0 3 0
-          ∷ claim 2 1 7 0 0 3 0
-          ∷ claim 2 1 10 1 1 2 1
+          ∷ claim 2 1 7 0 0 2 0
+          ∷ claim 2 1 10 1 1 0 0
           ∷ claim 2 1 13 0 2 0 0
           ∷ claim 2 1 16 0 2 0 0
           ∷ claim 2 1 19 0 2 0 0
@@ -7890,15 +7948,15 @@ list-58 =
     }
 
 pub agrees-58 : first-wrong list-58 ≡ 0
-unfolding first-wrong entries apply Direct.start Direct.tick Pipelined.start Pipelined.tick book-words rate-words release-words release-rate-words headroom-refusal Preview.preview arrive-words into-frame booking bookings row-sum column-sum sum least some-of word
+unfolding first-wrong entries apply Direct.start Direct.tick Pipelined.start Pipelined.tick book-words rate-words release-words release-rate-words headroom-refusal Preview.preview arrive-words into-frame booking bookings row-sum column-sum sum first-from some-of word port-word
 agrees-58 = refl
 
 pub headroom-58 : first-wrong-headroom list-58 ≡ 0
-unfolding first-wrong-headroom final headroom-result pair-headroom headroom-over apply Direct.start Direct.tick Pipelined.start Pipelined.tick book-words rate-words release-words release-rate-words headroom-refusal Preview.preview arrive-words into-frame booking bookings row-sum column-sum sum least some-of word
+unfolding first-wrong-headroom final headroom-result pair-headroom headroom-over apply Direct.start Direct.tick Pipelined.start Pipelined.tick book-words rate-words release-words release-rate-words headroom-refusal Preview.preview arrive-words into-frame booking bookings row-sum column-sum sum first-from some-of word port-word
 headroom-58 = refl
 
 pub preview-58 : first-wrong-preview list-58 ≡ 0
-unfolding first-wrong-preview final apply Direct.start Direct.tick Pipelined.start Pipelined.tick book-words rate-words release-words release-rate-words headroom-refusal Preview.preview arrive-words into-frame booking bookings row-sum column-sum sum least some-of word
+unfolding first-wrong-preview final apply Direct.start Direct.tick Pipelined.start Pipelined.tick book-words rate-words release-words release-rate-words headroom-refusal Preview.preview arrive-words into-frame booking bookings row-sum column-sum sum first-from some-of word port-word
 preview-58 = refl
 
 abbrev list-59 : Case
@@ -7910,6 +7968,7 @@ list-59 =
             book = book-of (101 ∷ 104 ∷ 3 ∷ 1 ∷ 7 ∷ 1 ∷ 102 ∷ 2 ∷ 4 ∷ []) (103 ∷ 102 ∷ 4 ∷ 2 ∷ 104 ∷ 3 ∷ 4 ∷ 104 ∷ 103 ∷ []);
             credits = 2 ∷ 1 ∷ 2 ∷ 1 ∷ 2 ∷ 102 ∷ 2 ∷ 102 ∷ 2 ∷ [];
             queues = 3 ∷ 104 ∷ 104 ∷ 102 ∷ 1 ∷ 7 ∷ 4 ∷ 103 ∷ 104 ∷ [];
+            given = 1 ∷ 1 ∷ 4 ∷ [];
             copy = 7 ∷ 1 ∷ 2 ∷ 4 ∷ 102 ∷ 7 ∷ 1 ∷ 1 ∷ 1 ∷ [];
             flight = 1 ∷ 1 ∷ 2 ∷ 3 ∷ 103 ∷ 4 ∷ 7 ∷ 102 ∷ 2 ∷ 4 ∷ 1 ∷ 2 ∷ 4 ∷ 4 ∷ 4 ∷ 4 ∷ 4 ∷ 2 ∷ [];
           };
@@ -8032,15 +8091,15 @@ list-59 =
     }
 
 pub agrees-59 : first-wrong list-59 ≡ 0
-unfolding first-wrong entries apply Direct.start Direct.tick Pipelined.start Pipelined.tick book-words rate-words release-words release-rate-words headroom-refusal Preview.preview arrive-words into-frame booking bookings row-sum column-sum sum least some-of word
+unfolding first-wrong entries apply Direct.start Direct.tick Pipelined.start Pipelined.tick book-words rate-words release-words release-rate-words headroom-refusal Preview.preview arrive-words into-frame booking bookings row-sum column-sum sum first-from some-of word port-word
 agrees-59 = refl
 
 pub headroom-59 : first-wrong-headroom list-59 ≡ 0
-unfolding first-wrong-headroom final headroom-result pair-headroom headroom-over apply Direct.start Direct.tick Pipelined.start Pipelined.tick book-words rate-words release-words release-rate-words headroom-refusal Preview.preview arrive-words into-frame booking bookings row-sum column-sum sum least some-of word
+unfolding first-wrong-headroom final headroom-result pair-headroom headroom-over apply Direct.start Direct.tick Pipelined.start Pipelined.tick book-words rate-words release-words release-rate-words headroom-refusal Preview.preview arrive-words into-frame booking bookings row-sum column-sum sum first-from some-of word port-word
 headroom-59 = refl
 
 pub preview-59 : first-wrong-preview list-59 ≡ 0
-unfolding first-wrong-preview final apply Direct.start Direct.tick Pipelined.start Pipelined.tick book-words rate-words release-words release-rate-words headroom-refusal Preview.preview arrive-words into-frame booking bookings row-sum column-sum sum least some-of word
+unfolding first-wrong-preview final apply Direct.start Direct.tick Pipelined.start Pipelined.tick book-words rate-words release-words release-rate-words headroom-refusal Preview.preview arrive-words into-frame booking bookings row-sum column-sum sum first-from some-of word port-word
 preview-59 = refl
 
 abbrev list-60 : Case
@@ -8052,6 +8111,7 @@ list-60 =
             book = book-of (103 ∷ 103 ∷ 2 ∷ 104 ∷ 2 ∷ 3 ∷ 4 ∷ 1 ∷ 102 ∷ []) (7 ∷ 1 ∷ 104 ∷ 2 ∷ 7 ∷ 103 ∷ 102 ∷ 101 ∷ 4 ∷ []);
             credits = 103 ∷ 1 ∷ 103 ∷ 101 ∷ 3 ∷ 2 ∷ 1 ∷ 103 ∷ 2 ∷ [];
             queues = 2 ∷ 1 ∷ 101 ∷ 4 ∷ 102 ∷ 103 ∷ 1 ∷ 102 ∷ 1 ∷ [];
+            given = 2 ∷ 1 ∷ 7 ∷ [];
             copy = 2 ∷ 104 ∷ 103 ∷ 102 ∷ 1 ∷ 103 ∷ 1 ∷ 2 ∷ 102 ∷ [];
             flight = 3 ∷ 101 ∷ 101 ∷ 102 ∷ 104 ∷ 102 ∷ 4 ∷ 102 ∷ 104 ∷ 1 ∷ 2 ∷ 7 ∷ 4 ∷ 7 ∷ 101 ∷ 101 ∷ 7 ∷ 1 ∷ [];
           };
@@ -8152,13 +8212,13 @@ list-60 =
     }
 
 pub agrees-60 : first-wrong list-60 ≡ 0
-unfolding first-wrong entries apply Direct.start Direct.tick Pipelined.start Pipelined.tick book-words rate-words release-words release-rate-words headroom-refusal Preview.preview arrive-words into-frame booking bookings row-sum column-sum sum least some-of word
+unfolding first-wrong entries apply Direct.start Direct.tick Pipelined.start Pipelined.tick book-words rate-words release-words release-rate-words headroom-refusal Preview.preview arrive-words into-frame booking bookings row-sum column-sum sum first-from some-of word port-word
 agrees-60 = refl
 
 pub headroom-60 : first-wrong-headroom list-60 ≡ 0
-unfolding first-wrong-headroom final headroom-result pair-headroom headroom-over apply Direct.start Direct.tick Pipelined.start Pipelined.tick book-words rate-words release-words release-rate-words headroom-refusal Preview.preview arrive-words into-frame booking bookings row-sum column-sum sum least some-of word
+unfolding first-wrong-headroom final headroom-result pair-headroom headroom-over apply Direct.start Direct.tick Pipelined.start Pipelined.tick book-words rate-words release-words release-rate-words headroom-refusal Preview.preview arrive-words into-frame booking bookings row-sum column-sum sum first-from some-of word port-word
 headroom-60 = refl
 
 pub preview-60 : first-wrong-preview list-60 ≡ 0
-unfolding first-wrong-preview final apply Direct.start Direct.tick Pipelined.start Pipelined.tick book-words rate-words release-words release-rate-words headroom-refusal Preview.preview arrive-words into-frame booking bookings row-sum column-sum sum least some-of word
+unfolding first-wrong-preview final apply Direct.start Direct.tick Pipelined.start Pipelined.tick book-words rate-words release-words release-rate-words headroom-refusal Preview.preview arrive-words into-frame booking bookings row-sum column-sum sum first-from some-of word port-word
 preview-60 = refl
