@@ -1,44 +1,26 @@
 -- What an input asks for, gathered one column after the other; by the table of all bits it is the word of its ready columns, and the lowest bit
--- that such a word has in common with the free outputs is the lowest open output. Assumes nothing.
+-- that such a word has in common with the free outputs, above the last given one or else of all, is the first open output in turn. Assumes nothing.
 use mathlib.Core.Path.{_≡_, refl, sym, _∙_, ap}
-use mathlib.Core.Bool.{Bool, true, false, _&&_}
+use mathlib.Core.Bool.{Bool, true, false, not, _&&_}
 use mathlib.Core.List.{List}
-use mathlib.Core.Logic.{_≢_}
 use Prim.Native.Nat.{ℕ, zero, suc, _+_, _-_, _*_, _/_, _%_, _^_, _≤_, _<_}
-use native.Mathlib.Decide.{ℕ-discrete}
+use borrow.Author.Tests.{lt-ltb, le-ltb}
 use native.Mathlib.Numerals.{add-one}
 use native.Mathlib.Omega.{arith}
 use lib.Bits.{bitAnd, bitOr, and-shr, and-mod, and-self, and-zero-l, and-zero-r, or-shifted-r}
 use lib.Count.{trailingZeros}
-use lib.Dec.{eqb}
+use lib.Dec.{T, eqb, ltb}
 use lib.ListN.{getD}
 use mir.Val.{boolByte}
-use Rattle.wsgs.specs.Basics.{pick, bit, Port, least, lowest}
+use Rattle.wsgs.specs.Basics.{pick, bit, Port, in-turn, later}
 use Rattle.wsgs.specs.Words.{place, word}
 use Rattle.wsgs.specs.Steps.{marked}
-use Rattle.wsgs.proofs.Laws.Lowest.{lowest-ext}
+use Rattle.wsgs.proofs.Laws.InTurn.{in-turn-ext, in-turn-lowest, in-turn-nobody, in-turn-above}
 use Rattle.wsgs.proofs.Laws.Marked.{marked-suc, marked-lt, marked-bit}
 use Rattle.turns.specs.Masks.{in-mask, powers, is-open, ready-mask}
-use Rattle.turns.specs.Requests.{both-above, gathered, requested, lowest-common}
+use Rattle.turns.specs.Requests.{both-above, gathered, requested, common-in-turn}
 use Rattle.turns.proofs.BitLaws.{bits, mask-bit}
 use Rattle.turns.proofs.TrailingLaws.{below-unset, lowest-set}
-
--- the first of the m numbers from k on that passes the test
-least-found : (p : ℕ → Bool) (k m v : ℕ) → k ≤ v → v < k + m → p v ≡ true → ((y : ℕ) → k ≤ y → y < v → p y ≡ false) → v ≡ least p k m
-unfolding least
-least-found p k zero v a b t f = absurd (omega arith)
-least-found p k (suc m) v a b t f =
-    go (ℕ-discrete v k) (λ d. least-found p (suc k) m v (omega arith) (omega arith) t (λ y u w. f y (omega arith) w))
-  where
-    go : Dec (v ≡ k) → (v ≢ k → v ≡ least p (suc k) m) → v ≡ elim (p k) [ true ↦ k | false ↦ least p (suc k) m ]
-    go (yes e) r = rw (rw e at t) e
-    go (no d) r = rw (f k (omega arith) (omega arith)) (r d)
-
--- none of them does
-least-absent : (p : ℕ → Bool) (k m : ℕ) → ((y : ℕ) → k ≤ y → y < k + m → p y ≡ false) → 0 ≡ least p k m
-unfolding least
-least-absent p k zero f = refl
-least-absent p k (suc m) f = rw (f k (omega arith) (omega arith), least) (least-absent p (suc k) m (λ y u w. f y (omega arith) (omega arith)))
 
 -- no column has been looked at
 pub gathered-start : (table : List ℕ) (test : ℕ → Bool) → 0 ≡ gathered table test 0
@@ -135,32 +117,47 @@ common-bit a b k =
     go zero (suc (suc y)) h l = absurd (omega arith)
     go (suc zero) (suc (suc y)) h l = absurd (omega arith)
 
--- the outputs that two words have in common, and the lowest of them
-module _ (n : ℕ) (few : n ≤ 32) (free requested : ℕ) where
-  abbrev opens : ℕ → Bool
-  opens j = in-mask free j && in-mask requested j
+-- the outputs of a word that are common to two
+pub common-outputs : (free asked j : ℕ) → 1 ≤ j → in-mask (bitAnd free asked) j ≡ (in-mask free j && in-mask asked j)
+common-outputs free asked zero h = absurd (omega arith)
+common-outputs free asked (suc k) h = rw (mask-bit free k, mask-bit asked k, mask-bit (bitAnd free asked) k) (common-bit free asked k)
 
+-- the lowest output of a word is that of its lowest bit
+module _ (n : ℕ) (few : n ≤ 32) (w : ℕ) where
   abbrev low : ℕ
-  low = trailingZeros 32 (bitAnd free requested)
+  low = trailingZeros 32 w
 
-  -- by columns from 0
-  open-column : (k : ℕ) → opens (suc k) ≡ bits (bitAnd free requested) k
-  open-column k = rw (mask-bit free k, mask-bit requested k) (sym (common-bit free requested k))
+  -- nothing below it
+  unset : (y : ℕ) → 1 ≤ y → y < suc low → T (not (in-mask w y))
+  unset zero u l = absurd (omega arith)
+  unset (suc k) u l = rw (mask-bit w k, below-unset 32 w k (omega arith)) tt
 
-  -- nothing below the lowest bit is common
-  closed : (y : ℕ) → 1 ≤ y → y < suc low → opens y ≡ false
-  closed zero u l = absurd (omega arith)
-  closed (suc k) u l = open-column k ∙ below-unset 32 (bitAnd free requested) k (omega arith)
-
-  -- the lowest bit is a column
-  pub open-found : low < n → suc low ≡ lowest opens n
-  open-found h =
-      least-found opens 1 n (suc low) (omega arith) (omega arith)
-      (open-column low ∙ lowest-set 32 (bitAnd free requested) (omega arith)) (λ y u v. closed y u v)
+  -- it is a column
+  pub lowest-found : low < n → suc low ≡ in-turn (in-mask w) n 0
+  lowest-found h =
+      sym (in-turn-lowest (in-mask w) n (suc low) (omega arith) (rw (mask-bit w low, lowest-set 32 w (omega arith)) tt) (λ y p l. unset y (p .low) l))
 
   -- there is none
-  pub open-none : n ≤ low → 0 ≡ lowest opens n
-  open-none h = least-absent opens 1 n (λ y u v. closed y u (omega arith))
+  pub lowest-none : n ≤ low → 0 ≡ in-turn (in-mask w) n 0
+  lowest-none h = sym (in-turn-nobody (in-mask w) n 0 (λ y p. unset y (p .low) (omega arith)))
+
+-- of the outputs that two words have in common, the lowest above the last one, else the lowest, is the first in turn
+module _ (n : ℕ) (few : n ≤ 32) (free asked last higher : ℕ)
+    (above : (j : ℕ) → Port 32 j → in-mask higher j ≡ (ltb last j && in-mask (bitAnd free asked) j)) where
+  all-outputs : (from : ℕ) → in-turn (in-mask (bitAnd free asked)) n from ≡ common-in-turn free asked n from
+  all-outputs from = in-turn-ext _ _ n from from (λ y p. common-outputs free asked y (p .low)) refl
+
+  in-order : common-in-turn free asked n last ≡ later (in-turn (in-mask higher) n 0) (in-turn (in-mask (bitAnd free asked)) n 0)
+  in-order =
+      sym (all-outputs last) ∙ in-turn-above (in-mask (bitAnd free asked)) n last
+      ∙ ap (λ v. later v (in-turn (in-mask (bitAnd free asked)) n 0)) (in-turn-ext _ _ n 0 0 (λ y p. sym (above y (omega arith))) refl)
+
+  pub taken-above : (r : ℕ) → r ≡ in-turn (in-mask higher) n 0 → 1 ≤ r → r ≡ common-in-turn free asked n last
+  taken-above r e h = sym (in-order ∙ rw (← e, lt-ltb 0 r h))
+
+  pub taken-below : (r s : ℕ) → r ≡ in-turn (in-mask higher) n 0 → r ≤ 0 → s ≡ in-turn (in-mask (bitAnd free asked)) n 0
+      → s ≡ common-in-turn free asked n last
+  taken-below r s e h d = sym (in-order ∙ rw (← e, ← d, le-ltb 0 r h))
 
 -- where the second word has the ready columns of input i, what they have in common is open to it
 module _ (n free : ℕ) (one two : List ℕ) (i w : ℕ) (is : w ≡ ready-mask one two ((i - 1) * n) n) where
@@ -171,5 +168,5 @@ module _ (n free : ℕ) (one two : List ℕ) (i w : ℕ) (is : w ≡ ready-mask 
       let e : suc k - 1 ≡ k = omega arith in
       rw (mask-bit w k, is, ready-bit one two ((i - 1) * n) n k (omega arith), e)
 
-  pub lowest-requested : (v : ℕ) → v ≡ lowest-common free w n → v ≡ lowest (is-open n free one two i) n
-  lowest-requested v e = e ∙ lowest-ext _ _ n open-is-common
+  pub requested-in-turn : (v last : ℕ) → v ≡ common-in-turn free w n last → v ≡ in-turn (is-open n free one two i) n last
+  requested-in-turn v last e = e ∙ in-turn-ext _ _ n last last open-is-common refl

@@ -1,19 +1,22 @@
--- When an input has a turn; and what the turns answer by the table of all bits where it has one: the lowest output that is open to it, and the
--- outputs for which it has a packet. Assumes nothing.
+-- When an input has a turn; and, where it has one, what it asks for by the table of all bits, and what it takes: the first in turn of the outputs that are
+-- open to it. Assumes nothing.
 use mathlib.Core.Path.{_≡_, refl, sym, _∙_, ap}
 use mathlib.Core.Bool.{Bool, true, false, not, _&&_, and-false}
 use mathlib.Core.List.{List}
-use Prim.Native.Nat.{ℕ, _-_, _*_}
+use Prim.Native.Nat.{ℕ, _-_, _*_, _≤_}
+use native.Mathlib.Omega.{arith}
 use borrow.Author.Tests.{le-leb, not-true, not-false}
 use lib.Dec.{leb, leb→le}
 use lib.ListN.{length}
-use Rattle.wsgs.specs.Basics.{pick, lowest}
+use Rattle.wsgs.specs.Basics.{pick, Port, in-turn}
+use Rattle.wsgs.specs.Words.{port-word}
 use Rattle.wsgs.proofs.Laws.Tests.{both, holds}
+use Rattle.wsgs.proofs.Laws.InTurn.{in-turn-some}
 use Rattle.words.specs.Places.{is-port, row-of}
 use Rattle.words.proofs.PlaceLaws.{known, port-passes, row-is}
 use Rattle.turns.specs.Masks.{powers, is-open, ready-mask}
-use Rattle.turns.specs.Requests.{has-turn, Turn, both-above, gathered, requested, first-output, first-waiting, waiting-output, second-output}
-use Rattle.turns.proofs.Ready.{requested-ready, lowest-requested}
+use Rattle.turns.specs.Requests.{has-turn, Turn, Asked, both-above, gathered, requested, first-ready, first-waiting, second-waiting, common-in-turn, first-output, second-output}
+use Rattle.turns.proofs.Ready.{requested-ready, requested-in-turn}
 
 -- THE QUESTION for a turn of input i of n ports, on a run of so many words
 module _ (n i words : ℕ) where
@@ -72,27 +75,40 @@ pub requested-at : (table one two : List ℕ) (n i row w : ℕ) → row ≡ (i -
 unfolding requested
 requested-at table one two n i row w d e = e ∙ ap (λ z. gathered table (both-above one two z) n) d
 
--- WHAT THE TURNS of input i answer where it has one
-module _ (n i : ℕ) where
-  -- that of pass one, by the table of all bits, takes the lowest output that is open,
-  module _ (table credits queues : List ℕ) (all : table ≡ powers 0 32) (paid : Turn n i credits) (sent : Turn n i queues) where
-    both-due : (has-turn n i (length credits) && has-turn n i (length queues)) ≡ true
-    both-due = both-yes (is-due n i credits paid) (is-due n i queues sent)
+-- WHAT AN INPUT ASKS FOR where it has a turn, by the table of all bits
+module _ (n i : ℕ) (table : List ℕ) (all : table ≡ powers 0 32) where
+  -- in pass one
+  pub first-tells : (credits queues : List ℕ) → Turn n i credits → Turn n i queues → (r w : ℕ) → r ≡ first-ready table n i credits queues
+      → w ≡ first-waiting table n i credits queues → Asked n i credits queues r w
+  first-tells credits queues paid sent r w d e =
+      let due : (has-turn n i (length credits) && has-turn n i (length queues)) ≡ true = both-yes (is-due n i credits paid) (is-due n i queues sent) in
+      record {
+        both = d ∙ rw due (requested-ready table all credits queues n i (sent .few));
+        packets = e ∙ rw due (requested-ready table all queues queues n i (sent .few));
+      }
 
-    pub first-takes : (free r : ℕ) → r ≡ first-output table free n i credits queues → r ≡ lowest (is-open n free credits queues i) n
-    first-takes free r e =
-        lowest-requested n free credits queues i _ (requested-ready table all credits queues n i (sent .few)) r (e ∙ rw both-due)
+  -- and in pass two
+  pub second-tells : (queues : List ℕ) → Turn n i queues → (w : ℕ) → w ≡ second-waiting table n i queues
+      → w ≡ ready-mask queues queues ((i - 1) * n) n
+  second-tells queues sent w e = e ∙ rw (is-due n i queues sent) (requested-ready table all queues queues n i (sent .few))
 
-    -- and tells the outputs for which there is a packet
-    pub first-tells : (w : ℕ) → w ≡ first-waiting table n i credits queues → w ≡ ready-mask queues queues ((i - 1) * n) n
-    first-tells w e = e ∙ rw both-due (requested-ready table all queues queues n i (sent .few))
+-- WHAT A TURN of input i takes, where it has one and asks for the ready columns
+module _ (n i : ℕ) (queues given : List ℕ) (sent : Turn n i queues) (known : n ≤ length given) where
+  due-here : (has-turn n i (length queues) && leb n (length given)) ≡ true
+  due-here = both-yes (is-due n i queues sent) (le-leb n (length given) known)
 
-  -- that of pass two, where the outputs for which there is a packet are known,
-  pub waiting-takes : (queues : List ℕ) (waiting : ℕ) → waiting ≡ ready-mask queues queues ((i - 1) * n) n → Turn n i queues
-      → (free r : ℕ) → r ≡ waiting-output free waiting n i queues → r ≡ lowest (is-open n free queues queues i) n
-  waiting-takes queues waiting known t free r e = lowest-requested n free queues queues i waiting known r (e ∙ rw (is-due n i queues t))
+  pub second-takes : (one : List ℕ) (asked : ℕ) → asked ≡ ready-mask one queues ((i - 1) * n) n → (free r : ℕ)
+      → r ≡ second-output free asked n i queues given → r ≡ in-turn (is-open n free one queues i) n (port-word given i)
+  second-takes one asked is free r e = requested-in-turn n free one queues i asked is r (port-word given i) (e ∙ rw due-here)
 
-  -- and by the table of all bits
-  pub second-takes : (table queues : List ℕ) → table ≡ powers 0 32 → Turn n i queues
-      → (free r : ℕ) → r ≡ second-output table free n i queues → r ≡ lowest (is-open n free queues queues i) n
-  second-takes table queues all t free r e = waiting-takes queues _ (requested-ready table all queues queues n i (t .few)) t free r e
+  pub first-takes : (credits : List ℕ) → Turn n i credits → (asked : ℕ) → asked ≡ ready-mask credits queues ((i - 1) * n) n → (free r : ℕ)
+      → r ≡ first-output free asked n i credits queues given → r ≡ in-turn (is-open n free credits queues i) n (port-word given i)
+  first-takes credits paid asked is free r e = second-takes credits asked is free r (e ∙ rw (is-due n i credits paid))
+
+-- what a turn takes is a port
+pub second-port : (free asked n i : ℕ) (queues given : List ℕ) (r : ℕ) → r ≡ second-output free asked n i queues given → 1 ≤ r → Port n r
+second-port free asked n i queues given r e h = go (has-turn n i (length queues) && leb n (length given)) e
+  where
+    go : (b : Bool) → r ≡ pick b (common-in-turn free asked n (port-word given i)) 0 → Port n r
+    go true d = in-turn-some _ n (port-word given i) r d h .0
+    go false d = absurd (omega arith)

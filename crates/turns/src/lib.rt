@@ -1,25 +1,31 @@
-// An input's turn in each pass, with the outputs that are still free: it takes the lowest that is open to it, and pays. An input that is no port,
-// more than 32 ports, or a run that is too short has no turn: nothing is taken and nothing changes.
+// An input's turn in each pass: what it asks for, and, with the outputs that are still free, the one that it takes, from one past the output that it was
+// last given; it pays for it. An input that is no port, more than 32 ports, or a run that is too short has no turn: nothing is asked for, nothing is taken
+// and nothing changes.
 mod charges;
 mod credits;
+mod given;
 pub mod masks;
 mod search;
 
 ghost use mathlib.Core.Path.{_≡_};
-ghost use Prim.Native.Nat.{_-_, _*_};
-ghost use Rattle.wsgs.specs.Basics.{lowest};
+ghost use Prim.Native.Nat.{_-_, _*_, _≤_};
+ghost use lib.ListN.{length};
+ghost use Rattle.wsgs.specs.Basics.{in-turn};
+ghost use Rattle.wsgs.specs.Words.{port-word};
 ghost use Rattle.wsgs.specs.Bookings.{booking-words};
 ghost use Rattle.words.specs.Runs.{copy-words};
 ghost use Rattle.turns.specs.Masks.{powers, is-open, ready-mask};
-ghost use Rattle.turns.specs.Requests.{Turn, first-output, first-waiting, waiting-output, second-output};
-ghost use Rattle.turns.specs.Charges.{charged};
+ghost use Rattle.turns.specs.Requests.{Turn, Asked, first-ready, first-waiting, second-waiting, first-output, second-output};
+ghost use Rattle.turns.specs.Charges.{charged, noted};
 use bookings::has_rate;
 use charges::spend_credit;
 use charges::take_packet;
 use credits::load_first;
 use credits::load_first_bookings;
+use given::last_given;
+use given::note_given;
 use search::has_turn;
-use search::lowest_open;
+use search::open_in_turn;
 use search::requests_of;
 use search::waiting_outputs;
 use words::places::row_of;
@@ -114,96 +120,112 @@ fn load_worked_out(
     }
 }
 
-// What a turn of pass one gives: the output that the input takes, or output 0, and the outputs for which it had a packet before.
-pub struct TurnResult {
-    pub output: Output,
+// What an input asks for, as two sets of outputs: those for which it has a credit and a packet, and those for which it has a packet. A set is the
+// bitwise or of the table's words for its outputs.
+pub struct Requests {
+    pub ready: u32,
     pub waiting: u32,
 }
 
-// A turn of pass one, which goes by credits and queues and costs a credit and a packet: with the table of all bits the input takes the lowest
-// free output for which it has both.
-pub fn first_turn(
+// What an input asks for at its turn of pass one, by its credits and queues, and by its queues alone.
+pub fn first_requests(
     bits: &[u32; 32],
-    free: u32,
     ports: usize,
     input: Input,
-    credits: &mut [u32],
-    queues: &mut [u32],
-) -> TurnResult
-    ensures output { λ r. ⌜ r .output .0
-        ≡ first-output (now (bits .entry)) free ports (input .0) (now (credits .entry)) (now (queues .entry)) ⌝ }
+    credits: &[u32],
+    queues: &[u32],
+) -> Requests
+    ensures ready { λ r. ⌜ r .ready
+        ≡ first-ready (now (bits .entry)) ports (input .0) (now (credits .entry)) (now (queues .entry)) ⌝ }
     ensures waiting { λ r. ⌜ r .waiting
         ≡ first-waiting (now (bits .entry)) ports (input .0) (now (credits .entry)) (now (queues .entry)) ⌝ }
-    ensures credits_exit { λ r. ⌜ now (credits .exit) ≡ charged ports (now (credits .entry)) (input .0) (r .output .0) ⌝ }
-    ensures queues_exit { λ r. ⌜ now (queues .exit) ≡ charged ports (now (queues .entry)) (input .0) (r .output .0) ⌝ }
-    ensures takes { λ r. ⌜ (now (bits .entry) ≡ powers 0 32
-        → Turn ports (input .0) (now (credits .entry)) → Turn ports (input .0) (now (queues .entry))
-        → r .output .0 ≡ lowest (is-open ports free (now (credits .entry)) (now (queues .entry)) (input .0)) ports) ⌝ }
     ensures tells { λ r. ⌜ (now (bits .entry) ≡ powers 0 32
         → Turn ports (input .0) (now (credits .entry)) → Turn ports (input .0) (now (queues .entry))
-        → r .waiting ≡ ready-mask (now (queues .entry)) (now (queues .entry)) ((input .0 - 1) * ports) ports) ⌝ }
+        → Asked ports (input .0) (now (credits .entry)) (now (queues .entry)) (r .ready) (r .waiting)) ⌝ }
 {
     if !has_turn(ports, input, credits.len()) || !has_turn(ports, input, queues.len()) {
-        return TurnResult {
-            output: Output(0),
+        return Requests {
+            ready: 0,
             waiting: 0,
         };
     }
     let row = row_of(ports, input);
-    let requests = requests_of(bits, ports, row, credits, queues);
-    let output = lowest_open(free, requests.ready, ports);
-    if output.0 > 0 {
-        spend_credit(credits, ports, input, output);
-        take_packet(queues, ports, input, output);
-    }
-    TurnResult {
-        output,
-        waiting: requests.waiting,
-    }
+    requests_of(bits, ports, row, credits, queues)
 }
 
-// A turn of pass two, which goes by queues alone and costs a packet, where the outputs for which the input has a packet are known.
-pub fn waiting_turn(
+// What it asks for at its turn of pass two, by its queues.
+pub fn second_requests(bits: &[u32; 32], ports: usize, input: Input, queues: &[u32]) -> u32
+    ensures waiting { λ r. ⌜ r ≡ second-waiting (now (bits .entry)) ports (input .0) (now (queues .entry)) ⌝ }
+    ensures tells { λ r. ⌜ (now (bits .entry) ≡ powers 0 32 → Turn ports (input .0) (now (queues .entry))
+        → r ≡ ready-mask (now (queues .entry)) (now (queues .entry)) ((input .0 - 1) * ports) ports) ⌝ }
+{
+    if !has_turn(ports, input, queues.len()) {
+        return 0;
+    }
+    let row = row_of(ports, input);
+    waiting_outputs(bits, ports, row, queues)
+}
+
+// A turn of pass two that asks for some outputs: it costs a packet, and what the input takes is its last given output.
+pub fn second_turn(
     free: u32,
-    waiting: u32,
+    asked: u32,
     ports: usize,
     input: Input,
     queues: &mut [u32],
+    given: &mut [u32],
 ) -> Output
-    ensures output { λ r. ⌜ r .0 ≡ waiting-output free waiting ports (input .0) (now (queues .entry)) ⌝ }
+    ensures output { λ r. ⌜ r .0
+        ≡ second-output free asked ports (input .0) (now (queues .entry)) (now (given .entry)) ⌝ }
     ensures queues_exit { λ r. ⌜ now (queues .exit) ≡ charged ports (now (queues .entry)) (input .0) (r .0) ⌝ }
-    ensures takes { λ r. ⌜ (waiting ≡ ready-mask (now (queues .entry)) (now (queues .entry)) ((input .0 - 1) * ports) ports
-        → Turn ports (input .0) (now (queues .entry))
-        → r .0 ≡ lowest (is-open ports free (now (queues .entry)) (now (queues .entry)) (input .0)) ports) ⌝ }
+    ensures given_exit { λ r. ⌜ now (given .exit) ≡ noted (now (given .entry)) (input .0) (r .0) ⌝ }
+    ensures takes { λ r. ⌜ (asked ≡ ready-mask (now (queues .entry)) (now (queues .entry)) ((input .0 - 1) * ports) ports
+        → Turn ports (input .0) (now (queues .entry)) → ports ≤ length (now (given .entry))
+        → r .0 ≡ in-turn (is-open ports free (now (queues .entry)) (now (queues .entry)) (input .0)) ports
+        (port-word (now (given .entry)) (input .0))) ⌝ }
 {
     if !has_turn(ports, input, queues.len()) {
         return Output(0);
     }
-    let output = lowest_open(free, waiting, ports);
+    if given.len() < ports {
+        return Output(0);
+    }
+    let last = last_given(given, input);
+    let output = open_in_turn(free, asked, ports, last);
     if output.0 > 0 {
         take_packet(queues, ports, input, output);
+        note_given(given, input, output);
     }
     output
 }
 
-// That turn, where they are not known yet.
-pub fn second_turn(
-    bits: &[u32; 32],
+// A turn of pass one that asks for some outputs: it costs a credit besides.
+pub fn first_turn(
     free: u32,
+    asked: u32,
     ports: usize,
     input: Input,
+    credits: &mut [u32],
     queues: &mut [u32],
+    given: &mut [u32],
 ) -> Output
-    ensures output { λ r. ⌜ r .0 ≡ second-output (now (bits .entry)) free ports (input .0) (now (queues .entry)) ⌝ }
+    ensures output { λ r. ⌜ r .0
+        ≡ first-output free asked ports (input .0) (now (credits .entry)) (now (queues .entry)) (now (given .entry)) ⌝ }
+    ensures credits_exit { λ r. ⌜ now (credits .exit) ≡ charged ports (now (credits .entry)) (input .0) (r .0) ⌝ }
     ensures queues_exit { λ r. ⌜ now (queues .exit) ≡ charged ports (now (queues .entry)) (input .0) (r .0) ⌝ }
-    ensures takes { λ r. ⌜ (now (bits .entry) ≡ powers 0 32
-        → Turn ports (input .0) (now (queues .entry))
-        → r .0 ≡ lowest (is-open ports free (now (queues .entry)) (now (queues .entry)) (input .0)) ports) ⌝ }
+    ensures given_exit { λ r. ⌜ now (given .exit) ≡ noted (now (given .entry)) (input .0) (r .0) ⌝ }
+    ensures takes { λ r. ⌜ (asked ≡ ready-mask (now (credits .entry)) (now (queues .entry)) ((input .0 - 1) * ports) ports
+        → Turn ports (input .0) (now (credits .entry)) → Turn ports (input .0) (now (queues .entry))
+        → ports ≤ length (now (given .entry))
+        → r .0 ≡ in-turn (is-open ports free (now (credits .entry)) (now (queues .entry)) (input .0)) ports
+        (port-word (now (given .entry)) (input .0))) ⌝ }
 {
-    if !has_turn(ports, input, queues.len()) {
+    if !has_turn(ports, input, credits.len()) {
         return Output(0);
     }
-    let row = row_of(ports, input);
-    let waiting = waiting_outputs(bits, ports, row, queues);
-    waiting_turn(free, waiting, ports, input, queues)
+    let output = second_turn(free, asked, ports, input, queues, given);
+    if output.0 > 0 {
+        spend_credit(credits, ports, input, output);
+    }
+    output
 }

@@ -1,9 +1,13 @@
 // The search that every turn makes, in both passes and both forms.
 ghost use mathlib.Core.Path.{_≡_};
-ghost use Prim.Native.Nat.{_+_, _≤_};
+ghost use mathlib.Core.Bool.{_&&_};
+ghost use Prim.Native.Nat.{ℕ, _+_, _≤_};
+ghost use lib.Dec.{ltb};
 ghost use lib.ListN.{length};
-ghost use Rattle.wsgs.specs.Basics.{pick};
-ghost use Rattle.turns.specs.Requests.{has-turn, both-above, gathered, lowest-common};
+ghost use Rattle.wsgs.specs.Basics.{pick, Port, in-turn};
+ghost use Rattle.turns.specs.Masks.{in-mask};
+ghost use Rattle.turns.specs.Requests.{has-turn, both-above, gathered, common-in-turn};
+use super::Requests;
 use super::credits::credits_at;
 use words::places::is_port;
 use wsgs::Input;
@@ -17,13 +21,6 @@ pub fn has_turn(ports: usize, input: Input, words: usize) -> bool
         return false;
     }
     ports * ports <= words
-}
-
-// What an input asks for, as two sets of outputs: those for which it has a credit and a packet, and those for which it has a packet. A set is the
-// bitwise or of the table's words for its outputs.
-pub struct Requests {
-    pub ready: u32,
-    pub waiting: u32,
 }
 
 // The word where the test holds, else 0, with no branch.
@@ -75,14 +72,38 @@ pub fn waiting_outputs(bits: &[u32; 32], ports: usize, row: usize, queues: &[u32
     waiting
 }
 
-// The lowest output that is free and requested, or output 0.
-pub fn lowest_open(free: u32, requested: u32, ports: usize) -> Output
-    requires ports { ⌜ ports ≤ 32 ⌝ }
-    ensures lowest { λ r. ⌜ r .0 ≡ lowest-common free requested ports ⌝ }
+// The outputs of a set above a number, 0 for none.
+fn above(set: u32, number: u32) -> u32
+    ensures higher { λ r. ⌜ ((j : ℕ) → Port 32 j → in-mask r j ≡ (ltb number j && in-mask set j)) ⌝ }
 {
-    let column = u32::trailing_zeros(free & requested) as usize;
+    if number >= 32 {
+        return 0;
+    }
+    (set >> number) << number
+}
+
+// The lowest output of a set, or output 0.
+fn lowest_of(set: u32, ports: usize) -> Output
+    requires ports { ⌜ ports ≤ 32 ⌝ }
+    ensures lowest { λ r. ⌜ r .0 ≡ in-turn (in-mask set) ports 0 ⌝ }
+{
+    let column = u32::trailing_zeros(set) as usize;
     if column < ports {
         return Output(column as u64 + 1);
     }
     Output(0)
+}
+
+// Of the outputs that are free and asked for, the first from one past the last given one, wrapping from the last port to the first: the lowest above
+// that one, else the lowest; or output 0.
+pub fn open_in_turn(free: u32, asked: u32, ports: usize, last: u32) -> Output
+    requires ports { ⌜ ports ≤ 32 ⌝ }
+    ensures first { λ r. ⌜ r .0 ≡ common-in-turn free asked ports last ⌝ }
+{
+    let open = free & asked;
+    let higher = lowest_of(above(open, last), ports);
+    if higher.0 > 0 {
+        return higher;
+    }
+    lowest_of(open, ports)
 }

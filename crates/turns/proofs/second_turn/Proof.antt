@@ -1,59 +1,107 @@
--- `turns::second_turn` meets its contract: the sweep gives the outputs by which the turn goes. Assumes nothing.
+-- `turns::second_turn` meets its contract: where the input has a turn, the output that the search finds is a port. Assumes nothing.
 use mathlib.Core.Path.{_≡_, sym, _∙_, ap}
+use mathlib.Core.Bool.{_&&_}
+use Prim.Native.Nat.{_≤_}
 use native.Mathlib.Omega.{arith}
 use borrow.Author.Needs.{needs}
-use Rattle.turns.specs.Requests.{Turn, waiting-output, second-output}
-use Rattle.turns.proofs.Choice.{charged-none}
-use Rattle.turns.proofs.TurnLaws.{due, not-due, row-there, without-turn, requested-at, second-takes}
+use lib.Dec.{leb}
+use lib.ListN.{length}
+use borrow.Author.Tests.{le-leb, lt-leb}
+use Rattle.wsgs.specs.Basics.{Port}
+use Rattle.wsgs.specs.Words.{port-word}
+use Rattle.wsgs.proofs.Laws.InTurn.{in-turn-some}
+use Rattle.turns.specs.Requests.{has-turn, Turn, common-in-turn, second-output}
+use Rattle.turns.proofs.Choice.{charged-some, charged-none, noted-some, noted-none}
+use Rattle.turns.proofs.TurnLaws.{due, is-due, not-due, with-turn, without-turn, both-yes, first-no, second-no, second-takes}
 use Rattle.turns.proofs.second_turn.Statement.{statement}
 use Rattle.turns.proofs.second_turn.Tie as tie
 
--- the turn that the input has, and its row
-allowed : (c : tie.Else1) → let a = c .before .before .before .args in Turn (a .ports) (a .input .0) (a .queues .now)
+-- the entry, and the turn that the input has
+abbrev start : tie.After-has-turn → tie.Start
+start c = c .before .before .before
+
+allowed : (c : tie.Else1) → let a = start (c .before) .args in Turn (a .ports) (a .input .0) (a .queues .now)
 allowed c = due _ _ _ (c .before .has-turn .ensures) (c .if1 .left)
 
-abbrev start : tie.After-row-of → tie.Start
-start r = r .before .before .before .before
+-- the search, and from there the questions
+abbrev asked : tie.After-open-in-turn → tie.Else2
+asked o = o .before .before .before
 
--- the output that is found
-found : (t : tie.After-waiting-turn) → let a = start (t .before .before .before .before) .args in
-    t .waiting-turn .result .0 ≡ second-output (a .bits .now) (a .free) (a .ports) (a .input .0) (a .queues .now)
-found t =
-    let w = t .before .before in
-    let r = w .before .before in
-    let a = start r .args in
-    t .waiting-turn .ensures .0
-    ∙ ap (λ asked. waiting-output (a .free) asked (a .ports) (a .input .0) (a .queues .now))
-    (requested-at (a .bits .now) (a .queues .now) (a .queues .now) _ (a .input .0) _ _ (row-there _ _ _ (allowed (r .before)) _ (r .row-of .ensures .0))
-    (w .waiting-outputs .ensures))
+-- the output that is found, and that it is a port where it is taken
+found : (o : tie.After-open-in-turn) → let a = start (asked o .before .before) .args in
+    o .open-in-turn .result .0 ≡ second-output (a .free) (a .asked) (a .ports) (a .input .0) (a .queues .now) (a .given .now)
+found o =
+    let e = asked o in
+    let a = start (e .before .before) .args in
+    with-turn (both-yes (is-due _ _ _ (allowed (e .before))) (le-leb (a .ports) (length (a .given .now)) (omega arith)))
+    (o .open-in-turn .ensures ∙ ap (common-in-turn (a .free) (a .asked) (a .ports)) (o .before .last-given .ensures))
+
+taken : (c : tie.Then3) → let o = c .before .before in Port (start (asked o .before .before) .args .ports) (o .open-in-turn .result .0)
+taken c = in-turn-some _ _ _ _ (c .before .before .open-in-turn .ensures) (c .if3 .taken) .0
 
 has-turn-requires : tie.Need-has-turn-requires
 has-turn-requires c κs = search needs
 
 returns : tie.Need-returns
 returns c =
-    let e = without-turn _ (not-due _ _ _ (c .before .has-turn .ensures) (c .if1 .taken)) in
-    (e, (sym (charged-none _ _ _ _ (omega arith)), λ all t. second-takes _ _ _ _ all t _ _ e))
+    let e = without-turn _ (first-no _ (not-due _ _ _ (c .before .has-turn .ensures) (c .if1 .taken))) in
+    (e, (sym (charged-none _ _ _ _ (omega arith)), (sym (noted-none _ _ _ (omega arith)), λ is sent known. second-takes _ _ _ _ sent known _ _ is _ _ e)))
 
-row-of-requires : tie.Need-row-of-requires
-row-of-requires c κs = search needs
+returns-2 : tie.Need-returns-2
+returns-2 c =
+    let a = start (c .before .before) .args in
+    let e = without-turn _ (second-no (has-turn (a .ports) (a .input .0) (length (a .queues .now))) (lt-leb (a .ports) (length (a .given .now)) (c .if2 .taken))) in
+    (e, (sym (charged-none _ _ _ _ (omega arith)), (sym (noted-none _ _ _ (omega arith)), λ is sent known. second-takes _ _ _ _ sent known _ _ is _ _ e)))
 
-waiting-outputs-requires : tie.Need-waiting-outputs-requires
-waiting-outputs-requires c κs =
-    let r = c .before in
-    let d = allowed (r .before) in
-    (d .few, omega (arith, r .row-of .ensures .1, d .long))
+last-given-requires : tie.Need-last-given-requires
+last-given-requires c κs = let d = allowed (c .before .before) in (d .port .low, omega (arith, d .port .high))
 
-waiting-turn-requires : tie.Need-waiting-turn-requires
-waiting-turn-requires c κs = search needs
+open-in-turn-requires : tie.Need-open-in-turn-requires
+open-in-turn-requires c κs = allowed (c .before .before .before) .few
+
+take-packet-requires : tie.Need-take-packet-requires
+take-packet-requires c κs =
+    let t = c .before in
+    let d = allowed (asked (t .before .before) .before) in
+    (d .few, (d .port, (taken t, d .long)))
+
+note-given-requires : tie.Need-note-given-requires
+note-given-requires c κs =
+    let t = c .before .before .before .before .before in
+    let d = allowed (asked (t .before .before) .before) in
+    (d .port .low, (omega (arith, d .port .high), omega (arith, taken t .high, d .few)))
 
 same-length : tie.Need-same-length
 same-length c = search needs
 
-returns-2 : tie.Need-returns-2
-returns-2 c =
-    let t = c .before .before in
-    (found t, (t .waiting-turn .ensures .1 .0, λ all turn. second-takes _ _ _ _ all turn _ _ (found t)))
+same-length-2 : tie.Need-same-length-2
+same-length-2 c = search needs
+
+returns-3 : tie.Need-returns-3
+returns-3 c =
+    let g = c .before .before in
+    let p = g .before .before .before .before in
+    let t = p .before .before in
+    let o = t .before .before in (
+      found o,
+      (
+        p .take-packet .ensures ∙ sym (charged-some _ _ _ _ (t .if3 .taken)),
+        (g .note-given .ensures ∙ sym (noted-some _ _ _ (t .if3 .taken)), λ is sent known. second-takes _ _ _ _ sent known _ _ is _ _ (found o)),
+      ),
+    )
+
+same-length-3 : tie.Need-same-length-3
+same-length-3 c = search needs
+
+returns-4 : tie.Need-returns-4
+returns-4 c =
+    let o = c .before .before in (
+      found o,
+      (
+        sym (charged-none _ _ _ _ (c .if3 .left)),
+        (sym (noted-none _ _ _ (c .if3 .left)), λ is sent known. second-takes _ _ _ _ sent known _ _ is _ _ (found o)),
+      ),
+    )
 
 pub second-turn-spec : {M : Type 1} → statement M
 second-turn-spec =
@@ -61,8 +109,13 @@ second-turn-spec =
     (tie.spec
     has-turn-requires
     returns
-    row-of-requires
-    waiting-outputs-requires
-    waiting-turn-requires
+    returns-2
+    last-given-requires
+    open-in-turn-requires
+    take-packet-requires
+    note-given-requires
     same-length
-    returns-2)
+    same-length-2
+    returns-3
+    same-length-3
+    returns-4)

@@ -186,6 +186,12 @@ in-turn-at p n last v pv t h = go (in-turn p n last) (in-turn-is p n last)
         at (no l) (yes g) = absurd (T-not (p v) (r .2 v pv g) t)
         at (no l) (no g) = ahead-once n k w v (next-port n last (omega arith)) (r .0) pv (omega arith)
 
+-- the lowest that passes is given where the search begins at 1
+pub in-turn-lowest : (p : ℕ → Bool) (n v : ℕ) → Port n v → T (p v) → ((y : ℕ) → Port n y → y < v → T (not (p y))) → in-turn p n 0 ≡ v
+in-turn-lowest p n v pv t h =
+    in-turn-at p n 0 v pv t
+    (λ y q l. h y q (omega (arith, rw (next-below n 0 (omega arith)) at l, ahead-from n 1 y (q .low), ahead-from n 1 v (pv .low))))
+
 -- where nobody passes, nobody is given
 pub in-turn-nobody : (p : ℕ → Bool) (n last : ℕ) → ((y : ℕ) → Port n y → T (not (p y))) → in-turn p n last ≡ 0
 in-turn-nobody p n last h = go (in-turn p n last) (in-turn-is p n last)

@@ -1,0 +1,26 @@
+-- `search::above` meets its contract: the bits below are shifted out and back. Assumes nothing.
+use mathlib.Core.Path.{_∙_, ap}
+use native.Mathlib.Omega.{arith}
+use borrow.Author.Needs.{needs}
+use Rattle.turns.specs.Masks.{in-mask}
+use Rattle.turns.proofs.BitLaws.{shifted-back, outputs-above, none-above}
+use Rattle.turns.proofs.search.above.Statement.{statement}
+use Rattle.turns.proofs.search.above.Tie as tie
+
+returns : tie.Need-returns
+returns c = λ j p. none-above (c .before .args .set) (c .before .args .number) j (omega arith) (p .high)
+
+shr-result : tie.Need-shr-result
+shr-result c = search needs
+
+shl-result : tie.Need-shl-result
+shl-result c = search needs
+
+returns-2 : tie.Need-returns-2
+returns-2 c =
+    λ j p.
+    let a = c .before .args in
+    ap (λ w. in-mask w j) (shifted-back (a .set) (a .number) (c .before .fits .set .fits)) ∙ outputs-above (a .set) (a .number) j (p .low)
+
+pub above-spec : {M : Type 1} → statement M
+above-spec = tie.close (tie.spec returns shr-result shl-result returns-2)
