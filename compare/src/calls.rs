@@ -10,12 +10,12 @@ pub mod exported {
     extern "C" {
         pub fn kivdrag_start_direct(
             ports: u64, frame: u64, line: u64, clock: *mut u32, slots: *mut u32, slots_len: usize, rates: *mut u32, rates_len: usize,
-            credits: *mut u32, credits_len: usize, queues: *mut u32, queues_len: usize,
+            credits: *mut u32, credits_len: usize, queues: *mut u32, queues_len: usize, given: *mut u32, given_len: usize,
         ) -> u32;
         pub fn kivdrag_start_pipelined(
             ports: u64, frame: u64, line: u64, clock: *mut u32, slots: *mut u32, slots_len: usize, rates: *mut u32, rates_len: usize,
-            credits: *mut u32, credits_len: usize, queues: *mut u32, queues_len: usize, copy: *mut u32, copy_len: usize,
-            flight: *mut u32, flight_len: usize,
+            credits: *mut u32, credits_len: usize, queues: *mut u32, queues_len: usize, given: *mut u32, given_len: usize,
+            copy: *mut u32, copy_len: usize, flight: *mut u32, flight_len: usize,
         ) -> u32;
         pub fn kivdrag_book(
             clock: *const u32, slots: *mut u32, slots_len: usize, rates: *const u32, rates_len: usize, input: u64, output: u64, amount: u64,
@@ -52,12 +52,12 @@ pub mod exported {
         pub fn kivdrag_arrive(clock: *const u32, queues: *mut u32, queues_len: usize, input: u64, output: u64, packets: u64) -> u32;
         pub fn kivdrag_tick_direct(
             clock: *mut u32, slots: *const u32, slots_len: usize, rates: *const u32, rates_len: usize, credits: *mut u32, credits_len: usize,
-            queues: *mut u32, queues_len: usize, outputs: *mut u8, first_pass: *mut u32,
+            queues: *mut u32, queues_len: usize, given: *mut u32, given_len: usize, outputs: *mut u8, first_pass: *mut u32,
         ) -> u32;
         pub fn kivdrag_tick_pipelined(
             clock: *mut u32, slots: *const u32, slots_len: usize, rates: *const u32, rates_len: usize, credits: *mut u32, credits_len: usize,
-            queues: *mut u32, queues_len: usize, copy: *mut u32, copy_len: usize, flight: *mut u32, flight_len: usize,
-            outputs: *mut u8, first_pass: *mut u32,
+            queues: *mut u32, queues_len: usize, given: *mut u32, given_len: usize, copy: *mut u32, copy_len: usize,
+            flight: *mut u32, flight_len: usize, outputs: *mut u8, first_pass: *mut u32,
         ) -> u32;
     }
 }
@@ -134,7 +134,7 @@ pub static CALLS: [Call; 14] = [
             lent(s, |clock, w| unsafe {
                 kivdrag_start_direct(
                     n, f, line, clock, w.slots.as_mut_ptr(), w.slots.len(), w.rates.as_mut_ptr(), w.rates.len(), w.credits.as_mut_ptr(),
-                    w.credits.len(), w.queues.as_mut_ptr(), w.queues.len(),
+                    w.credits.len(), w.queues.as_mut_ptr(), w.queues.len(), w.given.as_mut_ptr(), w.given.len(),
                 )
             })
         },
@@ -155,8 +155,8 @@ pub static CALLS: [Call; 14] = [
             lent(s, |clock, w| unsafe {
                 kivdrag_start_pipelined(
                     n, f, line, clock, w.slots.as_mut_ptr(), w.slots.len(), w.rates.as_mut_ptr(), w.rates.len(), w.credits.as_mut_ptr(),
-                    w.credits.len(), w.queues.as_mut_ptr(), w.queues.len(), w.copy.as_mut_ptr(), w.copy.len(), w.flight.as_mut_ptr(),
-                    w.flight.len(),
+                    w.credits.len(), w.queues.as_mut_ptr(), w.queues.len(), w.given.as_mut_ptr(), w.given.len(), w.copy.as_mut_ptr(),
+                    w.copy.len(), w.flight.as_mut_ptr(), w.flight.len(),
                 )
             })
         },
@@ -317,7 +317,7 @@ pub static CALLS: [Call; 14] = [
             lent_with_answer(s, |clock, w, outputs, first| unsafe {
                 kivdrag_tick_direct(
                     clock, w.slots.as_ptr(), w.slots.len(), w.rates.as_ptr(), w.rates.len(), w.credits.as_mut_ptr(), w.credits.len(),
-                    w.queues.as_mut_ptr(), w.queues.len(), outputs, first,
+                    w.queues.as_mut_ptr(), w.queues.len(), w.given.as_mut_ptr(), w.given.len(), outputs, first,
                 )
             })
         },
@@ -335,7 +335,8 @@ pub static CALLS: [Call; 14] = [
             lent_with_answer(s, |clock, w, outputs, first| unsafe {
                 kivdrag_tick_pipelined(
                     clock, w.slots.as_ptr(), w.slots.len(), w.rates.as_ptr(), w.rates.len(), w.credits.as_mut_ptr(), w.credits.len(),
-                    w.queues.as_mut_ptr(), w.queues.len(), w.copy.as_mut_ptr(), w.copy.len(), w.flight.as_mut_ptr(), w.flight.len(), outputs, first,
+                    w.queues.as_mut_ptr(), w.queues.len(), w.given.as_mut_ptr(), w.given.len(), w.copy.as_mut_ptr(), w.copy.len(),
+                    w.flight.as_mut_ptr(), w.flight.len(), outputs, first,
                 )
             })
         },

@@ -1,10 +1,11 @@
 //! What happened at the calls of a test, and how often: a test that compares much and meets little says nothing.
 
 use crate::calls::{Arguments, Call, Reply};
+use crate::turns::{of_tick, reads_book, Turn};
 use second::book::{rate_part, within_8, within_9, Book, MOST};
 use second::switch::MAX_LINE_RATE;
-use second::{Form, Switch};
-use std::collections::BTreeMap;
+use second::{Form, Pass, Switch};
+use std::collections::{BTreeMap, BTreeSet};
 
 #[derive(Clone, Copy, Debug, PartialEq, Eq, PartialOrd, Ord)]
 pub enum Event {
@@ -30,6 +31,50 @@ pub enum Event {
     PairAboveWord,
     /// it showed 0 and 0 beside this number, and neither sum of the book is 0
     Hid(u32),
+    /// it was refused with 4, and of all runs only the last given outputs were too short
+    GivenTooShort,
+    /// it was accepted, though the last given outputs were too short for a tick
+    GivenNotAsked,
+    /// an input had a turn of this kind, by pass one or by pass two
+    Chose { by_first: bool, choice: Choice },
+}
+
+#[derive(Clone, Copy, Debug, PartialEq, Eq, PartialOrd, Ord)]
+pub enum Choice {
+    /// the lowest output that it might have taken was not the one taken: the word decided
+    NotLowest,
+    /// it found an output below N, and took one that is not past it
+    Wrapped,
+    /// it found N, and took an output
+    PastN,
+    /// it took the output that it was last given
+    Again,
+    /// it found a word outside 1 to N, 0 or above N, and took an output
+    OutsideReplaced { zero: bool },
+    /// it found a word above N, and took none
+    OutsideKept,
+    /// it found what the pass-one turn of the same tick had left, and took an output
+    FromSameTick,
+    /// and took another than it would have taken with the word before that
+    BySameTick,
+}
+
+/// The kinds that a turn is of.
+fn choices(turn: &Turn) -> Vec<Choice> {
+    let (found, n) = (turn.found, turn.ports);
+    let Some(taken) = turn.taken else {
+        return if found > n { vec![Choice::OutsideKept] } else { Vec::new() };
+    };
+    let kinds = [
+        (turn.lowest != turn.taken, Choice::NotLowest),
+        (taken <= found && found < n, Choice::Wrapped),
+        (found == n, Choice::PastN),
+        (taken == found, Choice::Again),
+        (found == 0 || found > n, Choice::OutsideReplaced { zero: found == 0 }),
+        (turn.from_same_tick, Choice::FromSameTick),
+        (turn.from_same_tick && turn.by_word_before != turn.taken, Choice::BySameTick),
+    ];
+    kinds.into_iter().filter(|&(is, _)| is).map(|(_, kind)| kind).collect()
 }
 
 #[derive(Clone, Copy, Debug, PartialEq, Eq, PartialOrd, Ord)]
@@ -84,10 +129,13 @@ fn above_word(call: &Call, s: &Switch, [i, j, amount]: Arguments) -> bool {
     slots + rate_part(rate, s.f(), s.clock.line as u64) > MOST
 }
 
-/// Whether the next tick reads the book.
-fn reads_book(form: Form, s: &Switch) -> bool {
-    let ahead = if form == Form::Pipelined { 2 * s.n() } else { 0 };
-    (s.clock.last as u64 + ahead).is_multiple_of(s.f())
+/// The ports of the switch that a call asks about: those that a start is given, or the clock's.
+fn ports_asked(call: &Call, [ports, ..]: Arguments, s: &Switch) -> u64 {
+    if call.name.starts_with("start") {
+        ports
+    } else {
+        s.n()
+    }
 }
 
 /// How often each call met each event.
@@ -109,6 +157,9 @@ impl Tally {
         if call.previewed().is_some() {
             self.note_preview(call, arguments, before, reply);
         }
+        if (before.words.given.len() as u64) < ports_asked(call, arguments, before) {
+            self.note_short_given(call, form, arguments, before, reply);
+        }
         if reply.refusal() != 0 {
             return;
         }
@@ -119,8 +170,32 @@ impl Tally {
         if call.form.is_none() && before.words.rates != after.words.rates && bookings(before) == bookings(after) {
             self.add(call, Event::NoBookingChanged);
         }
-        if call.name.starts_with("tick") && reads_book(form, before) {
-            self.note_reading(call, before);
+        if call.name.starts_with("tick") {
+            if reads_book(form, before) {
+                self.note_reading(call, before);
+            }
+            let (turns, left) = of_tick(form, before);
+            assert_eq!(left, *after, "the turns one by one leave something else");
+            self.note_turns(call, &turns);
+        }
+    }
+
+    /// Each kind of turn once for a tick.
+    fn note_turns(&mut self, call: &Call, turns: &[Turn]) {
+        let events = |turn| choices(turn).into_iter().map(|choice| Event::Chose { by_first: turn.pass == Pass::One, choice });
+        turns.iter().flat_map(events).collect::<BTreeSet<_>>().into_iter().for_each(|event| self.add(call, event));
+    }
+
+    /// A call that found too few words of last given outputs; where it is refused, it is tried with enough of them.
+    fn note_short_given(&mut self, call: &Call, form: Form, arguments: Arguments, s: &Switch, reply: Reply) {
+        if reply.refusal() == 0 {
+            self.add(call, Event::GivenNotAsked);
+        } else if reply.refusal() == 4 {
+            let mut longer = s.clone();
+            longer.words.given.resize(ports_asked(call, arguments, s) as usize, 0);
+            if (call.by_second)(&mut longer, form, arguments).refusal() != 4 {
+                self.add(call, Event::GivenTooShort);
+            }
         }
     }
 

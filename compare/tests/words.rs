@@ -2,7 +2,7 @@
 //! KIVDRAG_SEED, KIVDRAG_CALLS and KIVDRAG_LISTS set another seed and other counts.
 
 use compare::calls::{Arguments, Call, Reply, CALLS, MOST_LISTED};
-use compare::tally::{Event, Headroom, Line, Tally};
+use compare::tally::{Choice, Event, Headroom, Line, Tally};
 use compare::{rules, setting, Random};
 use second::book::{rate_part, MOST};
 use second::ledger::Ledger;
@@ -37,6 +37,8 @@ fn both(call: &Call, form: Form, arguments: Arguments, s: &mut Switch, tally: &m
     let said = || format!("{} {form:?} {arguments:?} on {before:?}", call.name);
     assert_eq!(reply, expected, "{}", said());
     assert_eq!(*s, other, "{}", said());
+    let past_ports = s.n() as usize..;
+    assert_eq!(s.words.given.get(past_ports.clone()), before.words.given.get(past_ports), "words past N stay: {}", said());
     if reply.refusal() != 0 {
         let shows_sums = call.previewed().is_some() && [8, 9].contains(&reply.refusal());
         let refused = Reply { sums: if shows_sums { reply.sums } else { [0; 2] }, ..Reply::refused(reply.refusal()) };
@@ -98,6 +100,18 @@ fn most_used(n: u64, run: Run) -> usize {
     FORMS.into_iter().filter_map(|form| used(rules(), form, true, n, run)).max().unwrap_or(0)
 }
 
+/// Last given outputs of every kind: ports, 0, and words outside the ports.
+fn any_given(r: &mut Random, n: u64, length: usize) -> Vec<u32> {
+    let word = |r: &mut Random| match r.within(0, 11) {
+        0 => 0,
+        1 => r.of(&[n as u32 + 1, n as u32 + 100, u32::MAX]),
+        2 => n as u32,
+        3 => r.next() as u32,
+        _ => r.within(1, n.max(1)) as u32,
+    };
+    (0..length).map(|_| word(r)).collect()
+}
+
 /// A clock of any contents, also where the level in force does not look.
 fn any_clock(r: &mut Random) -> Clock {
     Clock {
@@ -142,6 +156,7 @@ fn any_switch(r: &mut Random) -> Switch {
         *s.words.run_mut(run) = match (run, kind) {
             (Run::Slots | Run::Rates, 1..=10) => near_limits(r, &s.clock, run, length),
             (Run::Slots | Run::Rates, 11) => vec![u32::MAX; length],
+            (Run::Given, _) => any_given(r, n, length),
             _ => any_run(r, n, length),
         };
     }
@@ -182,7 +197,8 @@ fn told(booked: bool, headroom: Headroom) -> Event {
 }
 
 /// Every call gave every number that it has, and often; rates changed without their bookings, and were read with line rates of every kind;
-/// headrooms were of every kind, the lowest of all too; and previews showed and hid sums of every kind.
+/// headrooms were of every kind, the lowest of all too; previews showed and hid sums of every kind; and outputs were taken in turn from words of
+/// every kind, and too few of these words mattered to starts and ticks, and to no other call.
 fn enough_is_met(tally: &Tally) {
     for call in &CALLS {
         [0].iter().chain(call.questions).for_each(|&number| tally.at_least_one_in(100, call.name, Event::Gave(number)));
@@ -203,6 +219,14 @@ fn enough_is_met(tally: &Tally) {
     }
     tally.at_least_one_in(3_000, "headroom", told(true, Headroom::Lowest));
     previews_are_met(tally);
+    turns_are_met(tally, 100);
+    outside_words_are_met(tally);
+    for call in &CALLS {
+        let event = if call.form.is_some() { Event::GivenTooShort } else { Event::GivenNotAsked };
+        tally.at_least_one_in(1_000, call.name, event);
+        let other = if call.form.is_some() { Event::GivenNotAsked } else { Event::GivenTooShort };
+        assert_eq!(tally.count(call.name, other), 0, "{}: {other:?}", call.name);
+    }
     for name in PREVIEWS {
         tally.at_least_one_in(100, name, Event::SumAboveWord);
         tally.at_least_one_in(300, name, Event::PairAboveWord);
@@ -210,6 +234,36 @@ fn enough_is_met(tally: &Tally) {
     }
     for name in ["preview_release", "preview_release_rate"] {
         tally.at_least_one_in(100, name, showed(0, false, false));
+    }
+}
+
+const TICKS: [&str; 2] = ["tick_direct", "tick_pipelined"];
+
+fn chose(by_first: bool, choice: Choice) -> Event {
+    Event::Chose { by_first, choice }
+}
+
+/// In both passes the word decided, a search wrapped, one began past N, and one came round to the output last given; in the pipelined form a
+/// pass-two turn went on from what the pass-one turn of the same tick had left, which decided.
+fn turns_are_met(tally: &Tally, many: u64) {
+    for (name, by_first) in TICKS.into_iter().flat_map(|name| [(name, true), (name, false)]) {
+        for choice in [Choice::NotLowest, Choice::Wrapped, Choice::PastN, Choice::Again, Choice::OutsideReplaced { zero: true }] {
+            tally.at_least_one_in(many, name, chose(by_first, choice));
+        }
+    }
+    for choice in [Choice::FromSameTick, Choice::BySameTick] {
+        tally.at_least_one_in(many, "tick_pipelined", chose(false, choice));
+        let elsewhere = [("tick_direct", true), ("tick_direct", false), ("tick_pipelined", true)];
+        assert!(elsewhere.into_iter().all(|(name, by_first)| tally.count(name, chose(by_first, choice)) == 0));
+    }
+}
+
+/// In both passes words above N were found, by turns that replaced them and by turns that left them.
+fn outside_words_are_met(tally: &Tally) {
+    for (name, by_first) in TICKS.into_iter().flat_map(|name| [(name, true), (name, false)]) {
+        for choice in [Choice::OutsideReplaced { zero: false }, Choice::OutsideKept] {
+            tally.at_least_one_in(500, name, chose(by_first, choice));
+        }
     }
 }
 
@@ -347,6 +401,7 @@ fn long_lists_keep_demand_3_headroom_and_previews() {
         rates_are_met(&tally);
         headrooms_are_met(&tally);
         previews_are_met(&tally);
+        turns_are_met(&tally, 400);
     }
 }
 
