@@ -7,8 +7,12 @@
  * frame when (k - 1) mod F is 0. A pair of an input and an output can book slots of each frame. A slot is scheduled
  * in two passes, in each of which the inputs have their turns from 1 to N:
  *
- *   pass one  an input takes the lowest free output for which it has a credit and a packet, and both fall by 1;
- *   pass two  an input without output takes the lowest free one for which it has a packet, and only packets fall.
+ *   pass one  an input takes a free output for which it has a credit and a packet, and both fall by 1;
+ *   pass two  an input without output takes a free one for which it has a packet, and only packets fall.
+ *
+ * Of the outputs that it may take, an input takes the first in turn: it looks from one past the output that it was
+ * last given, by either pass, up to N, and then from 1 on, so that the one last given comes last. An input that was
+ * never given an output looks from 1 on.
  *
  * Credits are set anew from the bookings for each frame, so a change of the bookings counts from the next frame whose
  * bookings are read.
@@ -36,11 +40,13 @@
  *   rates    N * N words: the sum of the rates that a pair holds
  *   credits  N * N words: the booked slots that a pair has left in the present frame
  *   queues   N * N words: the packets of a pair that are not scheduled yet
+ *   given    N words: the output that an input was last given; 0, or any word above N, for none yet
  *   copy     N * N words, pipelined form only: the bookings as they were last read
  *   flight   2 * N * N words, pipelined form only: the pairs of slots to come
  *
- * The word of input i and output j stands at [(i - 1) * N + (j - 1)]. In flight the word of input i for slot s stands
- * at [(s mod 2N) * N + (i - 1)]: j for output j by pass two, 100 + j by pass one, and 0, or any other word, for none.
+ * The word of input i and output j stands at [(i - 1) * N + (j - 1)], and in given the word of input i at [i - 1]. In
+ * flight the word of input i for slot s stands at [(s mod 2N) * N + (i - 1)]: j for output j by pass two, 100 + j by
+ * pass one, and 0, or any other word, for none.
  *
  * A word is a uint32_t. A run of words is two arguments, a pointer to its first word and its length, counted in
  * words. A run may be longer than needed: the words beyond have no effect and are not written. All of it may be read
@@ -78,10 +84,12 @@
 #define KIVDRAG_REFUSED_RELEASE 10u /* Release: does the pair hold at least so many slots, or so much rate? */
 #define KIVDRAG_REFUSED_QUEUE 11u   /* Arrival: would the pair's queue hold at most 1,000,000 packets? */
 
-/* The most ports of a switch, and its words: of clock; of slots, rates, credits, queues and copy each; of flight. */
+/* The most ports of a switch, and its words: of clock; of slots, rates, credits, queues and copy each; of given; of
+   flight. */
 #define KIVDRAG_PORTS_MAX 32
 #define KIVDRAG_CLOCK_WORDS 4
 #define KIVDRAG_PAIR_WORDS(ports) ((size_t)(ports) * (size_t)(ports))
+#define KIVDRAG_GIVEN_WORDS(ports) ((size_t)(ports))
 #define KIVDRAG_FLIGHT_WORDS(ports) (2 * (size_t)(ports) * (size_t)(ports))
 
 /* Where the number of ports, the length of a frame, the last slot run and the line rate stand in a clock. */
@@ -98,23 +106,24 @@ extern "C" {
  * Starts a direct switch, on memory with any contents.
  *
  * ports is N, 1 to 32; frame is F, 1 to 10,000; line is B, 0 to 100,000,000. slots, rates, credits and queues have
- * N * N words or more.
- * Sets the clock to ports, frame, 0 and line, and the first N * N words of each run to 0.
+ * N * N words or more, given N.
+ * Sets the clock to ports, frame, 0 and line, and the first N * N words of each run, of given the first N, to 0.
  * Refusals: 1 (ports), 2 (frame), 4 (a run is too short), 6 (line).
  */
 uint32_t kivdrag_start_direct(uint64_t ports, uint64_t frame, uint64_t line, uint32_t clock[4],
                               uint32_t *slots, size_t slots_length,
                               uint32_t *rates, size_t rates_length,
                               uint32_t *credits, size_t credits_length,
-                              uint32_t *queues, size_t queues_length);
+                              uint32_t *queues, size_t queues_length,
+                              uint32_t *given, size_t given_length);
 
 /*
  * Starts a pipelined switch, on memory with any contents.
  *
  * ports is N, 1 to 32; frame is F, 1 to 10,000 and at least N; line is B, 0 to 100,000,000. slots, rates, credits,
- * queues and copy have N * N words or more, flight 2 * N * N.
- * Sets the clock to ports, frame, 0 and line, and the first N * N words of each run, of flight the first 2 * N * N,
- * to 0.
+ * queues and copy have N * N words or more, given N, flight 2 * N * N.
+ * Sets the clock to ports, frame, 0 and line, and the first N * N words of each run, of given the first N, of flight
+ * the first 2 * N * N, to 0.
  * Refusals: 1 (ports), 2 (frame), 3 (frame below ports), 4 (a run is too short), 6 (line).
  */
 uint32_t kivdrag_start_pipelined(uint64_t ports, uint64_t frame, uint64_t line, uint32_t clock[4],
@@ -122,6 +131,7 @@ uint32_t kivdrag_start_pipelined(uint64_t ports, uint64_t frame, uint64_t line, 
                                  uint32_t *rates, size_t rates_length,
                                  uint32_t *credits, size_t credits_length,
                                  uint32_t *queues, size_t queues_length,
+                                 uint32_t *given, size_t given_length,
                                  uint32_t *copy, size_t copy_length,
                                  uint32_t *flight, size_t flight_length);
 
@@ -268,9 +278,10 @@ uint32_t kivdrag_arrive(const uint32_t clock[4], uint32_t *queues, size_t queues
 /*
  * Runs the next slot of a direct switch: slot k, where clock[2] is k - 1 before the call and k after it.
  *
- * slots, rates, credits and queues have N * N words or more.
- * Advances clock[2], and writes credits and queues: in the first slot of a frame the credits become the bookings, and
- * then each pair that is served loses a packet, and by pass one a credit too.
+ * slots, rates, credits and queues have N * N words or more, given N.
+ * Advances clock[2], and writes credits, queues and given: in the first slot of a frame the credits become the
+ * bookings; then each pair that is served loses a packet, and by pass one a credit too, and its output becomes the word
+ * of its input in given. The word of an input that is given no output stays, whatever it is.
  * Answers the pairs of slot k: outputs[i - 1] is the output of input i, or 0 for none, and 0 for inputs above N; bit
  * i - 1 of *first_pass, the lowest bit being bit 0, is 1 where pass one served input i. Both are written whole by
  * every call, and are all 0 where it is refused.
@@ -280,6 +291,7 @@ uint32_t kivdrag_tick_direct(uint32_t clock[4], const uint32_t *slots, size_t sl
                              const uint32_t *rates, size_t rates_length,
                              uint32_t *credits, size_t credits_length,
                              uint32_t *queues, size_t queues_length,
+                             uint32_t *given, size_t given_length,
                              uint8_t outputs[32], uint32_t *first_pass);
 
 /*
@@ -287,11 +299,12 @@ uint32_t kivdrag_tick_direct(uint32_t clock[4], const uint32_t *slots, size_t sl
  * are handed out. That is slot k + 1, where clock[2] is k - 1 before the call and k after it. Slots up to N are idle,
  * and slots N + 1 to 2N know only pass two.
  *
- * slots, rates, credits, queues and copy have N * N words or more, flight 2 * N * N.
- * Advances clock[2], and writes credits, queues, copy and flight: where slot k + 2N is the first of a frame, copy
- * becomes the bookings; an input that comes to a slot that is the first of a frame reloads its credits from copy;
- * each output that an input takes at one of its turns is noted in flight, and costs a packet, and by pass one a
- * credit too; the row of flight that is handed out becomes 0.
+ * slots, rates, credits, queues and copy have N * N words or more, given N, flight 2 * N * N.
+ * Advances clock[2], and writes credits, queues, given, copy and flight: where slot k + 2N is the first of a frame,
+ * copy becomes the bookings; an input that comes to a slot that is the first of a frame reloads its credits from copy;
+ * each output that an input takes at one of its turns is noted in flight and in given, and costs a packet, and by pass
+ * one a credit too; the row of flight that is handed out becomes 0. The output last given is the one that was taken
+ * last, for whichever slot: the pass-two turn of an input goes on from what its pass-one turn in the same tick took.
  * Answers as kivdrag_tick_direct does, for slot k + 1.
  * Refusals: 1, 2 (the clock's ports or frame), 3 (frame below ports), 4 (a run is too short), 7 (clock[2] is
  * 4,000,000,000 or more).
@@ -300,6 +313,7 @@ uint32_t kivdrag_tick_pipelined(uint32_t clock[4], const uint32_t *slots, size_t
                                 const uint32_t *rates, size_t rates_length,
                                 uint32_t *credits, size_t credits_length,
                                 uint32_t *queues, size_t queues_length,
+                                uint32_t *given, size_t given_length,
                                 uint32_t *copy, size_t copy_length,
                                 uint32_t *flight, size_t flight_length,
                                 uint8_t outputs[32], uint32_t *first_pass);
