@@ -6,43 +6,47 @@ use Prim.Native.Nat.{ℕ, _*_, _≤_, _<_}
 use lib.Dec.{ltb}
 use lib.ListN.{getD}
 use Rattle.wsgs.specs.Basics.{Port}
-use Rattle.wsgs.specs.Words.{word}
-use Rattle.wsgs.specs.Steps.{given, listed, marked, pass-one, pass-two, outputs-of, pass-word-of}
-use Rattle.wsgs.specs.Direct.{Runs, loaded, paired, spent, first-outputs}
+use Rattle.wsgs.specs.Words.{word, port-word}
+use Rattle.wsgs.specs.Steps.{taken, listed, marked, pass-one, pass-two, outputs-of, pass-word-of}
+use Rattle.wsgs.specs.Direct.{Runs, loaded, paired, spent, regiven, first-outputs}
 use Rattle.turns.specs.Masks.{in-mask, ready-mask}
 
--- the outputs f that the inputs hold, as the mask of the free outputs, as the listed outputs, and as the packets taken from the queues
-pub record PassState (n : ℕ) (start : List ℕ) (f : ℕ → ℕ) (free : ℕ) (outputs queues : List ℕ) : Type 0 where
+-- the outputs f that the inputs hold, as the mask of the free outputs, as the listed outputs, as the packets taken from the queues, and as the outputs
+-- last given
+pub record PassState (n : ℕ) (start before : List ℕ) (f : ℕ → ℕ) (free : ℕ) (outputs queues given : List ℕ) : Type 0 where
   pub bound : (i : ℕ) → f i ≤ n
-  pub mask : (j : ℕ) → Port n j → in-mask free j ≡ not (given f n j)
+  pub mask : (j : ℕ) → Port n j → in-mask free j ≡ not (taken f n j)
   pub list : outputs ≡ listed 32 f
   pub cost : queues ≡ spent n start f n
+  pub gifts : given ≡ regiven before f n
 
--- the outputs that pass one gives on credits and queues
-abbrev pub ones : ℕ → (credits queues : List ℕ) → ℕ → ℕ
-ones n credits queues = pass-one n (word n credits) (word n queues) n
+-- the outputs that pass one gives on credits, queues and last given outputs
+abbrev pub ones : ℕ → (credits queues given : List ℕ) → ℕ → ℕ
+ones n credits queues given = pass-one n (word n credits) (word n queues) (port-word given) n
 
 -- of the first x rows, from 0 on, the outputs for which a packet waits in the queues
 abbrev pub WaitingWords : (n x : ℕ) (queues waiting : List ℕ) → Type 0
 WaitingWords n x queues waiting = (k : ℕ) → k < x → getD waiting k 0 ≡ ready-mask queues queues (k * n) n
 
--- pass one ran on some run of queues: the outputs that its inputs hold, and for which outputs they had packets before it
-pub record AfterPassOne (n first free : ℕ) (outputs waiting queues : List ℕ) : Type 0 where
+-- pass one ran on some queues and last given outputs: the outputs that its inputs hold, and for which outputs they had packets before it
+pub record AfterPassOne (n first free : ℕ) (outputs waiting queues given : List ℕ) : Type 0 where
   pub start : List ℕ
+  pub before : List ℕ
   pub one : ℕ → ℕ
-  pub held : PassState n start one free outputs queues
+  pub held : PassState n start before one free outputs queues given
   pub mark : first ≡ marked 32 (λ i. ltb 0 (one i))
   pub known : WaitingWords n n start waiting
 
--- pass two, whatever the run of queues and the outputs of pass one were that its inputs hold: they then hold those of pass two
-abbrev pub PassTwo : (n first free : ℕ) (outputs queues : List ℕ) (free′ : ℕ) (outputs′ queues′ : List ℕ) → Type 0
-PassTwo n first free outputs queues free′ outputs′ queues′ =
-    (start : List ℕ) (one : ℕ → ℕ) → PassState n start one free outputs queues → first ≡ marked 32 (λ i. ltb 0 (one i))
-    → PassState n start (pass-two n (word n start) one n) free′ outputs′ queues′
+-- pass two, whatever the queues, the last given outputs and the outputs of pass one were that its inputs hold: they then hold those of pass two
+abbrev pub PassTwo : (n first free : ℕ) (outputs queues given : List ℕ) (free′ : ℕ) (outputs′ queues′ given′ : List ℕ) → Type 0
+PassTwo n first free outputs queues given free′ outputs′ queues′ given′ =
+    (start before : List ℕ) (one : ℕ → ℕ) → PassState n start before one free outputs queues given → first ≡ marked 32 (λ i. ltb 0 (one i))
+    → PassState n start before (pass-two n (word n start) (port-word before) one n) free′ outputs′ queues′ given′
 
--- slot k has been run on the runs w, with frames of f slots on lines of the rate b: the answer is the paired inputs', and each pair has taken a packet, and by pass one a credit too
-pub record SlotRun (n f b k : ℕ) (w : Runs) (outputs : List ℕ) (first-pass : ℕ) (credits queues : List ℕ) : Type 0 where
+-- slot k has been run on the runs w, with frames of f slots on lines of the rate b: the answer is the paired inputs', and each pair has taken a packet, and by pass one a credit too, and is noted
+pub record SlotRun (n f b k : ℕ) (w : Runs) (outputs : List ℕ) (first-pass : ℕ) (credits queues given : List ℕ) : Type 0 where
   pub answer : outputs ≡ outputs-of (paired n f b k w)
   pub mark : first-pass ≡ pass-word-of (paired n f b k w)
   pub credits-left : credits ≡ spent n (loaded n f b k w) (first-outputs (paired n f b k w)) n
   pub queues-left : queues ≡ spent n (w .queues) (paired n f b k w .output) n
+  pub given-left : given ≡ regiven (w .given) (paired n f b k w .output) n

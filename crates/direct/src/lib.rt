@@ -46,6 +46,7 @@ fn run_slot(
     rates: &[u32],
     credits: &mut [u32],
     queues: &mut [u32],
+    given: &mut [u32],
 ) -> PassResult
     requires ports { ⌜ clock .ports ≤ 32 ⌝ }
     requires frame { ⌜ 1 ≤ clock .frame ⌝ }
@@ -54,14 +55,15 @@ fn run_slot(
     requires rates_fit { ⌜ clock .ports * clock .ports ≤ length (now rates) ⌝ }
     requires credits_fit { ⌜ clock .ports * clock .ports ≤ length (now credits) ⌝ }
     requires queues_fit { ⌜ clock .ports * clock .ports ≤ length (now queues) ⌝ }
+    requires given_fits { ⌜ clock .ports ≤ length (now given) ⌝ }
     ensures slot_run { λ r. ⌜ SlotRun (clock .ports) (clock .frame) (clock .line) (clock .slot)
-        (direct-runs-of (now (slots .entry)) (now (rates .entry)) (now (credits .entry)) (now (queues .entry)))
-        (r .outputs) (r .«first_pass») (now (credits .exit)) (now (queues .exit)) ⌝ }
+        (direct-runs-of (now (slots .entry)) (now (rates .entry)) (now (credits .entry)) (now (queues .entry)) (now (given .entry)))
+        (r .outputs) (r .«first_pass») (now (credits .exit)) (now (queues .exit)) (now (given .exit)) ⌝ }
 {
     let ports = clock.ports as usize;
     reload(clock, slots, rates, credits);
-    let passed = pass_one(ports, credits, queues);
-    pass_two(passed, ports, queues)
+    let passed = pass_one(ports, credits, queues, given);
+    pass_two(passed, ports, queues, given)
 }
 
 // A tick: the questions, then the slot. The clock goes in and comes back whole.
@@ -71,13 +73,14 @@ pub fn tick(
     rates: &[u32],
     credits: &mut [u32],
     queues: &mut [u32],
+    given: &mut [u32],
 ) -> TickResult
     ensures outcome { λ r. ⌜ effect r
-        (direct-runs-of (now (slots .entry)) (now (rates .entry)) (now (credits .exit)) (now (queues .exit)))
+        (direct-runs-of (now (slots .entry)) (now (rates .entry)) (now (credits .exit)) (now (queues .exit)) (now (given .exit)))
         ≡ tick-effect (Direct.tick clock
-        (direct-runs-of (now (slots .entry)) (now (rates .entry)) (now (credits .entry)) (now (queues .entry)))) ⌝ }
+        (direct-runs-of (now (slots .entry)) (now (rates .entry)) (now (credits .entry)) (now (queues .entry)) (now (given .entry)))) ⌝ }
 {
-    let refusal = direct_tick_refusal(clock, slots, rates, credits, queues);
+    let refusal = direct_tick_refusal(clock, slots, rates, credits, queues, given);
     if refusal > 0 {
         return TickResult {
             refusal,
@@ -88,7 +91,7 @@ pub fn tick(
     }
     let mut next = clock;
     next.slot = clock.slot + 1;
-    let passed = run_slot(next, slots, rates, credits, queues);
+    let passed = run_slot(next, slots, rates, credits, queues, given);
     let outputs = passed.outputs;
     TickResult {
         refusal: 0,

@@ -7,10 +7,11 @@ ghost use Rattle.wsgs.specs.Steps.{marked};
 ghost use Rattle.wsgs.specs.Direct.{spent};
 ghost use Rattle.direct.specs.Passes.{PassState, ones, WaitingWords, AfterPassOne, PassTwo};
 use turns::BITS;
+use turns::first_requests;
 use turns::first_turn;
 use turns::masks::all_free;
 use turns::masks::take;
-use turns::waiting_turn;
+use turns::second_turn;
 use wsgs::Input;
 
 // What the passes hand on: the outputs that are free; the output of each input from 1 on, 0 for none; a word whose bit i - 1 tells that pass
@@ -22,16 +23,24 @@ pub struct PassResult {
     pub waiting: [u32; 32],
 }
 
-// Pass one: the inputs in turn, each with the lowest free output for which it has a credit and a packet.
-pub fn pass_one(ports: usize, credits: &mut [u32], queues: &mut [u32]) -> PassResult
+// Pass one: the inputs in turn, each with the first in its order of the free outputs for which it has a credit and a packet.
+pub fn pass_one(
+    ports: usize,
+    credits: &mut [u32],
+    queues: &mut [u32],
+    given: &mut [u32],
+) -> PassResult
     requires ports { ⌜ ports ≤ 32 ⌝ }
     requires credits_fit { ⌜ ports * ports ≤ length (now credits) ⌝ }
     requires queues_fit { ⌜ ports * ports ≤ length (now queues) ⌝ }
-    ensures state { λ r. ⌜ PassState ports (now (queues .entry)) (ones ports (now (credits .entry)) (now (queues .entry)))
-        (r .free) (r .outputs) (now (queues .exit)) ⌝ }
-    ensures first_pass { λ r. ⌜ r .«first_pass» ≡ marked 32 (λ i. ltb 0 (ones ports (now (credits .entry)) (now (queues .entry)) i)) ⌝ }
+    requires given_fits { ⌜ ports ≤ length (now given) ⌝ }
+    ensures state { λ r. ⌜ PassState ports (now (queues .entry)) (now (given .entry))
+        (ones ports (now (credits .entry)) (now (queues .entry)) (now (given .entry)))
+        (r .free) (r .outputs) (now (queues .exit)) (now (given .exit)) ⌝ }
+    ensures first_pass { λ r. ⌜ r .«first_pass»
+        ≡ marked 32 (λ i. ltb 0 (ones ports (now (credits .entry)) (now (queues .entry)) (now (given .entry)) i)) ⌝ }
     ensures credits_exit { λ r. ⌜ now (credits .exit)
-        ≡ spent ports (now (credits .entry)) (ones ports (now (credits .entry)) (now (queues .entry))) ports ⌝ }
+        ≡ spent ports (now (credits .entry)) (ones ports (now (credits .entry)) (now (queues .entry)) (now (given .entry))) ports ⌝ }
     ensures waiting { λ r. ⌜ WaitingWords ports ports (now (queues .entry)) (r .waiting) ⌝ }
 {
     let mut free = all_free(ports);
@@ -41,9 +50,9 @@ pub fn pass_one(ports: usize, credits: &mut [u32], queues: &mut [u32]) -> PassRe
     let bits = BITS;
     for row in 0..ports {
         let input = Input(row as u64 + 1);
-        let turn = first_turn(&bits, free, ports, input, credits, queues);
-        waiting[row] = turn.waiting;
-        let output = turn.output;
+        let asked = first_requests(&bits, ports, input, credits, queues);
+        waiting[row] = asked.waiting;
+        let output = first_turn(free, asked.ready, ports, input, credits, queues, given);
         if output.0 == 0 {
             continue;
         }
@@ -59,13 +68,19 @@ pub fn pass_one(ports: usize, credits: &mut [u32], queues: &mut [u32]) -> PassRe
     }
 }
 
-// Pass two: the inputs in turn that pass one did not serve, each with the lowest free output for which it has a packet.
-pub fn pass_two(passed: PassResult, ports: usize, queues: &mut [u32]) -> PassResult
+// Pass two: the inputs in turn that pass one did not serve, each with the first in its order of the free outputs for which it has a packet.
+pub fn pass_two(
+    passed: PassResult,
+    ports: usize,
+    queues: &mut [u32],
+    given: &mut [u32],
+) -> PassResult
     requires ports { ⌜ ports ≤ 32 ⌝ }
     requires queues_fit { ⌜ ports * ports ≤ length (now queues) ⌝ }
-    requires pass_one { ⌜ AfterPassOne ports (passed .«first_pass») (passed .free) (passed .outputs) (passed .waiting) (now queues) ⌝ }
-    ensures pass_two { λ r. ⌜ PassTwo ports (passed .«first_pass») (passed .free) (passed .outputs) (now (queues .entry))
-        (r .free) (r .outputs) (now (queues .exit)) ⌝ }
+    requires given_fits { ⌜ ports ≤ length (now given) ⌝ }
+    requires pass_one { ⌜ AfterPassOne ports (passed .«first_pass») (passed .free) (passed .outputs) (passed .waiting) (now queues) (now given) ⌝ }
+    ensures pass_two { λ r. ⌜ PassTwo ports (passed .«first_pass») (passed .free) (passed .outputs) (now (queues .entry)) (now (given .entry))
+        (r .free) (r .outputs) (now (queues .exit)) (now (given .exit)) ⌝ }
     ensures first_pass { λ r. ⌜ r .«first_pass» ≡ passed .«first_pass» ⌝ }
 {
     let mut free = passed.free;
@@ -76,7 +91,8 @@ pub fn pass_two(passed: PassResult, ports: usize, queues: &mut [u32]) -> PassRes
         if (first_pass >> row) & 1 == 1 {
             continue;
         }
-        let output = waiting_turn(free, waiting[row], ports, Input(row as u64 + 1), queues);
+        let input = Input(row as u64 + 1);
+        let output = second_turn(free, waiting[row], ports, input, queues, given);
         if output.0 == 0 {
             continue;
         }

@@ -10,16 +10,17 @@ use Rattle.wsgs.specs.Frames.{into-frame}
 use Rattle.wsgs.specs.Steps.{Matching, outputs-of, pass-word-of}
 use Rattle.wsgs.specs.Pipelined.{TurnRuns}
 
--- the credits, the queues and the rows in flight
-abbrev pub turn-runs-of : (credits queues flight : List ℕ) → TurnRuns
-turn-runs-of c q f = record { credits = c; queues = q; flight = f }
+-- the credits, the queues, the outputs last given and the rows in flight
+abbrev pub turn-runs-of : (credits queues given flight : List ℕ) → TurnRuns
+turn-runs-of c q g f = record { credits = c; queues = q; given = g; flight = f }
 
--- the ports are few, and the frame copy, the credits, the queues and the rows in flight hold their words
-pub record RunsFit (n : ℕ) (a c q f : List ℕ) : Type 0 where
+-- the ports are few, and the frame copy, the credits, the queues, the outputs last given and the rows in flight hold their words
+pub record RunsFit (n : ℕ) (a c q g f : List ℕ) : Type 0 where
   pub ports : n ≤ 32
   pub copy : n * n ≤ length a
   pub credits : n * n ≤ length c
   pub queues : n * n ≤ length q
+  pub given : n ≤ length g
   pub flight : 2 * n * n ≤ length f
 
 -- what a tick at time k knows of the slots ahead: the rows of slots k + 2n + 1 and k + n + 1, and how many slots of its frame come before slot

@@ -27,9 +27,9 @@ fn renew_copy(clock: Clock, into: u64, slots: &[u32], rates: &[u32], copy: &mut 
     requires slots_fit { ⌜ clock .ports * clock .ports ≤ length (now slots) ⌝ }
     requires rates_fit { ⌜ clock .ports * clock .ports ≤ length (now rates) ⌝ }
     requires copy_fits { ⌜ clock .ports * clock .ports ≤ length (now copy) ⌝ }
-    ensures copy_exit { λ _. ⌜ ((time : ℕ) → into ≡ into-frame (clock .frame) (time + 2 * clock .ports) → (c q f : List ℕ)
+    ensures copy_exit { λ _. ⌜ ((time : ℕ) → into ≡ into-frame (clock .frame) (time + 2 * clock .ports) → (c q g f : List ℕ)
         → now (copy .exit) ≡ Pipelined.copied-at (clock .ports) (clock .frame) (clock .line) time
-        (pipelined-runs-of (now (slots .entry)) (now (rates .entry)) c q (now (copy .entry)) f)) ⌝ }
+        (pipelined-runs-of (now (slots .entry)) (now (rates .entry)) c q g (now (copy .entry)) f)) ⌝ }
 {
     if into == 0 {
         let ports = clock.ports as usize;
@@ -45,21 +45,22 @@ fn run_tick(
     rates: &[u32],
     credits: &mut [u32],
     queues: &mut [u32],
+    given: &mut [u32],
     copy: &mut [u32],
     flight: &mut [u32],
 ) -> TickResult
     requires some_port { ⌜ 1 ≤ clock .ports ⌝ }
-    requires runs_fit { ⌜ RunsFit (clock .ports) (now copy) (now credits) (now queues) (now flight) ⌝ }
+    requires runs_fit { ⌜ RunsFit (clock .ports) (now copy) (now credits) (now queues) (now given) (now flight) ⌝ }
     requires slots_fit { ⌜ clock .ports * clock .ports ≤ length (now slots) ⌝ }
     requires rates_fit { ⌜ clock .ports * clock .ports ≤ length (now rates) ⌝ }
     requires frame_covers { ⌜ clock .ports ≤ clock .frame ⌝ }
     requires slots_left { ⌜ clock .slot < 4000000000 ⌝ }
     ensures outcome { λ r. ⌜ effect r
         (pipelined-runs-of (now (slots .entry)) (now (rates .entry)) (now (credits .exit)) (now (queues .exit))
-        (now (copy .exit)) (now (flight .exit)))
+        (now (given .exit)) (now (copy .exit)) (now (flight .exit)))
         ≡ tick-effect (Pipelined.ticked clock
         (pipelined-runs-of (now (slots .entry)) (now (rates .entry)) (now (credits .entry)) (now (queues .entry))
-        (now (copy .entry)) (now (flight .entry)))) ⌝ }
+        (now (given .entry)) (now (copy .entry)) (now (flight .entry)))) ⌝ }
 {
     let mut next = clock;
     next.slot = clock.slot + 1;
@@ -67,7 +68,7 @@ fn run_tick(
     let time = next.slot as u64;
     let ahead = look_ahead(ports, clock.frame as u64, time);
     renew_copy(clock, ahead.into, slots, rates, copy);
-    all_turns(ports, time, ahead, copy, credits, queues, flight);
+    all_turns(ports, time, ahead, copy, credits, queues, given, flight);
     let result = hand_out(next, flight);
     clear_row(ports, time + 1, flight);
     result
@@ -80,17 +81,18 @@ pub fn tick(
     rates: &[u32],
     credits: &mut [u32],
     queues: &mut [u32],
+    given: &mut [u32],
     copy: &mut [u32],
     flight: &mut [u32],
 ) -> TickResult
     ensures outcome { λ r. ⌜ effect r
         (pipelined-runs-of (now (slots .entry)) (now (rates .entry)) (now (credits .exit)) (now (queues .exit))
-        (now (copy .exit)) (now (flight .exit)))
+        (now (given .exit)) (now (copy .exit)) (now (flight .exit)))
         ≡ tick-effect (Pipelined.tick clock
         (pipelined-runs-of (now (slots .entry)) (now (rates .entry)) (now (credits .entry)) (now (queues .entry))
-        (now (copy .entry)) (now (flight .entry)))) ⌝ }
+        (now (given .entry)) (now (copy .entry)) (now (flight .entry)))) ⌝ }
 {
-    let refusal = pipelined_tick_refusal(clock, slots, rates, credits, queues, copy, flight);
+    let refusal = pipelined_tick_refusal(clock, slots, rates, credits, queues, given, copy, flight);
     if refusal > 0 {
         return TickResult {
             refusal,
@@ -99,5 +101,5 @@ pub fn tick(
             first_pass: 0,
         };
     }
-    run_tick(clock, slots, rates, credits, queues, copy, flight)
+    run_tick(clock, slots, rates, credits, queues, given, copy, flight)
 }

@@ -6,76 +6,115 @@ ghost use lib.ListN.{length};
 ghost use Rattle.wsgs.specs.Basics.{Port};
 ghost use Rattle.wsgs.specs.Frames.{into-frame};
 ghost use Rattle.wsgs.specs.Pipelined.{slot-one, turn-one, turn-two, reloaded, turns-of, turns};
-ghost use Rattle.turns.specs.Masks.{powers};
+ghost use Rattle.turns.specs.Masks.{powers, ready-mask};
 ghost use Rattle.pipelined.specs.Turnings.{turn-runs-of, RunsFit, Lookahead};
 use super::flight::free_for;
 use super::flight::output_of;
 use super::flight::row_before;
 use turns::BITS;
+use turns::first_requests;
 use turns::first_turn;
 use turns::load_credits;
+use turns::second_requests;
 use turns::second_turn;
 use words::places::row_of;
 use wsgs::Input;
+use wsgs::Output;
 
-// An input's pass-one turn for the slot whose row begins at a place, if it has no output for it yet.
+// An input's pass-one turn for the slot whose row begins at a place, where it asks for some outputs: it takes one if it has no output for the slot yet.
+// Where it asks for none the row is not read.
 fn turn_one(
-    bits: &[u32; 32],
+    asked: u32,
     ports: usize,
     row: usize,
     input: Input,
     credits: &mut [u32],
     queues: &mut [u32],
+    given: &mut [u32],
     flight: &mut [u32],
-)
+) -> Output
     requires few_ports { ⌜ ports ≤ 32 ⌝ }
     requires input { ⌜ Port ports (input .0) ⌝ }
     requires credits_fit { ⌜ ports * ports ≤ length (now credits) ⌝ }
     requires queues_fit { ⌜ ports * ports ≤ length (now queues) ⌝ }
+    requires given_fits { ⌜ ports ≤ length (now given) ⌝ }
     requires row_fits { ⌜ row + ports ≤ length (now flight) ⌝ }
-    requires bits { ⌜ now bits ≡ powers 0 32 ⌝ }
+    requires asked { ⌜ asked ≡ ready-mask (now credits) (now queues) ((input .0 - 1) * ports) ports ⌝ }
     ensures turn { λ _. ⌜ ((s : ℕ) → row ≡ s % (2 * ports) * ports
-        → turn-runs-of (now (credits .exit)) (now (queues .exit)) (now (flight .exit))
-        ≡ turn-one ports s (input .0) (turn-runs-of (now (credits .entry)) (now (queues .entry)) (now (flight .entry)))) ⌝ }
+        → turn-runs-of (now (credits .exit)) (now (queues .exit)) (now (given .exit)) (now (flight .exit))
+        ≡ turn-one ports s (input .0)
+        (turn-runs-of (now (credits .entry)) (now (queues .entry)) (now (given .entry)) (now (flight .entry)))) ⌝ }
+    ensures idle { λ r. ⌜ (r .0 ≡ 0 → now (queues .exit) ≡ now (queues .entry)) ⌝ }
 {
+    if asked == 0 {
+        return Output(0);
+    }
     let at = row + (input.0 - 1) as usize;
     if output_of(ports, flight[at]).0 > 0 {
-        return;
+        return Output(0);
     }
     let free = free_for(ports, row, flight);
-    let output = first_turn(bits, free, ports, input, credits, queues).output;
+    let output = first_turn(free, asked, ports, input, credits, queues, given);
     if output.0 > 0 {
         flight[at] = 100 + output.0 as u32;
     }
+    output
 }
 
-// An input's pass-two turn for the slot whose row begins at a place, if it has no output for it yet.
+// An input's pass-two turn, likewise.
 fn turn_two(
-    bits: &[u32; 32],
+    asked: u32,
     ports: usize,
     row: usize,
     input: Input,
     queues: &mut [u32],
+    given: &mut [u32],
     flight: &mut [u32],
 )
     requires few_ports { ⌜ ports ≤ 32 ⌝ }
     requires input { ⌜ Port ports (input .0) ⌝ }
     requires queues_fit { ⌜ ports * ports ≤ length (now queues) ⌝ }
+    requires given_fits { ⌜ ports ≤ length (now given) ⌝ }
     requires row_fits { ⌜ row + ports ≤ length (now flight) ⌝ }
-    requires bits { ⌜ now bits ≡ powers 0 32 ⌝ }
+    requires asked { ⌜ asked ≡ ready-mask (now queues) (now queues) ((input .0 - 1) * ports) ports ⌝ }
     ensures turn { λ _. ⌜ ((s : ℕ) → row ≡ s % (2 * ports) * ports → (c : List ℕ)
-        → turn-runs-of c (now (queues .exit)) (now (flight .exit))
-        ≡ turn-two ports s (input .0) (turn-runs-of c (now (queues .entry)) (now (flight .entry)))) ⌝ }
+        → turn-runs-of c (now (queues .exit)) (now (given .exit)) (now (flight .exit))
+        ≡ turn-two ports s (input .0) (turn-runs-of c (now (queues .entry)) (now (given .entry)) (now (flight .entry)))) ⌝ }
 {
+    if asked == 0 {
+        return;
+    }
     let at = row + (input.0 - 1) as usize;
     if output_of(ports, flight[at]).0 > 0 {
         return;
     }
     let free = free_for(ports, row, flight);
-    let output = second_turn(bits, free, ports, input, queues);
+    let output = second_turn(free, asked, ports, input, queues, given);
     if output.0 > 0 {
         flight[at] = output.0 as u32;
     }
+}
+
+// What an input asks for at its pass-two turn: what its sweep before pass one told, unless pass one has taken a packet since.
+fn asked_after(
+    bits: &[u32; 32],
+    ports: usize,
+    input: Input,
+    waiting: u32,
+    taken: Output,
+    queues: &[u32],
+) -> u32
+    requires few_ports { ⌜ ports ≤ 32 ⌝ }
+    requires input { ⌜ Port ports (input .0) ⌝ }
+    requires queues_fit { ⌜ ports * ports ≤ length (now queues) ⌝ }
+    requires bits { ⌜ now bits ≡ powers 0 32 ⌝ }
+    requires known { ⌜ (taken .0 ≡ 0 → waiting ≡ ready-mask (now queues) (now queues) ((input .0 - 1) * ports) ports) ⌝ }
+    ensures asked { λ r. ⌜ r ≡ ready-mask (now (queues .entry)) (now (queues .entry)) ((input .0 - 1) * ports) ports ⌝ }
+{
+    if taken.0 == 0 {
+        return waiting;
+    }
+    second_requests(bits, ports, input, queues)
 }
 
 // An input sets its row of credits from the frame copy where its slot of pass one is the first of a frame. `into` tells how many slots of its
@@ -85,10 +124,10 @@ fn reload_row(ports: usize, into: u64, input: Input, copy: &[u32], credits: &mut
     requires input { ⌜ Port ports (input .0) ⌝ }
     requires copy_fits { ⌜ ports * ports ≤ length (now copy) ⌝ }
     requires credits_fit { ⌜ ports * ports ≤ length (now credits) ⌝ }
-    ensures reload { λ _. ⌜ ((frame time : ℕ) → ports ≤ frame → into ≡ into-frame frame (time + 2 * ports) → (q f : List ℕ)
-        → turn-runs-of (now (credits .exit)) q f
+    ensures reload { λ _. ⌜ ((frame time : ℕ) → ports ≤ frame → into ≡ into-frame frame (time + 2 * ports) → (q g f : List ℕ)
+        → turn-runs-of (now (credits .exit)) q g f
         ≡ reloaded ports frame (now (copy .entry)) (slot-one ports time (input .0)) (input .0)
-        (turn-runs-of (now (credits .entry)) q f)) ⌝ }
+        (turn-runs-of (now (credits .entry)) q g f)) ⌝ }
 {
     if into == input.0 - 1 {
         let row = row_of(ports, input);
@@ -131,24 +170,36 @@ fn turns_of(
     copy: &[u32],
     credits: &mut [u32],
     queues: &mut [u32],
+    given: &mut [u32],
     flight: &mut [u32],
 )
-    requires runs_fit { ⌜ RunsFit ports (now copy) (now credits) (now queues) (now flight) ⌝ }
+    requires runs_fit { ⌜ RunsFit ports (now copy) (now credits) (now queues) (now given) (now flight) ⌝ }
     requires row_one { ⌜ ahead .one < 2 * ports ⌝ }
     requires row_two { ⌜ ahead .two < 2 * ports ⌝ }
     requires input { ⌜ Port ports (input .0) ⌝ }
     requires bits { ⌜ now bits ≡ powers 0 32 ⌝ }
     ensures turns { λ _. ⌜ ((frame : ℕ) → Lookahead ports frame time (ahead .one) (ahead .two) (ahead .into)
-        → turn-runs-of (now (credits .exit)) (now (queues .exit)) (now (flight .exit))
+        → turn-runs-of (now (credits .exit)) (now (queues .exit)) (now (given .exit)) (now (flight .exit))
         ≡ turns-of ports frame (now (copy .entry)) time (input .0)
-        (turn-runs-of (now (credits .entry)) (now (queues .entry)) (now (flight .entry)))) ⌝ }
+        (turn-runs-of (now (credits .entry)) (now (queues .entry)) (now (given .entry)) (now (flight .entry)))) ⌝ }
 {
     if input.0 <= time {
         reload_row(ports, ahead.into, input, copy, credits);
         let one = row_before(ports, ahead.one, input);
-        turn_one(bits, ports, one, input, credits, queues, flight);
+        let asked = first_requests(bits, ports, input, credits, queues);
+        let taken = turn_one(
+            asked.ready,
+            ports,
+            one,
+            input,
+            credits,
+            queues,
+            given,
+            flight,
+        );
         let two = row_before(ports, ahead.two, input);
-        turn_two(bits, ports, two, input, queues, flight);
+        let waiting = asked_after(bits, ports, input, asked.waiting, taken, queues);
+        turn_two(waiting, ports, two, input, queues, given, flight);
     }
 }
 
@@ -160,15 +211,16 @@ pub fn all_turns(
     copy: &[u32],
     credits: &mut [u32],
     queues: &mut [u32],
+    given: &mut [u32],
     flight: &mut [u32],
 )
-    requires runs_fit { ⌜ RunsFit ports (now copy) (now credits) (now queues) (now flight) ⌝ }
+    requires runs_fit { ⌜ RunsFit ports (now copy) (now credits) (now queues) (now given) (now flight) ⌝ }
     requires row_one { ⌜ ahead .one < 2 * ports ⌝ }
     requires row_two { ⌜ ahead .two < 2 * ports ⌝ }
     ensures turns { λ _. ⌜ ((frame : ℕ) → Lookahead ports frame time (ahead .one) (ahead .two) (ahead .into)
-        → turn-runs-of (now (credits .exit)) (now (queues .exit)) (now (flight .exit))
+        → turn-runs-of (now (credits .exit)) (now (queues .exit)) (now (given .exit)) (now (flight .exit))
         ≡ turns ports frame (now (copy .entry)) time
-        (turn-runs-of (now (credits .entry)) (now (queues .entry)) (now (flight .entry))) ports) ⌝ }
+        (turn-runs-of (now (credits .entry)) (now (queues .entry)) (now (given .entry)) (now (flight .entry))) ports) ⌝ }
 {
     let bits = BITS;
     for done in 0..ports {
@@ -182,6 +234,7 @@ pub fn all_turns(
             copy,
             credits,
             queues,
+            given,
             flight,
         );
     }
