@@ -4,7 +4,7 @@ mod runs;
 ghost use mathlib.Core.Path.{_≡_};
 ghost use Rattle.wsgs.specs.Basics.{between};
 ghost use Rattle.wsgs.specs.Bookings.{book-of};
-ghost use Rattle.wsgs.specs.Questions.{pair-in-range, holds-pairs, holds-book};
+ghost use Rattle.wsgs.specs.Questions.{pair-in-range, holds-pairs, holds-book, holds-ports};
 ghost use Rattle.wsgs.specs.Answers.{direct-runs-of, pipelined-runs-of};
 ghost use Rattle.wsgs.specs.Direct;
 ghost use Rattle.wsgs.specs.Pipelined;
@@ -48,6 +48,13 @@ pub fn holds_book(ports: u64, slots: &[u32], rates: &[u32]) -> bool
         return false;
     }
     holds_pairs(ports, rates)
+}
+
+// Whether a run holds a word for each input.
+pub fn holds_ports(ports: u64, run: &[u32]) -> bool
+    ensures result { λ r. ⌜ r ≡ holds-ports ports (now (run .entry)) ⌝ }
+{
+    ports <= run.len() as u64
 }
 
 // Whether input and output are ports: question 5.
@@ -119,15 +126,16 @@ fn direct_runs_refusal(
     rates: &[u32],
     credits: &[u32],
     queues: &[u32],
+    given: &[u32],
 ) -> u32
     ensures result { λ r. ⌜ r ≡ direct-runs-refusal ports frame
-        (direct-runs-of (now (slots .entry)) (now (rates .entry)) (now (credits .entry)) (now (queues .entry))) ⌝ }
+        (direct-runs-of (now (slots .entry)) (now (rates .entry)) (now (credits .entry)) (now (queues .entry)) (now (given .entry))) ⌝ }
 {
     let refusal = sizes_refusal(ports, frame);
     if refusal != 0 {
         return refusal;
     }
-    if !direct_runs_suffice(ports, slots, rates, credits, queues) {
+    if !direct_runs_suffice(ports, slots, rates, credits, queues, given) {
         return 4;
     }
     0
@@ -142,11 +150,12 @@ pub fn direct_start_refusal(
     rates: &[u32],
     credits: &[u32],
     queues: &[u32],
+    given: &[u32],
 ) -> u32
     ensures result { λ r. ⌜ r ≡ Direct.start-refusal ports frame line
-        (direct-runs-of (now (slots .entry)) (now (rates .entry)) (now (credits .entry)) (now (queues .entry))) ⌝ }
+        (direct-runs-of (now (slots .entry)) (now (rates .entry)) (now (credits .entry)) (now (queues .entry)) (now (given .entry))) ⌝ }
 {
-    let refusal = direct_runs_refusal(ports, frame, slots, rates, credits, queues);
+    let refusal = direct_runs_refusal(ports, frame, slots, rates, credits, queues, given);
     if refusal != 0 {
         return refusal;
     }
@@ -160,12 +169,14 @@ pub fn direct_tick_refusal(
     rates: &[u32],
     credits: &[u32],
     queues: &[u32],
+    given: &[u32],
 ) -> u32
     ensures result { λ r. ⌜ r ≡ Direct.tick-refusal clock
-        (direct-runs-of (now (slots .entry)) (now (rates .entry)) (now (credits .entry)) (now (queues .entry))) ⌝ }
+        (direct-runs-of (now (slots .entry)) (now (rates .entry)) (now (credits .entry)) (now (queues .entry)) (now (given .entry))) ⌝ }
 {
     let ports = clock.ports as u64;
-    let refusal = direct_runs_refusal(ports, clock.frame as u64, slots, rates, credits, queues);
+    let length = clock.frame as u64;
+    let refusal = direct_runs_refusal(ports, length, slots, rates, credits, queues, given);
     if refusal != 0 {
         return refusal;
     }
@@ -180,12 +191,13 @@ fn pipelined_runs_refusal(
     rates: &[u32],
     credits: &[u32],
     queues: &[u32],
+    given: &[u32],
     copy: &[u32],
     flight: &[u32],
 ) -> u32
     ensures result { λ r. ⌜ r ≡ pipelined-runs-refusal ports frame
         (pipelined-runs-of (now (slots .entry)) (now (rates .entry)) (now (credits .entry)) (now (queues .entry))
-        (now (copy .entry)) (now (flight .entry))) ⌝ }
+        (now (given .entry)) (now (copy .entry)) (now (flight .entry))) ⌝ }
 {
     let refusal = sizes_refusal(ports, frame);
     if refusal != 0 {
@@ -194,7 +206,7 @@ fn pipelined_runs_refusal(
     if frame < ports {
         return 3;
     }
-    if !pipelined_runs_suffice(ports, slots, rates, credits, queues, copy, flight) {
+    if !pipelined_runs_suffice(ports, slots, rates, credits, queues, given, copy, flight) {
         return 4;
     }
     0
@@ -209,14 +221,25 @@ pub fn pipelined_start_refusal(
     rates: &[u32],
     credits: &[u32],
     queues: &[u32],
+    given: &[u32],
     copy: &[u32],
     flight: &[u32],
 ) -> u32
     ensures result { λ r. ⌜ r ≡ Pipelined.start-refusal ports frame line
         (pipelined-runs-of (now (slots .entry)) (now (rates .entry)) (now (credits .entry)) (now (queues .entry))
-        (now (copy .entry)) (now (flight .entry))) ⌝ }
+        (now (given .entry)) (now (copy .entry)) (now (flight .entry))) ⌝ }
 {
-    let refusal = pipelined_runs_refusal(ports, frame, slots, rates, credits, queues, copy, flight);
+    let refusal = pipelined_runs_refusal(
+        ports,
+        frame,
+        slots,
+        rates,
+        credits,
+        queues,
+        given,
+        copy,
+        flight,
+    );
     if refusal != 0 {
         return refusal;
     }
@@ -230,21 +253,22 @@ pub fn pipelined_tick_refusal(
     rates: &[u32],
     credits: &[u32],
     queues: &[u32],
+    given: &[u32],
     copy: &[u32],
     flight: &[u32],
 ) -> u32
     ensures result { λ r. ⌜ r ≡ Pipelined.tick-refusal clock
         (pipelined-runs-of (now (slots .entry)) (now (rates .entry)) (now (credits .entry)) (now (queues .entry))
-        (now (copy .entry)) (now (flight .entry))) ⌝ }
+        (now (given .entry)) (now (copy .entry)) (now (flight .entry))) ⌝ }
 {
-    let ports = clock.ports as u64;
     let refusal = pipelined_runs_refusal(
-        ports,
+        clock.ports as u64,
         clock.frame as u64,
         slots,
         rates,
         credits,
         queues,
+        given,
         copy,
         flight,
     );

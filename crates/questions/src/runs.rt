@@ -6,6 +6,7 @@ ghost use Rattle.wsgs.specs.Direct;
 ghost use Rattle.wsgs.specs.Pipelined;
 use crate::holds_book;
 use crate::holds_pairs;
+use crate::holds_ports;
 
 // Whether the runs of a direct switch are long enough.
 pub fn direct_runs_suffice(
@@ -14,9 +15,10 @@ pub fn direct_runs_suffice(
     rates: &[u32],
     credits: &[u32],
     queues: &[u32],
+    given: &[u32],
 ) -> bool
     ensures result { λ r. ⌜ r ≡ Direct.runs-suffice ports
-        (direct-runs-of (now (slots .entry)) (now (rates .entry)) (now (credits .entry)) (now (queues .entry))) ⌝ }
+        (direct-runs-of (now (slots .entry)) (now (rates .entry)) (now (credits .entry)) (now (queues .entry)) (now (given .entry))) ⌝ }
 {
     if !holds_book(ports, slots, rates) {
         return false;
@@ -24,7 +26,10 @@ pub fn direct_runs_suffice(
     if !holds_pairs(ports, credits) {
         return false;
     }
-    holds_pairs(ports, queues)
+    if !holds_pairs(ports, queues) {
+        return false;
+    }
+    holds_ports(ports, given)
 }
 
 // Whether those of a pipelined switch are.
@@ -34,15 +39,16 @@ pub fn pipelined_runs_suffice(
     rates: &[u32],
     credits: &[u32],
     queues: &[u32],
+    given: &[u32],
     copy: &[u32],
     flight: &[u32],
 ) -> bool
     requires ports_in_range { ⌜ ports ≤ 32 ⌝ }
     ensures result { λ r. ⌜ r ≡ Pipelined.runs-suffice ports
         (pipelined-runs-of (now (slots .entry)) (now (rates .entry)) (now (credits .entry)) (now (queues .entry))
-        (now (copy .entry)) (now (flight .entry))) ⌝ }
+        (now (given .entry)) (now (copy .entry)) (now (flight .entry))) ⌝ }
 {
-    if !direct_runs_suffice(ports, slots, rates, credits, queues) {
+    if !direct_runs_suffice(ports, slots, rates, credits, queues, given) {
         return false;
     }
     if !holds_pairs(ports, copy) {

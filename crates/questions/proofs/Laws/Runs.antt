@@ -9,7 +9,7 @@ use lib.Dec.{leb, leb→le}
 use lib.ListN.{length}
 use borrow.Author.Tests.{le-leb, lt-leb}
 use Rattle.wsgs.specs.declared.Clock.{Clock}
-use Rattle.wsgs.specs.Questions.{Question, first-no, frame-covers-ports, long-enough, line-in-range, clock-can-advance, holds-pairs, holds-book}
+use Rattle.wsgs.specs.Questions.{Question, first-no, frame-covers-ports, long-enough, line-in-range, clock-can-advance, holds-pairs, holds-book, holds-ports}
 use Rattle.wsgs.specs.Answers.{direct-runs-of}
 use Rattle.wsgs.specs.Direct
 use Rattle.wsgs.specs.Pipelined
@@ -71,20 +71,21 @@ module _ (c : Clock) (w : Direct.Runs) where
 -- the runs of a pipelined switch: those of a direct one, the copy and the words in flight
 module _ (n : ℕ) (w : Pipelined.Runs) where
   abbrev direct-runs : Direct.Runs
-  direct-runs = direct-runs-of (w .book .slots) (w .book .rates) (w .credits) (w .queues)
+  direct-runs = direct-runs-of (w .book .slots) (w .book .rates) (w .credits) (w .queues) (w .given)
 
   abbrev last : Bool
   last = leb (2 * n * n) (length (w .flight))
 
   split : (Direct.runs-suffice n direct-runs && (holds-pairs n (w .copy) && last)) ≡ Pipelined.runs-suffice n w
-  split = four (holds-book n (w .book)) (holds-pairs n (w .credits)) (holds-pairs n (w .queues)) _
+  split = five (holds-book n (w .book)) (holds-pairs n (w .credits)) (holds-pairs n (w .queues)) (holds-ports n (w .given)) _
     where
-      four : (a b c d : Bool) → ((a && (b && c)) && d) ≡ (a && (b && (c && d)))
-      four true true c d = refl
-      four true false c d = refl
-      four false b c d = refl
+      five : (a b c d e : Bool) → ((a && (b && (c && d))) && e) ≡ (a && (b && (c && (d && e))))
+      five true true true d e = refl
+      five true true false d e = refl
+      five true false c d e = refl
+      five false b c d e = refl
 
-  -- one of the first four is too short
+  -- one of the first five is too short
   pub short-direct : (b : Bool) → b ≡ Direct.runs-suffice n direct-runs → not b ≡ true → false ≡ Pipelined.runs-suffice n w
   short-direct b e h = ap (λ x. x && (holds-pairs n (w .copy) && last)) (sym (said-no e h)) ∙ split
 

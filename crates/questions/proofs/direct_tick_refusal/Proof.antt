@@ -8,8 +8,8 @@ use Rattle.questions.proofs.direct_tick_refusal.Tie as tie
 cast-ports : tie.Need-cast-ports
 cast-ports c = search needs
 
-cast-direct-runs-refusal : tie.Need-cast-direct-runs-refusal
-cast-direct-runs-refusal c = search needs
+cast-length : tie.Need-cast-length
+cast-length c = search needs
 
 direct-runs-refusal-requires : tie.Need-direct-runs-refusal-requires
 direct-runs-refusal-requires c κs = search needs
@@ -30,7 +30,7 @@ direct-tick-refusal-spec =
     tie.close
     (tie.spec
     cast-ports
-    cast-direct-runs-refusal
+    cast-length
     direct-runs-refusal-requires
     returns
     clock-refusal-requires

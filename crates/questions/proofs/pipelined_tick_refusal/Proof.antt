@@ -5,11 +5,11 @@ use Rattle.questions.proofs.Laws.Runs.{pipelined-tick-sized, pipelined-
 use Rattle.questions.proofs.pipelined_tick_refusal.Statement.{statement}
 use Rattle.questions.proofs.pipelined_tick_refusal.Tie as tie
 
-cast-ports : tie.Need-cast-ports
-cast-ports c = search needs
-
 cast-pipelined-runs-refusal : tie.Need-cast-pipelined-runs-refusal
 cast-pipelined-runs-refusal c = search needs
+
+cast-pipelined-runs-refusal-2 : tie.Need-cast-pipelined-runs-refusal-2
+cast-pipelined-runs-refusal-2 c = search needs
 
 pipelined-runs-refusal-requires : tie.Need-pipelined-runs-refusal-requires
 pipelined-runs-refusal-requires c κs = search needs
@@ -29,8 +29,8 @@ pub pipelined-tick-refusal-spec : {M : Type 1} → statement M
 pipelined-tick-refusal-spec =
     tie.close
     (tie.spec
-    cast-ports
     cast-pipelined-runs-refusal
+    cast-pipelined-runs-refusal-2
     pipelined-runs-refusal-requires
     returns
     clock-refusal-requires

@@ -23,9 +23,21 @@ holds-pairs-requires-2 c κs = search needs
 
 returns-3 : tie.Need-returns-3
 returns-3 c =
-    let d = c .before in
+    let d = c .before .before in
     let e = d .before .before in
-    rw (said-yes (e .before .holds-book .ensures) (e .if1 .left), said-yes (d .before .holds-pairs .ensures) (d .if2 .left)) (c .holds-pairs2 .ensures)
+    rw (said-yes (e .before .holds-book .ensures) (e .if1 .left), said-yes (d .before .holds-pairs .ensures) (d .if2 .left))
+    (rw (said-no (c .before .holds-pairs2 .ensures) (c .if3 .taken)))
+
+holds-ports-requires : tie.Need-holds-ports-requires
+holds-ports-requires c κs = search needs
+
+returns-4 : tie.Need-returns-4
+returns-4 c =
+    let q = c .before in
+    let d = q .before .before in
+    let e = d .before .before in
+    rw (said-yes (e .before .holds-book .ensures) (e .if1 .left), said-yes (d .before .holds-pairs .ensures) (d .if2 .left))
+    (rw (said-yes (q .before .holds-pairs2 .ensures) (q .if3 .left)) (c .holds-ports .ensures))
 
 pub direct-runs-suffice-spec : {M : Type 1} → statement M
 direct-runs-suffice-spec =
@@ -36,4 +48,6 @@ direct-runs-suffice-spec =
     holds-pairs-requires
     returns-2
     holds-pairs-requires-2
-    returns-3)
+    returns-3
+    holds-ports-requires
+    returns-4)

@@ -9,12 +9,12 @@ use Rattle.questions.proofs.runs.pipelined_runs_suffice.Statement.{stat
 use Rattle.questions.proofs.runs.pipelined_runs_suffice.Tie as tie
 
 abbrev start : tie.After-direct-runs-suffice → tie.Start
-start c = c .before .before .before .before .before .before .before
+start c = c .before .before .before .before .before .before .before .before
 
 abbrev runs : tie.Start → Pipelined.Runs
 runs s =
     let a = s .args in
-    pipelined-runs-of (a .slots .now) (a .rates .now) (a .credits .now) (a .queues .now) (a .copy .now) (a .flight .now)
+    pipelined-runs-of (a .slots .now) (a .rates .now) (a .credits .now) (a .queues .now) (a .given .now) (a .copy .now) (a .flight .now)
 
 direct-runs-suffice-requires : tie.Need-direct-runs-suffice-requires
 direct-runs-suffice-requires c κs = search needs
