@@ -1,6 +1,7 @@
 /*
  * A booth with a touch panel, a film player and an archive, scheduled through include/kivdrag.h: a direct switch for
- * a frame, then a pipelined one for a few ticks. Build it at the repository's root, after `rt staticlib kivdrag_c`:
+ * a frame, one on which two films take turns, and a pipelined one for a few ticks. Build it at the repository's root,
+ * after `rt staticlib kivdrag_c`:
  *
  *   cc -std=c11 -Wall -Wextra -Werror -Iinclude examples/booth.c target/staticlib/libkivdrag_c.a -o target/booth
  */
@@ -24,6 +25,7 @@ typedef struct {
     uint32_t rates[PAIRS];
     uint32_t credits[PAIRS];
     uint32_t queues[PAIRS];
+    uint32_t given[PORTS];
     uint32_t copy[PAIRS];
     uint32_t flight[FLIGHT];
 } Switch;
@@ -36,12 +38,12 @@ typedef struct {
 
 static uint32_t start_direct(Switch *s, unsigned frame) {
     return kivdrag_start_direct(PORTS, frame, LINE, s->clock, s->slots, PAIRS, s->rates, PAIRS, s->credits, PAIRS,
-                                s->queues, PAIRS);
+                                s->queues, PAIRS, s->given, PORTS);
 }
 
 static uint32_t start_pipelined(Switch *s, unsigned frame) {
     return kivdrag_start_pipelined(PORTS, frame, LINE, s->clock, s->slots, PAIRS, s->rates, PAIRS, s->credits, PAIRS,
-                                   s->queues, PAIRS, s->copy, PAIRS, s->flight, FLIGHT);
+                                   s->queues, PAIRS, s->given, PORTS, s->copy, PAIRS, s->flight, FLIGHT);
 }
 
 static uint32_t book(Switch *s, unsigned input, unsigned output, unsigned amount) {
@@ -71,12 +73,12 @@ static uint32_t arrive(Switch *s, unsigned input, unsigned output, unsigned pack
 
 static uint32_t tick_direct(Switch *s, Pairs *p) {
     return kivdrag_tick_direct(s->clock, s->slots, PAIRS, s->rates, PAIRS, s->credits, PAIRS, s->queues, PAIRS,
-                               p->outputs, &p->first_pass);
+                               s->given, PORTS, p->outputs, &p->first_pass);
 }
 
 static uint32_t tick_pipelined(Switch *s, Pairs *p) {
     return kivdrag_tick_pipelined(s->clock, s->slots, PAIRS, s->rates, PAIRS, s->credits, PAIRS, s->queues, PAIRS,
-                                  s->copy, PAIRS, s->flight, FLIGHT, p->outputs, &p->first_pass);
+                                  s->given, PORTS, s->copy, PAIRS, s->flight, FLIGHT, p->outputs, &p->first_pass);
 }
 
 /* A pair's booking: its slots, and the slots that the sum of its rates needs, rounded up. */
@@ -161,6 +163,24 @@ static void direct(void) {
     printf("  slots booked: %u\n", booking(&s, PLAYER, WALL));
 }
 
+/* An input takes its outputs in turn, so that no film waits until another has ended. */
+static void two_films(void) {
+    static Switch s;
+    Pairs p;
+    say("start a direct switch of 4 ports, frames of 8 slots", start_direct(&s, FRAME));
+    say("queue 3 packets of a film from the archive to the desk", arrive(&s, ARCHIVE, DESK, 3));
+    say("queue 3 packets of a film from the archive to the wall", arrive(&s, ARCHIVE, WALL, 3));
+    for (unsigned slot = 1; slot <= 6; slot++) {
+        uint32_t refusal = tick_direct(&s, &p);
+        if (refusal != KIVDRAG_ACCEPTED) {
+            say("tick", refusal);
+            return;
+        }
+        print_pairs(s.clock[KIVDRAG_CLOCK_SLOT], &p);
+    }
+    printf("the output that the archive was last given: %u\n", (unsigned)s.given[ARCHIVE - 1]);
+}
+
 static void pipelined(void) {
     static Switch s;
     Pairs p;
@@ -181,6 +201,8 @@ static void pipelined(void) {
 
 int main(void) {
     direct();
+    printf("\n");
+    two_films();
     printf("\n");
     pipelined();
     return 0;

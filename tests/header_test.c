@@ -29,15 +29,17 @@ static_assert(KIVDRAG_REFUSED_QUEUE == 11, "queue");
 static_assert(KIVDRAG_PORTS_MAX == 32, "most ports");
 static_assert(KIVDRAG_CLOCK_WORDS == 4, "words of a clock");
 static_assert(KIVDRAG_PAIR_WORDS(3) == 9 && KIVDRAG_PAIR_WORDS(1 + 1) == 4, "words of a run");
+static_assert(KIVDRAG_GIVEN_WORDS(3) == 3 && KIVDRAG_GIVEN_WORDS(1 + 1) == 2, "words of last given outputs");
 static_assert(KIVDRAG_FLIGHT_WORDS(3) == 18 && KIVDRAG_FLIGHT_WORDS(1 + 1) == 8, "words in flight");
 static_assert(KIVDRAG_CLOCK_PORTS == 0 && KIVDRAG_CLOCK_FRAME == 1, "places in a clock");
 static_assert(KIVDRAG_CLOCK_SLOT == 2 && KIVDRAG_CLOCK_LINE == 3, "places in a clock");
 
 /* THE TYPES of the functions. Calls by position go through these pointers. */
 typedef uint32_t StartDirect(uint64_t, uint64_t, uint64_t, uint32_t *, uint32_t *, size_t, uint32_t *, size_t,
-                             uint32_t *, size_t, uint32_t *, size_t);
+                             uint32_t *, size_t, uint32_t *, size_t, uint32_t *, size_t);
 typedef uint32_t StartPipelined(uint64_t, uint64_t, uint64_t, uint32_t *, uint32_t *, size_t, uint32_t *, size_t,
-                                uint32_t *, size_t, uint32_t *, size_t, uint32_t *, size_t, uint32_t *, size_t);
+                                uint32_t *, size_t, uint32_t *, size_t, uint32_t *, size_t, uint32_t *, size_t,
+                                uint32_t *, size_t);
 typedef uint32_t OnSlots(const uint32_t *, uint32_t *, size_t, const uint32_t *, size_t, uint64_t, uint64_t, uint64_t);
 typedef uint32_t OnRates(const uint32_t *, const uint32_t *, size_t, uint32_t *, size_t, uint64_t, uint64_t, uint64_t);
 typedef uint32_t Headroom(const uint32_t *, const uint32_t *, size_t, const uint32_t *, size_t, uint64_t, uint64_t,
@@ -46,9 +48,10 @@ typedef uint32_t Preview(const uint32_t *, const uint32_t *, size_t, const uint3
                          uint64_t, uint64_t *, uint64_t *);
 typedef uint32_t OnQueues(const uint32_t *, uint32_t *, size_t, uint64_t, uint64_t, uint64_t);
 typedef uint32_t TickDirect(uint32_t *, const uint32_t *, size_t, const uint32_t *, size_t, uint32_t *, size_t,
-                            uint32_t *, size_t, uint8_t *, uint32_t *);
+                            uint32_t *, size_t, uint32_t *, size_t, uint8_t *, uint32_t *);
 typedef uint32_t TickPipelined(uint32_t *, const uint32_t *, size_t, const uint32_t *, size_t, uint32_t *, size_t,
-                               uint32_t *, size_t, uint32_t *, size_t, uint32_t *, size_t, uint8_t *, uint32_t *);
+                               uint32_t *, size_t, uint32_t *, size_t, uint32_t *, size_t, uint32_t *, size_t,
+                               uint8_t *, uint32_t *);
 
 static StartDirect *const p_start_direct = kivdrag_start_direct;
 static StartPipelined *const p_start_pipelined = kivdrag_start_pipelined;
@@ -120,7 +123,7 @@ static const struct {
  * beyond, and is lent with `lengths` words. Each word begins with a value of its own, so that a wrong place shows.
  */
 #define MOST KIVDRAG_PORTS_MAX
-#define BEYOND 6
+#define BEYOND 7
 
 typedef struct {
     uint32_t clock[KIVDRAG_CLOCK_WORDS];
@@ -128,6 +131,7 @@ typedef struct {
     uint32_t rates[KIVDRAG_PAIR_WORDS(MOST) + BEYOND];
     uint32_t credits[KIVDRAG_PAIR_WORDS(MOST) + BEYOND];
     uint32_t queues[KIVDRAG_PAIR_WORDS(MOST) + BEYOND];
+    uint32_t given[KIVDRAG_GIVEN_WORDS(MOST) + BEYOND];
     uint32_t copy[KIVDRAG_PAIR_WORDS(MOST) + BEYOND];
     uint32_t flight[KIVDRAG_FLIGHT_WORDS(MOST) + BEYOND];
     uint8_t outputs[KIVDRAG_PORTS_MAX];
@@ -139,7 +143,7 @@ typedef struct {
 static Memory is, should;
 
 static struct {
-    size_t slots, rates, credits, queues, copy, flight;
+    size_t slots, rates, credits, queues, given, copy, flight;
 } lengths;
 
 /* The numbers that a caller brings. */
@@ -151,11 +155,11 @@ static uint32_t by_position(Function called, const Numbers *n) {
     switch (called) {
     case START_DIRECT:
         return p_start_direct(n->ports, n->frame, n->line, is.clock, is.slots, lengths.slots, is.rates, lengths.rates,
-                              is.credits, lengths.credits, is.queues, lengths.queues);
+                              is.credits, lengths.credits, is.queues, lengths.queues, is.given, lengths.given);
     case START_PIPELINED:
         return p_start_pipelined(n->ports, n->frame, n->line, is.clock, is.slots, lengths.slots,
                                  is.rates, lengths.rates, is.credits, lengths.credits, is.queues, lengths.queues,
-                                 is.copy, lengths.copy, is.flight, lengths.flight);
+                                 is.given, lengths.given, is.copy, lengths.copy, is.flight, lengths.flight);
     case BOOK:
         return p_book(is.clock, is.slots, lengths.slots, is.rates, lengths.rates, n->input, n->output, n->amount);
     case BOOK_RATE:
@@ -184,10 +188,10 @@ static uint32_t by_position(Function called, const Numbers *n) {
         return p_arrive(is.clock, is.queues, lengths.queues, n->input, n->output, n->packets);
     case TICK_DIRECT:
         return p_tick_direct(is.clock, is.slots, lengths.slots, is.rates, lengths.rates, is.credits, lengths.credits,
-                             is.queues, lengths.queues, is.outputs, &is.first_pass);
+                             is.queues, lengths.queues, is.given, lengths.given, is.outputs, &is.first_pass);
     case TICK_PIPELINED:
         return p_tick_pipelined(is.clock, is.slots, lengths.slots, is.rates, lengths.rates,
-                                is.credits, lengths.credits, is.queues, lengths.queues,
+                                is.credits, lengths.credits, is.queues, lengths.queues, is.given, lengths.given,
                                 is.copy, lengths.copy, is.flight, lengths.flight, is.outputs, &is.first_pass);
     case FUNCTIONS:
         break;
@@ -211,13 +215,14 @@ static uint32_t by_name(Function called, const Numbers *n) {
     uint64_t ports = n->ports, frame = n->frame, line = n->line, input = n->input, output = n->output;
     uint64_t amount = n->amount, rate = n->rate, packets = n->packets;
     size_t slots_length = lengths.slots, rates_length = lengths.rates, credits_length = lengths.credits;
-    size_t queues_length = lengths.queues, copy_length = lengths.copy, flight_length = lengths.flight;
+    size_t queues_length = lengths.queues, given_length = lengths.given, copy_length = lengths.copy;
+    size_t flight_length = lengths.flight;
     /* what clock[4] and outputs[32] are, and what * is put before */
     uint32_t *clock[4 + 1] = {0};
     uint8_t *outputs[32 + 1] = {0};
-    uint32_t *lent[] = {is.slots, is.rates, is.credits, is.queues, is.copy, is.flight, &is.first_pass};
+    uint32_t *lent[] = {is.slots, is.rates, is.credits, is.queues, is.given, is.copy, is.flight, &is.first_pass};
     uint32_t **slots = &lent[0], **rates = &lent[1], **credits = &lent[2], **queues = &lent[3];
-    uint32_t **copy = &lent[4], **flight = &lent[5], **first_pass = &lent[6];
+    uint32_t **given = &lent[4], **copy = &lent[5], **flight = &lent[6], **first_pass = &lent[7];
     int64_t *lent_headroom = &is.headroom, **headroom = &lent_headroom;
     uint64_t *lent_sums[] = {&is.row, &is.column}, **row = &lent_sums[0], **column = &lent_sums[1];
     clock[4] = is.clock;
@@ -401,6 +406,7 @@ static void check(int line, const char *call, uint32_t wanted, Call c) {
     SAME(rates);
     SAME(credits);
     SAME(queues);
+    SAME(given);
     SAME(copy);
     SAME(flight);
     for (size_t p = 0; p < sizeof is.outputs; p++) {
@@ -437,6 +443,7 @@ static void should_start(uint32_t ports, uint32_t frame, uint32_t line, int pipe
     memset(should.rates, 0, pairs);
     memset(should.credits, 0, pairs);
     memset(should.queues, 0, pairs);
+    memset(should.given, 0, KIVDRAG_GIVEN_WORDS(ports) * sizeof(uint32_t));
     if (pipelined) {
         memset(should.copy, 0, pairs);
         memset(should.flight, 0, KIVDRAG_FLIGHT_WORDS(ports) * sizeof(uint32_t));
@@ -463,6 +470,16 @@ static void should_answer(uint32_t slot, uint8_t first, uint8_t second, uint8_t 
     should.first_pass = first_pass;
 }
 
+/* a direct tick: the same, and the words of the inputs that are given an output */
+static void should_give(uint32_t slot, uint8_t first, uint8_t second, uint8_t third, uint32_t first_pass) {
+    should_answer(slot, first, second, third, first_pass);
+    for (size_t p = 0; p < 3; p++) {
+        if (should.outputs[p] != 0) {
+            should.given[p] = should.outputs[p];
+        }
+    }
+}
+
 /* the same value where it is and where it should be, before a call */
 #define SET(word, value) (is.word = should.word = (value))
 
@@ -481,6 +498,7 @@ static void fresh(size_t ports) {
     FILL(rates, 2000000);
     FILL(credits, 3000000);
     FILL(queues, 4000000);
+    FILL(given, 1); /* as if each input had been given an output of its own */
     FILL(copy, 5000000);
     FILL(flight, 6000000);
     memset(is.outputs, 0xA5, sizeof is.outputs);
@@ -495,6 +513,7 @@ static void fresh(size_t ports) {
     lengths.queues = KIVDRAG_PAIR_WORDS(ports) + 4;
     lengths.copy = KIVDRAG_PAIR_WORDS(ports) + 5;
     lengths.flight = KIVDRAG_FLIGHT_WORDS(ports) + 6;
+    lengths.given = KIVDRAG_GIVEN_WORDS(ports) + 7;
 }
 
 /* THE CHECKS */
@@ -545,7 +564,8 @@ static void starts(void) {
     CHECK_SHORT(slots, 9, start_direct(3, 7, 9));
     CHECK_SHORT(rates, 9, start_direct(3, 7, 9));
     CHECK_SHORT(credits, 9, start_direct(3, 7, 9));
-    CHECK_SHORT(queues, 9, start_direct(3, 7, TOP_LINE + 1)); /* 4 before 6 */
+    CHECK_SHORT(queues, 9, start_direct(3, 7, 9));
+    CHECK_SHORT(given, 3, start_direct(3, 7, TOP_LINE + 1)); /* 4 before 6 */
     CHECK(KIVDRAG_REFUSED_AMOUNT, start_direct(3, 7, TOP_LINE + 1));
     CHECK(KIVDRAG_REFUSED_AMOUNT, start_direct(3, 7, ((uint64_t)1 << 32) + 9));
     should_start(3, 7, 9, 0);
@@ -566,6 +586,7 @@ static void starts(void) {
     CHECK_SHORT(rates, 9, start_pipelined(3, 7, 9));
     CHECK_SHORT(credits, 9, start_pipelined(3, 7, 9));
     CHECK_SHORT(queues, 9, start_pipelined(3, 7, 9));
+    CHECK_SHORT(given, 3, start_pipelined(3, 7, 9));
     CHECK_SHORT(copy, 9, start_pipelined(3, 7, 9));
     CHECK_SHORT(flight, 18, start_pipelined(3, 7, TOP_LINE + 1)); /* 4 before 6 */
     CHECK(KIVDRAG_REFUSED_AMOUNT, start_pipelined(3, 7, TOP_LINE + 1));
@@ -576,6 +597,7 @@ static void starts(void) {
     /* runs of just the length that is needed */
     fresh(3);
     lengths.slots = lengths.rates = lengths.credits = lengths.queues = lengths.copy = 9;
+    lengths.given = 3;
     lengths.flight = 18;
     should_start(3, 10000, TOP_LINE, 0);
     CHECK(KIVDRAG_ACCEPTED, start_direct(3, 10000, TOP_LINE));
@@ -1009,13 +1031,14 @@ static void direct_ticks(void) {
     CHECK_SHORT(rates, 9, tick_direct());
     CHECK_SHORT(credits, 9, tick_direct());
     CHECK_SHORT(queues, 9, tick_direct());
+    CHECK_SHORT(given, 3, tick_direct());
 
     /* slot 1, first of a frame: the credits become the bookings; 1 to 1 is booked, 3 to 2 left over */
     should.credits[at(1, 3)] = 2;
     should.credits[at(2, 1)] = 1;
     should.queues[at(1, 1)] = 4;
     should.queues[at(3, 2)] = 1;
-    should_answer(1, 1, 0, 2, 1);
+    should_give(1, 1, 0, 2, 1);
     CHECK(KIVDRAG_ACCEPTED, tick_direct());
     /* slot 2: 1 to 3 and 2 to 1 are booked, 3 to 2 left over */
     should.credits[at(1, 3)] = 1;
@@ -1023,11 +1046,11 @@ static void direct_ticks(void) {
     should.queues[at(1, 3)] = 0;
     should.queues[at(2, 1)] = 4;
     should.queues[at(3, 2)] = 0;
-    should_answer(2, 3, 1, 2, 3);
+    should_give(2, 3, 1, 2, 3);
     CHECK(KIVDRAG_ACCEPTED, tick_direct());
     /* slot 3: 1 to 1 is left over, and keeps 2 and 3 from output 1 */
     should.queues[at(1, 1)] = 3;
-    should_answer(3, 1, 0, 0, 0);
+    should_give(3, 1, 0, 0, 0);
     CHECK(KIVDRAG_ACCEPTED, tick_direct());
 
     /* the last slot that runs is 4,000,000,000; with frames of 3 slots it is the first of one, and with lines of 3,000
@@ -1039,13 +1062,143 @@ static void direct_ticks(void) {
     SET(clock[KIVDRAG_CLOCK_SLOT], 4000000000u);
     CHECK(KIVDRAG_REFUSED_CLOCK, tick_direct());
     CHECK_SHORT(queues, 9, tick_direct());
+    CHECK_SHORT(given, 3, tick_direct()); /* 4 before 7 */
     SET(clock[KIVDRAG_CLOCK_SLOT], 3999999999u);
     should.credits[at(1, 3)] = 2;
     should.credits[at(2, 1)] = 1;
     should.queues[at(1, 1)] = 2;
-    should_answer(4000000000u, 1, 0, 0, 1);
+    should_give(4000000000u, 1, 0, 0, 1);
     CHECK(KIVDRAG_ACCEPTED, tick_direct());
     CHECK(KIVDRAG_REFUSED_CLOCK, tick_direct());
+}
+
+/* A direct tick in which pass two gives input 1 this output, and no other input has a packet. */
+static void check_turn(uint32_t slot, uint8_t output) {
+    should.queues[at(1, output)]--;
+    should_give(slot, output, 0, 0, 0);
+    CHECK(KIVDRAG_ACCEPTED, tick_direct());
+}
+
+/* On a direct switch of 3 ports, frames of 7 slots. */
+static void outputs_in_turn(void) {
+    started(3, 7, 0, 0);
+    check_arrive(1, 1, 9);
+    check_arrive(1, 3, 9);
+    /* two films of one input alternate; output 2, for which it has no packet, is passed over */
+    check_turn(1, 1);
+    check_turn(2, 3);
+    check_turn(3, 1);
+    check_turn(4, 3);
+    /* each input goes by its own word: input 2 takes output 2, as 1 is not free, then 1, past 3 and N, and then 2 */
+    check_arrive(2, 1, 9);
+    check_arrive(2, 2, 9);
+    should.queues[at(1, 1)]--;
+    should.queues[at(2, 2)]--;
+    should_give(5, 1, 2, 0, 0);
+    CHECK(KIVDRAG_ACCEPTED, tick_direct());
+    should.queues[at(1, 3)]--;
+    should.queues[at(2, 1)]--;
+    should_give(6, 3, 1, 0, 0);
+    CHECK(KIVDRAG_ACCEPTED, tick_direct());
+    should.queues[at(1, 1)]--;
+    should.queues[at(2, 2)]--;
+    should_give(7, 1, 2, 0, 0);
+    CHECK(KIVDRAG_ACCEPTED, tick_direct());
+
+    /* a start sets the words to 0, so that the search begins at 1, and not past 1 */
+    should_start(3, 7, 0, 0);
+    CHECK(KIVDRAG_ACCEPTED, start_direct(3, 7, 0));
+    check_arrive(1, 1, 9);
+    check_arrive(1, 2, 9);
+    check_arrive(1, 3, 9);
+    check_turn(1, 1);
+    check_turn(2, 2);
+    check_turn(3, 3);
+    check_turn(4, 1);
+
+    /* any words: those outside 1 to N count as never given, and each is left as it is until something is given */
+    static const struct {
+        uint32_t word;
+        uint8_t output;
+    } turns[] = {{0, 1}, {1, 2}, {2, 3}, {3, 1}, {4, 1}, {101, 1}, {0x80000001u, 1}, {UINT32_MAX, 1}};
+    for (size_t p = 0; p < sizeof turns / sizeof turns[0]; p++) {
+        SET(clock[KIVDRAG_CLOCK_SLOT], 1);
+        SET(given[0], turns[p].word);
+        SET(given[1], turns[p].word);
+        check_turn(2, turns[p].output);
+    }
+}
+
+/* Pass one takes its outputs in turn too, and what it gives counts for both: frames of 7 slots, of which a line can sell
+   4. */
+static void bookings_in_turn(void) {
+    started(3, 7, 0, 0);
+    check_book(1, 1, 2);
+    check_book(1, 3, 2);
+    for (uint8_t output = 1; output <= 3; output++) {
+        check_arrive(1, output, 9);
+    }
+    /* slots 1 to 4 are booked: 1 and 3 alternate; 5 to 7 are left over, and go on past output 3 */
+    should.credits[at(1, 1)] = should.credits[at(1, 3)] = 2;
+    for (uint32_t slot = 1; slot <= 4; slot++) {
+        uint8_t output = slot % 2 == 1 ? 1 : 3;
+        should.credits[at(1, output)]--;
+        should.queues[at(1, output)]--;
+        should_give(slot, output, 0, 0, 1);
+        CHECK(KIVDRAG_ACCEPTED, tick_direct());
+    }
+    check_turn(5, 1);
+    check_turn(6, 2);
+    check_turn(7, 3);
+}
+
+/* On a pipelined switch of 2 ports, frames of 4 slots. */
+static void pipelined_in_turn(void) {
+    started(2, 4, 0, 1);
+    check_book(1, 1, 1);
+    check_arrive(1, 1, 5);
+    check_arrive(1, 2, 5);
+    /* time 1: input 1 takes output 1 for slot 5, by pass one, and so output 2 for slot 3 */
+    should.copy[at(1, 1)] = 1;
+    should.flight[in_flight(5, 1)] = 101;
+    should.flight[in_flight(3, 1)] = 2;
+    should.queues[at(1, 1)] = 4;
+    should.queues[at(1, 2)] = 4;
+    should.given[0] = 2;
+    should_answer(1, 0, 0, 0, 0);
+    CHECK(KIVDRAG_ACCEPTED, tick_pipelined());
+    /* time 2: 1 for slot 4; slot 3 is handed out */
+    should.flight[in_flight(4, 1)] = 1;
+    should.flight[in_flight(3, 1)] = 0;
+    should.queues[at(1, 1)] = 3;
+    should.given[0] = 1;
+    should_answer(2, 2, 0, 0, 0);
+    CHECK(KIVDRAG_ACCEPTED, tick_pipelined());
+    /* time 3: it has an output for slot 5, and so takes none; what is handed out, output 1 in slot 4, is not noted */
+    should.flight[in_flight(4, 1)] = 0;
+    should_answer(3, 1, 0, 0, 0);
+    CHECK(KIVDRAG_ACCEPTED, tick_pipelined());
+    /* time 4: a word above N counts as never given, so 1 for slot 6; that of input 2, which takes nothing, stays */
+    SET(given[0], 3);
+    SET(given[1], UINT32_MAX);
+    should.flight[in_flight(6, 1)] = 1;
+    should.flight[in_flight(5, 1)] = 0;
+    should.queues[at(1, 1)] = 2;
+    should.given[0] = 1;
+    should_answer(4, 1, 0, 0, 1);
+    CHECK(KIVDRAG_ACCEPTED, tick_pipelined());
+    /* time 5: slot 9 is the first of a frame, and 1 is booked there, though it was last given too; then 2 for slot 7 */
+    should.flight[in_flight(9, 1)] = 101;
+    should.flight[in_flight(7, 1)] = 2;
+    should.flight[in_flight(6, 1)] = 0;
+    should.queues[at(1, 1)] = 1;
+    should.queues[at(1, 2)] = 3;
+    should.given[0] = 2;
+    should_answer(5, 1, 0, 0, 0);
+    CHECK(KIVDRAG_ACCEPTED, tick_pipelined());
+
+    should_start(2, 4, 0, 1);
+    CHECK(KIVDRAG_ACCEPTED, start_pipelined(2, 4, 0));
 }
 
 /* The booking that the credits become, where words are such as no calls leave: rates with a line rate of 0, more than
@@ -1107,6 +1260,7 @@ static void pipelined_ticks(void) {
     CHECK_SHORT(rates, 4, tick_pipelined());
     CHECK_SHORT(credits, 4, tick_pipelined());
     CHECK_SHORT(queues, 4, tick_pipelined());
+    CHECK_SHORT(given, 2, tick_pipelined());
     CHECK_SHORT(copy, 4, tick_pipelined());
     CHECK_SHORT(flight, 8, tick_pipelined());
 
@@ -1116,6 +1270,7 @@ static void pipelined_ticks(void) {
     should.flight[in_flight(5, 1)] = 102;
     should.flight[in_flight(3, 1)] = 2;
     should.queues[at(1, 2)] = 1;
+    should.given[0] = 2;
     should_answer(1, 0, 0, 0, 0);
     CHECK(KIVDRAG_ACCEPTED, tick_pipelined());
     /* what is released now still counts for the frame that has been read */
@@ -1128,6 +1283,7 @@ static void pipelined_ticks(void) {
     should.credits[at(2, 2)] = 1;
     should.queues[at(1, 2)] = 0;
     should.queues[at(2, 1)] = 0;
+    should.given[1] = 1;
     should_answer(2, 2, 1, 0, 0);
     CHECK(KIVDRAG_ACCEPTED, tick_pipelined());
     /* time 3: input 2 takes output 2 for slot 6; for slot 4, which is handed out, that one is not free */
@@ -1135,6 +1291,7 @@ static void pipelined_ticks(void) {
     should.flight[in_flight(4, 1)] = 0;
     should.credits[at(2, 2)] = 0;
     should.queues[at(2, 2)] = 1;
+    should.given[1] = 2;
     should_answer(3, 2, 0, 0, 0);
     CHECK(KIVDRAG_ACCEPTED, tick_pipelined());
     /* time 4: slot 5 is handed out, by pass one; the words for slot 8 mean nothing, and so are none */
@@ -1183,6 +1340,7 @@ static void most_ports(void) {
     should.queues[1023] = 0;
     should_answer(1, 0, 0, 0, 0x80000000u);
     should.outputs[31] = 32;
+    should.given[31] = 32;
     CHECK(KIVDRAG_ACCEPTED, tick_direct());
 
     CHECK(KIVDRAG_REFUSED_PIPELINE, start_pipelined(32, 31, TOP_LINE));
@@ -1307,14 +1465,14 @@ static void calls_on_const(void) {
 
 static uint32_t tick_on_const(int pipelined, uint32_t slot) {
     uint32_t clock[KIVDRAG_CLOCK_WORDS] = {2, 3, slot, 1000};
-    uint32_t credits[4] = {0, 0, 0, 0}, queues[4] = {0, 0, 0, 0}, copy[4] = {0, 0, 0, 0};
+    uint32_t credits[4] = {0, 0, 0, 0}, queues[4] = {0, 0, 0, 0}, given[2] = {0, 0}, copy[4] = {0, 0, 0, 0};
     uint32_t flight[8] = {0, 0, 0, 0, 0, 0, 0, 0}, first_pass;
     uint8_t outputs[32];
     if (pipelined) {
-        return p_tick_pipelined(clock, const_slots, 4, const_rates, 4, credits, 4, queues, 4, copy, 4, flight, 8,
-                                outputs, &first_pass);
+        return p_tick_pipelined(clock, const_slots, 4, const_rates, 4, credits, 4, queues, 4, given, 2, copy, 4,
+                                flight, 8, outputs, &first_pass);
     }
-    return p_tick_direct(clock, const_slots, 4, const_rates, 4, credits, 4, queues, 4, outputs, &first_pass);
+    return p_tick_direct(clock, const_slots, 4, const_rates, 4, credits, 4, queues, 4, given, 2, outputs, &first_pass);
 }
 
 static void ticks_on_const(void) {
@@ -1339,8 +1497,11 @@ static void all(void) {
         arrivals(pipelined);
     }
     direct_ticks();
+    outputs_in_turn();
+    bookings_in_turn();
     large_bookings();
     pipelined_ticks();
+    pipelined_in_turn();
     most_ports();
     most_headroom();
     most_previewed();
