@@ -30,15 +30,16 @@ module _ (n f b : ℕ) (w : Direct.Runs) (c : Clock) where
   -- and an accepted one
   pub direct-clears : 0 ≡ Direct.start-refusal n f b w
       → (clock : Clock) → clock ≡ first-clock n f b
-      → (s r k q : List ℕ)
+      → (s r k q v : List ℕ)
       → (s ≡ clear-words (n * n) (w .book .slots)) × ((r ≡ clear-words (n * n) (w .book .rates))
-      × ((k ≡ clear-words (n * n) (w .credits)) × (q ≡ clear-words (n * n) (w .queues))))
-      → effect (record { refusal = 0; clock = clock }) (direct-runs-of s r k q) ≡ start-effect (Direct.start n f b c w)
+      × ((k ≡ clear-words (n * n) (w .credits)) × ((q ≡ clear-words (n * n) (w .queues)) × (v ≡ clear-words n (w .given)))))
+      → effect (record { refusal = 0; clock = clock }) (direct-runs-of s r k q v) ≡ start-effect (Direct.start n f b c w)
   unfolding Direct.start
-  direct-clears e clock h s r k q l =
+  direct-clears e clock h s r k q v l =
       let long = direct-asked n f b w e .1 in
-      rw (h, l .0, l .1 .0, l .1 .1 .0, l .1 .1 .1, eq-eqb (Direct.start-refusal n f b w) 0 (sym e))
-      (rw (clear-fits _ _ (long .slots), clear-fits _ _ (long .rates), clear-fits _ _ (long .credits), clear-fits _ _ (long .queues)))
+      rw (h, l .0, l .1 .0, l .1 .1 .0, l .1 .1 .1 .0, l .1 .1 .1 .1, eq-eqb (Direct.start-refusal n f b w) 0 (sym e))
+      (rw (clear-fits _ _ (long .slots), clear-fits _ _ (long .rates), clear-fits _ _ (long .credits), clear-fits _ _ (long .queues))
+      (rw (clear-fits _ _ (long .given))))
 
 -- PIPELINED
 module _ (n f b : ℕ) (w : Pipelined.Runs) (c : Clock) where
@@ -51,14 +52,14 @@ module _ (n f b : ℕ) (w : Pipelined.Runs) (c : Clock) where
   -- and an accepted one
   pub pipelined-clears : 0 ≡ Pipelined.start-refusal n f b w
       → (clock : Clock) → clock ≡ first-clock n f b
-      → (s r k q p t : List ℕ)
+      → (s r k q v p t : List ℕ)
       → (s ≡ clear-words (n * n) (w .book .slots)) × ((r ≡ clear-words (n * n) (w .book .rates))
-      × ((k ≡ clear-words (n * n) (w .credits)) × (q ≡ clear-words (n * n) (w .queues))))
+      × ((k ≡ clear-words (n * n) (w .credits)) × ((q ≡ clear-words (n * n) (w .queues)) × (v ≡ clear-words n (w .given)))))
       → (p ≡ clear-words (n * n) (w .copy)) × (t ≡ clear-words (2 * n * n) (w .flight))
-      → effect (record { refusal = 0; clock = clock }) (pipelined-runs-of s r k q p t) ≡ start-effect (Pipelined.start n f b c w)
+      → effect (record { refusal = 0; clock = clock }) (pipelined-runs-of s r k q v p t) ≡ start-effect (Pipelined.start n f b c w)
   unfolding Pipelined.start
-  pipelined-clears e clock h s r k q p t l g =
+  pipelined-clears e clock h s r k q v p t l g =
       let long = pipelined-asked n f b w e .2 in
-      rw (h, l .0, l .1 .0, l .1 .1 .0, l .1 .1 .1, g .0, g .1, eq-eqb (Pipelined.start-refusal n f b w) 0 (sym e))
+      rw (h, l .0, l .1 .0, l .1 .1 .0, l .1 .1 .1 .0, l .1 .1 .1 .1, g .0, g .1, eq-eqb (Pipelined.start-refusal n f b w) 0 (sym e))
       (rw (clear-fits _ _ (long .slots), clear-fits _ _ (long .rates), clear-fits _ _ (long .sized .credits))
-      (rw (clear-fits _ _ (long .sized .queues), clear-fits _ _ (long .copy), clear-fits _ _ (long .sized .flight))))
+      (rw (clear-fits _ _ (long .sized .queues), clear-fits _ _ (long .sized .given), clear-fits _ _ (long .copy), clear-fits _ _ (long .sized .flight))))

@@ -20,25 +20,28 @@ pub fn first_clock(ports: u64, frame: u64, line: u64) -> Clock
     }
 }
 
-// Sets the words of all pairs to 0 in the runs that both forms have.
-pub fn clear_matrices(
+// Sets the used words to 0 in the runs that both forms have: those of all pairs, and the output that each input was last given.
+pub fn clear_runs(
     ports: u64,
     slots: &mut [u32],
     rates: &mut [u32],
     credits: &mut [u32],
     queues: &mut [u32],
+    given: &mut [u32],
 )
     requires ports_in_range { ⌜ ports ≤ 32 ⌝ }
     ensures slots_exit { λ _. ⌜ now (slots .exit) ≡ clear-words (ports * ports) (now (slots .entry)) ⌝ }
     ensures rates_exit { λ _. ⌜ now (rates .exit) ≡ clear-words (ports * ports) (now (rates .entry)) ⌝ }
     ensures credits_exit { λ _. ⌜ now (credits .exit) ≡ clear-words (ports * ports) (now (credits .entry)) ⌝ }
     ensures queues_exit { λ _. ⌜ now (queues .exit) ≡ clear-words (ports * ports) (now (queues .entry)) ⌝ }
+    ensures given_exit { λ _. ⌜ now (given .exit) ≡ clear-words ports (now (given .entry)) ⌝ }
 {
     let words = (ports * ports) as usize;
     clear_words(slots, words);
     clear_words(rates, words);
     clear_words(credits, words);
     clear_words(queues, words);
+    clear_words(given, ports as usize);
 }
 
 // Sets to 0 what a pipelined switch has besides: the frame copy, and the rows in flight.

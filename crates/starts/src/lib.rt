@@ -7,8 +7,8 @@ ghost use Rattle.wsgs.specs.Pipelined;
 
 mod initial;
 
-use initial::clear_matrices;
 use initial::clear_pipeline;
+use initial::clear_runs;
 use initial::first_clock;
 use questions::direct_start_refusal;
 use questions::pipelined_start_refusal;
@@ -25,17 +25,18 @@ pub fn start_direct(
     rates: &mut [u32],
     credits: &mut [u32],
     queues: &mut [u32],
+    given: &mut [u32],
 ) -> StartResult
     ensures outcome { λ r. ⌜ effect r
-        (direct-runs-of (now (slots .exit)) (now (rates .exit)) (now (credits .exit)) (now (queues .exit)))
+        (direct-runs-of (now (slots .exit)) (now (rates .exit)) (now (credits .exit)) (now (queues .exit)) (now (given .exit)))
         ≡ start-effect (Direct.start ports frame line clock
-        (direct-runs-of (now (slots .entry)) (now (rates .entry)) (now (credits .entry)) (now (queues .entry)))) ⌝ }
+        (direct-runs-of (now (slots .entry)) (now (rates .entry)) (now (credits .entry)) (now (queues .entry)) (now (given .entry)))) ⌝ }
 {
-    let refusal = direct_start_refusal(ports, frame, line, slots, rates, credits, queues);
+    let refusal = direct_start_refusal(ports, frame, line, slots, rates, credits, queues, given);
     if refusal != 0 {
         return StartResult { refusal, clock };
     }
-    clear_matrices(ports, slots, rates, credits, queues);
+    clear_runs(ports, slots, rates, credits, queues, given);
     StartResult {
         refusal: 0,
         clock: first_clock(ports, frame, line),
@@ -52,15 +53,16 @@ pub fn start_pipelined(
     rates: &mut [u32],
     credits: &mut [u32],
     queues: &mut [u32],
+    given: &mut [u32],
     copy: &mut [u32],
     flight: &mut [u32],
 ) -> StartResult
     ensures outcome { λ r. ⌜ effect r
         (pipelined-runs-of (now (slots .exit)) (now (rates .exit)) (now (credits .exit)) (now (queues .exit))
-        (now (copy .exit)) (now (flight .exit)))
+        (now (given .exit)) (now (copy .exit)) (now (flight .exit)))
         ≡ start-effect (Pipelined.start ports frame line clock
         (pipelined-runs-of (now (slots .entry)) (now (rates .entry)) (now (credits .entry)) (now (queues .entry))
-        (now (copy .entry)) (now (flight .entry)))) ⌝ }
+        (now (given .entry)) (now (copy .entry)) (now (flight .entry)))) ⌝ }
 {
     let refusal = pipelined_start_refusal(
         ports,
@@ -70,13 +72,14 @@ pub fn start_pipelined(
         rates,
         credits,
         queues,
+        given,
         copy,
         flight,
     );
     if refusal != 0 {
         return StartResult { refusal, clock };
     }
-    clear_matrices(ports, slots, rates, credits, queues);
+    clear_runs(ports, slots, rates, credits, queues, given);
     clear_pipeline(ports, copy, flight);
     StartResult {
         refusal: 0,

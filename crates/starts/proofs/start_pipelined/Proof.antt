@@ -10,12 +10,12 @@ use Rattle.starts.proofs.start_pipelined.Statement.{statement}
 use Rattle.starts.proofs.start_pipelined.Tie as tie
 
 abbrev start : tie.After-pipelined-start-refusal → tie.Start
-start c = c .before .before .before .before .before .before .before .before .before .before .before .before .before
+start c = c .before .before .before .before .before .before .before .before .before .before .before .before .before .before .before
 
 abbrev runs : tie.Start → Pipelined.Runs
 runs s =
     let a = s .args in
-    pipelined-runs-of (a .slots .now) (a .rates .now) (a .credits .now) (a .queues .now) (a .copy .now) (a .flight .now)
+    pipelined-runs-of (a .slots .now) (a .rates .now) (a .credits .now) (a .queues .now) (a .given .now) (a .copy .now) (a .flight .now)
 
 -- the start is accepted
 passed : (c : tie.Else1) → let s = start (c .before) in 0 ≡ Pipelined.start-refusal (s .args .ports) (s .args .frame) (s .args .line) (runs s)
@@ -25,11 +25,11 @@ passed c = sym (c .if1 .left) ∙ c .before .pipelined-start-refusal .ensures
 numbers : (c : tie.Else1) → let s = start (c .before) in StartInRange (s .args .ports) (s .args .frame) (s .args .line)
 numbers c = pipelined-asked _ _ _ _ (passed c) .0
 
-abbrev asked : tie.After-clear-matrices → tie.Else1
-asked c = c .before .before .before .before .before
+abbrev asked : tie.After-clear-runs → tie.Else1
+asked c = c .before .before .before .before .before .before
 
-abbrev matrices : tie.After-clear-pipeline → tie.After-clear-matrices
-matrices c = c .before .before .before .before .before .before .before .before .before .before .before
+abbrev shared : tie.After-clear-pipeline → tie.After-clear-runs
+shared c = c .before .before .before .before .before .before .before .before .before .before .before .before .before
 
 pipelined-start-refusal-requires : tie.Need-pipelined-start-refusal-requires
 pipelined-start-refusal-requires c κs = search needs
@@ -52,20 +52,20 @@ same-length-5 c = search needs
 same-length-6 : tie.Need-same-length-6
 same-length-6 c = search needs
 
+same-length-7 : tie.Need-same-length-7
+same-length-7 c = search needs
+
 returns : tie.Need-returns
 returns c = pipelined-stays _ _ _ (runs (start (c .before))) _ _ (c .before .pipelined-start-refusal .ensures) (c .if1 .taken)
 
-clear-matrices-requires : tie.Need-clear-matrices-requires
-clear-matrices-requires c κs = numbers (c .before .before .before .before) .sizes .ports .1
+clear-runs-requires : tie.Need-clear-runs-requires
+clear-runs-requires c κs = numbers (c .before .before .before .before .before) .sizes .ports .1
 
 clear-pipeline-requires : tie.Need-clear-pipeline-requires
-clear-pipeline-requires c κs = numbers (asked (c .before .before .before .before .before .before .before .before .before .before)) .sizes .ports .1
+clear-pipeline-requires c κs = numbers (asked (c .before .before .before .before .before .before .before .before .before .before .before .before)) .sizes .ports .1
 
 first-clock-requires : tie.Need-first-clock-requires
-first-clock-requires c κs = numbers (asked (matrices (c .before .before .before .before)))
-
-same-length-7 : tie.Need-same-length-7
-same-length-7 c = search needs
+first-clock-requires c κs = numbers (asked (shared (c .before .before .before .before)))
 
 same-length-8 : tie.Need-same-length-8
 same-length-8 c = search needs
@@ -82,13 +82,19 @@ same-length-11 c = search needs
 same-length-12 : tie.Need-same-length-12
 same-length-12 c = search needs
 
+same-length-13 : tie.Need-same-length-13
+same-length-13 c = search needs
+
+same-length-14 : tie.Need-same-length-14
+same-length-14 c = search needs
+
 returns-2 : tie.Need-returns-2
 returns-2 c =
     let v = c .before .before .before .before .before in
-    let w = matrices v in
+    let w = shared v in
     let e = asked w in
     pipelined-clears _ _ _ (runs (start (e .before))) _ (passed e) _ (c .first-clock .ensures)
-    _ _ _ _ _ _ (w .clear-matrices .ensures) (v .clear-pipeline .ensures)
+    _ _ _ _ _ _ _ (w .clear-runs .ensures) (v .clear-pipeline .ensures)
 
 pub start-pipelined-spec : {M : Type 1} → statement M
 start-pipelined-spec =
@@ -101,14 +107,16 @@ start-pipelined-spec =
     same-length-4
     same-length-5
     same-length-6
+    same-length-7
     returns
-    clear-matrices-requires
+    clear-runs-requires
     clear-pipeline-requires
     first-clock-requires
-    same-length-7
     same-length-8
     same-length-9
     same-length-10
     same-length-11
     same-length-12
+    same-length-13
+    same-length-14
     returns-2)
