@@ -18,6 +18,7 @@ pub record TickConditions (c : Clock) (w : Direct.Runs) : Type 0 where
   pub rates : c .ports * c .ports ≤ length (w .book .rates)
   pub credits : c .ports * c .ports ≤ length (w .credits)
   pub queues : c .ports * c .ports ≤ length (w .queues)
+  pub given : c .ports ≤ length (w .given)
   pub slots-left : c .slot < 4000000000
 
 pub accepted-found : (c : Clock) (w : Direct.Runs) → Direct.tick-refusal c w ≡ 0 → TickConditions c w
@@ -33,5 +34,6 @@ accepted-found c w e =
       rates = y .long .rates;
       credits = y .long .credits;
       queues = y .long .queues;
+      given = y .long .given;
       slots-left = ltb→lt (c .slot) 4000000000 (y .later .0);
     }

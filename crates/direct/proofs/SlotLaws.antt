@@ -10,7 +10,7 @@ use lib.ListN.{replicate}
 use Rattle.wsgs.specs.declared.Clock.{Clock}
 use Rattle.wsgs.specs.Clocks.{at-slot}
 use Rattle.wsgs.specs.Basics.{pick, Port}
-use Rattle.wsgs.specs.Words.{word, copied}
+use Rattle.wsgs.specs.Words.{word, port-word, copied}
 use Rattle.wsgs.specs.Bookings.{booking-words}
 use Rattle.wsgs.specs.Frames.{first-of-frame}
 use Rattle.wsgs.specs.Steps.{Matching, empty-matching, pass-two, listed, marked, outputs-of, pass-word-of}
@@ -38,17 +38,17 @@ module _ (n f b k : ℕ) (w : Runs) where
   loads = loaded n f b k w
 
   abbrev one : ℕ → ℕ
-  one = ones n loads (w .queues)
+  one = ones n loads (w .queues) (w .given)
 
   abbrev two : ℕ → ℕ
-  two = pass-two n (word n (w .queues)) one n
+  two = pass-two n (word n (w .queues)) (port-word (w .given)) one n
 
   -- the outputs that pass one gave are still those of its inputs
   ones-stay : (i : ℕ) → Port n i → one i ≡ pick (ltb 0 (one i)) (two i) 0
   ones-stay i p = go (decLt 0 (one i))
     where
       go : Dec (0 < one i) → one i ≡ pick (ltb 0 (one i)) (two i) 0
-      go (yes h) = rw (lt-ltb 0 (one i) h) (sym (two-keeps n (word n (w .queues)) one i p h))
+      go (yes h) = rw (lt-ltb 0 (one i) h) (sym (two-keeps n (word n (w .queues)) (port-word (w .given)) one i p h))
       go (no h) = rw (le-ltb 0 (one i) (omega arith)) (omega arith)
 
   -- step 1, and the pairs
@@ -66,12 +66,13 @@ module _ (n f b k : ℕ) (w : Runs) where
 
   -- the passes on the credits of step 1
   pub slot-run : (start : List ℕ) → start ≡ first-credits
-      → (free first : ℕ) (outputs credits queues : List ℕ)
-      → PassState n (w .queues) (pass-two n (word n (w .queues)) (ones n start (w .queues)) n) free outputs queues
-      → first ≡ marked 32 (λ i. ltb 0 (ones n start (w .queues) i))
-      → credits ≡ spent n start (ones n start (w .queues)) n
-      → SlotRun n f b k w outputs first credits queues
-  slot-run start e free first outputs credits queues h m c =
+      → (free first : ℕ) (outputs credits queues given : List ℕ)
+      → PassState n (w .queues) (w .given)
+      (pass-two n (word n (w .queues)) (port-word (w .given)) (ones n start (w .queues) (w .given)) n) free outputs queues given
+      → first ≡ marked 32 (λ i. ltb 0 (ones n start (w .queues) (w .given) i))
+      → credits ≡ spent n start (ones n start (w .queues) (w .given)) n
+      → SlotRun n f b k w outputs first credits queues given
+  slot-run start e free first outputs credits queues given h m c =
       let d : start ≡ loads = e ∙ loads-are in
       let held = rw d at h in
       record {
@@ -79,6 +80,7 @@ module _ (n f b k : ℕ) (w : Runs) where
         mark = rw pairs-are ((rw d at m) ∙ sym (mark-is _));
         credits-left = rw pairs-are ((rw d at c) ∙ spent-ext n loads one _ n ones-stay);
         queues-left = rw pairs-are (held .cost);
+        given-left = rw pairs-are (held .gifts);
       }
 
 -- A tick is refused or runs the slot, as its refusal says.
@@ -97,10 +99,10 @@ module _ (k : Clock) (w : Runs) (r : ℕ) (asked : r ≡ tick-refusal k w) where
   tick-refused h = rw (out-refused h, outputs-are empty-matching, mark-is empty-matching, listed-none 32, marked-none 32)
 
   -- another answers the slot
-  pub tick-ran : r ≤ 0 → (first : ℕ) (outputs credits queues : List ℕ)
-      → SlotRun (k .ports) (k .frame) (k .line) (k .slot + 1) w outputs first credits queues
+  pub tick-ran : r ≤ 0 → (first : ℕ) (outputs credits queues given : List ℕ)
+      → SlotRun (k .ports) (k .frame) (k .line) (k .slot + 1) w outputs first credits queues given
       → effect (record { refusal = 0; clock = at-slot k (k .slot + 1); outputs = outputs; «first_pass» = first })
-      (direct-runs-of (w .book .slots) (w .book .rates) credits queues)
+      (direct-runs-of (w .book .slots) (w .book .rates) credits queues given)
       ≡ tick-effect (tick k w)
   unfolding ticked
-  tick-ran h first outputs credits queues d = rw (out-ran h, d .answer, d .mark, d .credits-left, d .queues-left)
+  tick-ran h first outputs credits queues given d = rw (out-ran h, d .answer, d .mark, d .credits-left, d .queues-left, d .given-left)

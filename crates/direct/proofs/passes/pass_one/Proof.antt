@@ -1,17 +1,18 @@
 -- `passes::pass_one` meets its contract. The loop's invariant is `PassOneState`: the outputs that the inputs hold are the definition's for the inputs so
 -- far, and mask, list, words and mark are as these say; besides, the outputs for which those inputs had packets are known, and the table has the
 -- bits of a word. The measure is the inputs left. Assumes nothing.
-use Prim.Native.Nat.{_+_, _-_, _≤_}
+use Prim.Native.Nat.{_+_, _-_, _*_, _≤_, _<_}
 use mathlib.Core.Path.{_≡_, refl, _∙_}
 use native.Mathlib.Numerals.{add-one}
 use native.Mathlib.Omega.{arith}
 use borrow.Author.Needs.{needs}
 use lib.ListN.{length, set}
-use Rattle.wsgs.specs.Basics.{Port, lowest}
-use Rattle.wsgs.specs.Words.{word}
+use Rattle.wsgs.specs.Basics.{Port, in-turn}
+use Rattle.wsgs.specs.Words.{word, port-word}
 use Rattle.wsgs.specs.Steps.{pass-one}
-use Rattle.wsgs.proofs.Laws.Lowest.{lowest-some}
+use Rattle.wsgs.proofs.Laws.InTurn.{in-turn-some}
 use Rattle.turns.specs.Masks.{powers, is-open}
+use Rattle.turns.specs.Requests.{Asked}
 use Rattle.direct.specs.Passes.{WaitingWords}
 use Rattle.turns.proofs.BitLaws.{one-shl}
 use Rattle.turns.proofs.MaskLaws.{free-first}
@@ -20,55 +21,73 @@ use Rattle.direct.proofs.passes.pass_one.Statement.{statement}
 use Rattle.direct.proofs.passes.pass_one.Tie as tie
 
 abbrev Inv-loop : tie.InvT-loop
-Inv-loop ports credits₀ queues₀ free₀ outputs₀ first-pass₀ waiting₀ bits row₀ credits queues free outputs first-pass waiting row =
+Inv-loop ports credits₀ queues₀ given₀ free₀ outputs₀ first-pass₀ waiting₀ bits row₀ credits queues given free outputs first-pass waiting row =
     (row ≤ ports)
     × (length credits ≡ length credits₀)
     × (length queues ≡ length queues₀)
-    × PassOneState ports credits₀ queues₀ (pass-one ports (word ports credits₀) (word ports queues₀) row) free first-pass outputs credits queues
+    × (length given ≡ length given₀)
+    × PassOneState ports credits₀ queues₀ given₀ (pass-one ports (word ports credits₀) (word ports queues₀) (port-word given₀) row) free first-pass
+    outputs credits queues given
     × ((length waiting ≡ 32) × WaitingWords ports row queues₀ waiting)
     × (bits ≡ powers 0 32)
 
 abbrev μ-loop : tie.MeasureT-loop
-μ-loop ports credits₀ queues₀ free₀ outputs₀ first-pass₀ waiting₀ bits row₀ credits queues free outputs first-pass waiting row =
+μ-loop ports credits₀ queues₀ given₀ free₀ outputs₀ first-pass₀ waiting₀ bits row₀ credits queues given free outputs first-pass waiting row =
     ports - row
 
 -- from the test of a turn's output back to the turn, and from there to the loop's head and the entry
 abbrev turn : tie.After-struct-known Inv-loop μ-loop → tie.After-first-turn Inv-loop μ-loop
-turn c = c .before .before .before .before .before .before
+turn c = c .before .before .before .before .before .before .before
+
+abbrev asked : tie.After-first-turn Inv-loop μ-loop → tie.After-first-requests Inv-loop μ-loop
+asked c = c .before .before .before .before
 
 abbrev head : tie.After-first-turn Inv-loop μ-loop → tie.At-loop Inv-loop μ-loop
-head c = c .before .before .before .before .before
+head c = asked c .before .before .before .before .before
 
 abbrev start : tie.At-loop Inv-loop μ-loop → tie.Start Inv-loop μ-loop
-start c = c .before .before .before .before
+start c = c .before .before .before .before .before
+
+-- the input is one of the ports, which are few, and its runs are long enough
+within : (t : tie.After-first-turn Inv-loop μ-loop) → let l = head t in let n = start l .args .ports in
+    (l .loop .row < n) × (n ≤ 32) × (n * n ≤ length (l .loop .credits)) × (n * n ≤ length (l .loop .queues))
+within t = (omega arith, omega arith, omega arith, omega arith)
+
+-- what the input asks for
+requests : (t : tie.After-first-turn Inv-loop μ-loop) → let l = head t in let o = asked t .first-requests .result in
+    Asked (start l .args .ports) (l .loop .row + 1) (l .loop .credits) (l .loop .queues) (o .ready) (o .waiting)
+requests t = asked t .first-requests .ensures .1 .1 (head t .loop .inv .6) (search needs) (search needs)
 
 -- the output that a turn finds
 found : (t : tie.After-first-turn Inv-loop μ-loop) → let l = head t in let n = start l .args .ports in
-    t .first-turn .result .output .0 ≡ lowest (is-open n (l .loop .free) (l .loop .credits) (l .loop .queues) (l .loop .row + 1)) n
-found t = t .first-turn .ensures .1 .1 .1 .1 .0 (head t .loop .inv .5) (search needs) (search needs)
+    t .first-turn .result .0
+    ≡ in-turn (is-open n (l .loop .free) (l .loop .credits) (l .loop .queues) (l .loop .row + 1)) n (port-word (l .loop .given) (l .loop .row + 1))
+found t = t .first-turn .ensures .1 .1 .1 .1 (requests t .both) (search needs) (search needs) (omega (arith, head t .loop .inv .3))
 
 -- the output that is taken is a port
-taken : (c : tie.Else1 Inv-loop μ-loop) → let t = turn (c .before) in Port (start (head t) .args .ports) (t .first-turn .result .output .0)
-taken c = lowest-some _ _ _ (found (turn (c .before))) (omega (arith, c .if1 .left)) .0
+taken : (c : tie.Else1 Inv-loop μ-loop) → let t = turn (c .before) in Port (start (head t) .args .ports) (t .first-turn .result .0)
+taken c = in-turn-some _ _ _ _ (found (turn (c .before))) (omega (arith, c .if1 .left)) .0
 
 -- the outputs for which the input had packets
-known : (t : tie.After-first-turn Inv-loop μ-loop) → let l = head t in let waiting = set (l .loop .waiting) (l .loop .row) (t .first-turn .result .waiting) in
+known : (t : tie.After-first-turn Inv-loop μ-loop) → let l = head t in let waiting = set (l .loop .waiting) (l .loop .row) (asked t .first-requests .result .waiting) in
     (length waiting ≡ 32) × WaitingWords (start l .args .ports) (l .loop .row + 1) (start l .args .queues .now) waiting
 known t =
     let l = head t in
-    waiting-next _ _ (l .loop .waiting) (l .loop .row) _ (omega arith) (l .loop .inv .4)
-    (one-waiting _ (omega arith) _ _ _ _ _ _ _ (omega arith) (l .loop .row) _ (add-one _) (omega arith) (l .loop .inv .3) _
-    (t .first-turn .ensures .1 .1 .1 .1 .1 (l .loop .inv .5) (search needs) (search needs)))
+    waiting-next _ _ (l .loop .waiting) (l .loop .row) _ (omega arith) (l .loop .inv .5)
+    (one-waiting _ (omega arith) _ _ _ _ _ _ _ _ _ (omega arith) (l .loop .row) _ (add-one _) (omega arith) (l .loop .inv .4) _ (requests t .packets))
 
 all-free-requires : tie.Need-all-free-requires Inv-loop μ-loop
 all-free-requires c κs = search needs
 
 loop-holds : tie.Need-loop-holds Inv-loop μ-loop
 unfolding powers
-loop-holds c = (search needs, refl, refl, one-start _ (omega arith) _ _ _ (free-first _ _ (omega arith) (c .all-free .ensures)), (refl, λ k l. absurd (omega arith)), refl)
+loop-holds c = (search needs, refl, refl, refl, one-start _ (omega arith) _ _ _ _ (free-first _ _ (omega arith) (c .all-free .ensures)), (refl, λ k l. absurd (omega arith)), refl)
 
-add-t16 : tie.Need-add-t16 Inv-loop μ-loop
-add-t16 c = search needs
+add-t17 : tie.Need-add-t17 Inv-loop μ-loop
+add-t17 c = search needs
+
+first-requests-requires : tie.Need-first-requests-requires Inv-loop μ-loop
+first-requests-requires c κs = search needs
 
 first-turn-requires : tie.Need-first-turn-requires Inv-loop μ-loop
 first-turn-requires c κs = search needs
@@ -92,10 +111,11 @@ loop-again c =
       omega arith,
       t .first-turn .kept .1 .1 .1 .1 .0 ∙ l .loop .inv .1,
       t .first-turn .kept .1 .1 .1 .1 .1 .0 ∙ l .loop .inv .2,
-      one-none _ (omega arith) _ _ _ _ _ _ _ (omega arith) (omega arith) (l .loop .row) _ (add-one _) (omega arith) (l .loop .inv .3) _
-          (found t) (c .if1 .taken) _ _ (t .first-turn .ensures .1 .1 .0) (t .first-turn .ensures .1 .1 .1 .0),
+      t .first-turn .kept .1 .1 .1 .1 .1 .1 .0 ∙ l .loop .inv .3,
+      one-none _ (omega arith) _ _ _ _ _ _ _ _ _ (omega arith) (omega arith) (l .loop .row) _ (add-one _) (omega arith) (l .loop .inv .4) _
+          (found t) (c .if1 .taken) _ _ _ (t .first-turn .ensures .1 .0) (t .first-turn .ensures .1 .1 .0) (t .first-turn .ensures .1 .1 .1 .0),
       known t,
-      l .loop .inv .5,
+      l .loop .inv .6,
     )
 
 take-requires : tie.Need-take-requires Inv-loop μ-loop
@@ -123,15 +143,17 @@ loop-again-2 : tie.Need-loop-again-2 Inv-loop μ-loop
 loop-again-2 c =
     let w = c .before in
     let t = turn (w .before .before) in
-    let l = head t in (
-      omega arith,
+    let l = head t in
+    let i = within t in (
+      omega (arith, i .0),
       t .first-turn .kept .1 .1 .1 .1 .0 ∙ l .loop .inv .1,
       t .first-turn .kept .1 .1 .1 .1 .1 .0 ∙ l .loop .inv .2,
-      one-some _ (omega arith) _ _ _ _ _ _ _ (omega arith) (omega arith) (l .loop .row) _ (add-one _) (omega arith) (l .loop .inv .3) _
-          (found t) (taken (w .before) .low) _ (w .take .ensures) _ (one-shl 32 (l .loop .row) (omega arith)) _ _
-          (t .first-turn .ensures .1 .1 .0) (t .first-turn .ensures .1 .1 .1 .0),
+      t .first-turn .kept .1 .1 .1 .1 .1 .1 .0 ∙ l .loop .inv .3,
+      one-some _ (i .1) _ _ _ _ _ _ _ _ _ (i .2) (i .3) (l .loop .row) _ (add-one _) (i .0) (l .loop .inv .4) _
+          (found t) (taken (w .before) .low) _ (w .take .ensures) _ (one-shl 32 (l .loop .row) (omega (arith, i .0, i .1))) _ _ _
+          (t .first-turn .ensures .1 .0) (t .first-turn .ensures .1 .1 .0) (t .first-turn .ensures .1 .1 .1 .0),
       known t,
-      l .loop .inv .5,
+      l .loop .inv .6,
     )
 
 same-length : tie.Need-same-length Inv-loop μ-loop
@@ -140,12 +162,15 @@ same-length c = search needs
 same-length-2 : tie.Need-same-length-2 Inv-loop μ-loop
 same-length-2 c = search needs
 
+same-length-3 : tie.Need-same-length-3 Inv-loop μ-loop
+same-length-3 c = search needs
+
 returns : tie.Need-returns Inv-loop μ-loop
 returns c =
     let l = c .before in
     let e : l .loop .row ≡ start l .args .ports = omega arith in
-    let o = rw e at (l .loop .inv .3) in
-    (o .held, (o .mark, (o .cost, rw e at (l .loop .inv .4 .1))))
+    let o = rw e at (l .loop .inv .4) in
+    (o .held, (o .mark, (o .cost, rw e at (l .loop .inv .5 .1))))
 
 pub pass-one-spec : {M : Type 1} → statement M
 pass-one-spec =
@@ -155,10 +180,11 @@ pass-one-spec =
     μ-loop
     all-free-requires
     loop-holds
-    add-t16
-    first-turn-requires
+    add-t17
+    first-requests-requires
     mul-waiting
     array-write-waiting
+    first-turn-requires
     add-row
     loop-less
     loop-again
@@ -172,4 +198,5 @@ pass-one-spec =
     loop-again-2
     same-length
     same-length-2
+    same-length-3
     returns)
