@@ -1,6 +1,6 @@
 //! A plain Rust scheduler of the same rules on the same words, written for speed as one would by hand: masks of free outputs, rows as
-//! slices swept for words above 0, no check twice, no division for a pair without a rate. It answers what the proved library answers; main.rs
-//! compares them before it measures.
+//! slices swept once for words above 0, and not at all where they cannot matter, no loop over outputs, no check twice, no division for a pair
+//! without a rate. It answers what the proved library answers; main.rs compares them before it measures.
 
 pub struct Answer {
     pub refusal: u32,
@@ -72,26 +72,38 @@ const BITS: [u32; 32] = {
     bits
 };
 
-/// The columns in which both rows are above 0; the compiler makes vector instructions of it.
+/// The columns in which the row is above 0; the compiler makes vector instructions of it.
 #[inline(always)]
-fn ready(one: &[u32], two: &[u32]) -> u32 {
-    one.iter().zip(two).zip(&BITS).fold(0, |mask, ((&a, &b), &bit)| mask | ((a > 0) & (b > 0)) as u32 * bit)
+fn above_zero(row: &[u32]) -> u32 {
+    row.iter().zip(&BITS).fold(0, |mask, (&word, &bit)| mask | (word > 0) as u32 * bit)
 }
 
-/// The column of the lowest bit.
+/// Of these columns those in which the row of credits is above 0; it is not read where there are none.
 #[inline(always)]
-fn lowest(open: u32) -> Option<usize> {
-    (open != 0).then(|| open.trailing_zeros() as usize)
+fn with_credit(columns: u32, credits: &[u32]) -> u32 {
+    if columns == 0 {
+        0
+    } else {
+        columns & above_zero(credits)
+    }
 }
 
-pub fn tick_direct(clock: &mut Clock, slots: &[u32], rates: &[u32], credits: &mut [u32], queues: &mut [u32]) -> Answer {
+/// The column of the first open output in turn: of those past the output last given where there are any, else of all. Any word that is no output
+/// has none past it, or all.
+#[inline(always)]
+fn in_turn(open: u32, last: u32) -> Option<usize> {
+    let past = open & u32::MAX.checked_shl(last).unwrap_or(0);
+    (open != 0).then(|| if past != 0 { past } else { open }.trailing_zeros() as usize)
+}
+
+pub fn tick_direct(clock: &mut Clock, slots: &[u32], rates: &[u32], credits: &mut [u32], queues: &mut [u32], given: &mut [u32]) -> Answer {
     let no = sizes(clock);
     if no != 0 {
         return refused(no);
     }
     let n = clock[0] as usize;
     let used = n * n;
-    if [slots.len(), rates.len(), credits.len(), queues.len()].iter().any(|&l| l < used) {
+    if [slots.len(), rates.len(), credits.len(), queues.len()].iter().any(|&l| l < used) || given.len() < n {
         return refused(4);
     }
     if clock[2] >= 4_000_000_000 {
@@ -103,22 +115,27 @@ pub fn tick_direct(clock: &mut Clock, slots: &[u32], rates: &[u32], credits: &mu
     }
     let mut answer = NOTHING;
     let mut free = all(n);
+    // what pass two can give an input that pass one gave nothing, and whose row is therefore as it was
+    let mut left_over = [0; 32];
     for (i, (c, q)) in credits.chunks_exact_mut(n).zip(queues.chunks_exact_mut(n)).enumerate() {
-        if let Some(j) = lowest(free & ready(c, q)) {
+        let waiting = above_zero(q);
+        if let Some(j) = in_turn(with_credit(free & waiting, c), given[i]) {
             c[j] -= 1;
             q[j] -= 1;
             free &= !(1 << j);
+            given[i] = j as u32 + 1;
             answer.outputs[i] = j as u8 + 1;
             answer.first |= 1 << i;
+        } else {
+            left_over[i] = waiting;
         }
     }
     for (i, q) in queues.chunks_exact_mut(n).enumerate() {
-        if answer.outputs[i] == 0 {
-            if let Some(j) = lowest(free & ready(q, q)) {
-                q[j] -= 1;
-                free &= !(1 << j);
-                answer.outputs[i] = j as u8 + 1;
-            }
+        if let Some(j) = in_turn(free & left_over[i], given[i]) {
+            q[j] -= 1;
+            free &= !(1 << j);
+            given[i] = j as u32 + 1;
+            answer.outputs[i] = j as u8 + 1;
         }
     }
     clock[2] += 1;
@@ -146,8 +163,15 @@ fn free_in(n: usize, row: &[u32]) -> u32 {
     })
 }
 
+/// The output that input i takes, in turn, of those that it asks for and that its slot's row leaves free; none where it has one already.
+#[inline(always)]
+fn taken_in(n: usize, row: &[u32], i: usize, asked: u32, last: u32) -> Option<usize> {
+    (asked != 0 && decoded(n, row[i]).0 == 0).then(|| in_turn(free_in(n, row) & asked, last)).flatten()
+}
+
 pub fn tick_pipelined(
-    clock: &mut Clock, slots: &[u32], rates: &[u32], credits: &mut [u32], queues: &mut [u32], copy: &mut [u32], flight: &mut [u32],
+    clock: &mut Clock, slots: &[u32], rates: &[u32], credits: &mut [u32], queues: &mut [u32], given: &mut [u32], copy: &mut [u32],
+    flight: &mut [u32],
 ) -> Answer {
     let no = sizes(clock);
     if no != 0 {
@@ -159,7 +183,7 @@ pub fn tick_pipelined(
     }
     let used = n * n;
     let lengths = [slots.len(), rates.len(), credits.len(), queues.len(), copy.len()];
-    if lengths.iter().any(|&l| l < used) || flight.len() < 2 * used {
+    if lengths.iter().any(|&l| l < used) || given.len() < n || flight.len() < 2 * used {
         return refused(4);
     }
     if clock[2] >= 4_000_000_000 {
@@ -172,28 +196,28 @@ pub fn tick_pipelined(
     for i in 0..n {
         let own = i * n..(i + 1) * n;
         let (c, q) = (&mut credits[own.clone()], &mut queues[own.clone()]);
+        let mut waiting = above_zero(q);
         let s = k + 2 * n - i;
         if s > 2 * n {
             if (s - 1) % f as usize == 0 {
                 c.copy_from_slice(&copy[own.clone()]);
             }
             let row = &mut flight[s % (2 * n) * n..][..n];
-            if decoded(n, row[i]).0 == 0 {
-                if let Some(j) = lowest(free_in(n, row) & ready(c, q)) {
-                    c[j] -= 1;
-                    q[j] -= 1;
-                    row[i] = 101 + j as u32;
-                }
+            if let Some(j) = taken_in(n, row, i, with_credit(waiting, c), given[i]) {
+                c[j] -= 1;
+                q[j] -= 1;
+                waiting &= !(((q[j] == 0) as u32) << j);
+                given[i] = 1 + j as u32;
+                row[i] = 101 + j as u32;
             }
         }
         let t = k + n - i;
         if t > n {
             let row = &mut flight[t % (2 * n) * n..][..n];
-            if decoded(n, row[i]).0 == 0 {
-                if let Some(j) = lowest(free_in(n, row) & ready(q, q)) {
-                    q[j] -= 1;
-                    row[i] = 1 + j as u32;
-                }
+            if let Some(j) = taken_in(n, row, i, waiting, given[i]) {
+                q[j] -= 1;
+                given[i] = 1 + j as u32;
+                row[i] = 1 + j as u32;
             }
         }
     }

@@ -17,6 +17,7 @@ pub struct Switch {
     pub rates: Vec<u32>,
     pub credits: Vec<u32>,
     pub queues: Vec<u32>,
+    pub given: Vec<u32>,
     pub copy: Vec<u32>,
     pub flight: Vec<u32>,
 }
@@ -30,6 +31,7 @@ impl Switch {
             rates: run(),
             credits: run(),
             queues: run(),
+            given: vec![0; n],
             copy: run(),
             flight: vec![0; 2 * n * n],
         }
@@ -84,21 +86,21 @@ pub fn reads_book(pipelined: bool, s: &Switch, prepare: impl Fn(&mut Switch)) ->
 }
 
 fn proved_direct(s: &mut Switch, outputs: &mut [u8; 32], first: &mut u32) -> u32 {
-    let n = s.slots.len();
+    let (n, ports) = (s.slots.len(), s.given.len());
     unsafe {
         kivdrag_tick_direct(
             s.clock.as_mut_ptr(), s.slots.as_ptr(), n, s.rates.as_ptr(), n, s.credits.as_mut_ptr(), n, s.queues.as_mut_ptr(), n,
-            outputs.as_mut_ptr(), first,
+            s.given.as_mut_ptr(), ports, outputs.as_mut_ptr(), first,
         )
     }
 }
 
 fn proved_pipelined(s: &mut Switch, outputs: &mut [u8; 32], first: &mut u32) -> u32 {
-    let n = s.slots.len();
+    let (n, ports) = (s.slots.len(), s.given.len());
     unsafe {
         kivdrag_tick_pipelined(
             s.clock.as_mut_ptr(), s.slots.as_ptr(), n, s.rates.as_ptr(), n, s.credits.as_mut_ptr(), n, s.queues.as_mut_ptr(), n,
-            s.copy.as_mut_ptr(), n, s.flight.as_mut_ptr(), 2 * n, outputs.as_mut_ptr(), first,
+            s.given.as_mut_ptr(), ports, s.copy.as_mut_ptr(), n, s.flight.as_mut_ptr(), 2 * n, outputs.as_mut_ptr(), first,
         )
     }
 }
@@ -111,9 +113,9 @@ pub fn proved(pipelined: bool, s: &mut Switch) -> plain::Answer {
 
 pub fn by_hand(pipelined: bool, s: &mut Switch) -> plain::Answer {
     if pipelined {
-        plain::tick_pipelined(&mut s.clock, &s.slots, &s.rates, &mut s.credits, &mut s.queues, &mut s.copy, &mut s.flight)
+        plain::tick_pipelined(&mut s.clock, &s.slots, &s.rates, &mut s.credits, &mut s.queues, &mut s.given, &mut s.copy, &mut s.flight)
     } else {
-        plain::tick_direct(&mut s.clock, &s.slots, &s.rates, &mut s.credits, &mut s.queues)
+        plain::tick_direct(&mut s.clock, &s.slots, &s.rates, &mut s.credits, &mut s.queues, &mut s.given)
     }
 }
 
@@ -123,7 +125,7 @@ pub fn of_second(s: &Switch) -> second::Switch {
     [other.clock.ports, other.clock.frame, other.clock.last, other.clock.line] = s.clock;
     let w = &mut other.words;
     (w.slots, w.rates, w.credits, w.queues) = (s.slots.clone(), s.rates.clone(), s.credits.clone(), s.queues.clone());
-    (w.copy, w.flight) = (s.copy.clone(), s.flight.clone());
+    (w.given, w.copy, w.flight) = (s.given.clone(), s.copy.clone(), s.flight.clone());
     other
 }
 
