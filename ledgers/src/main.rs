@@ -370,7 +370,8 @@ fn not_by_lowest(list: &List, found: &Switch) -> (usize, usize) {
     let switch = Switch { rules: LOWEST, ..found.clone() };
     let mut other = List { random: Random(0), form: list.form, switch, ledger: None, calls: Vec::new() };
     list.calls.iter().for_each(|&(call, _)| other.put(call));
-    let ticks = list.calls.iter().zip(&other.calls).filter(|((call, answer), (_, by_lowest))| matches!(call, Call::Tick { .. }) && answer != by_lowest);
+    let otherwise = |((call, answer), (_, by_lowest)): &(&(Call, Answer), &(Call, Answer))| matches!(call, Call::Tick { .. }) && answer != by_lowest;
+    let ticks = list.calls.iter().zip(&other.calls).filter(otherwise);
     let (is, by_lowest) = (claims(list), claims(&other));
     assert_eq!(is.len(), by_lowest.len());
     (ticks.count(), is.iter().zip(&by_lowest).filter(|(is, by_lowest)| is != by_lowest).count())
