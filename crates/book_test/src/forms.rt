@@ -32,11 +32,12 @@ fn show_run(name: &[u8], run: &[u32], last: usize, beyond: usize) {
 }
 
 // Prints the runs that both forms have.
-fn show_direct_runs(slots: &[u32], rates: &[u32], credits: &[u32], queues: &[u32]) {
+fn show_direct_runs(slots: &[u32], rates: &[u32], credits: &[u32], queues: &[u32], given: &[u32]) {
     show_run(b" slots ", slots, 1023, 1024);
     show_run(b" rates ", rates, 1023, 1024);
     show_run(b" credits ", credits, 1023, 1024);
     show_run(b" queues ", queues, 1023, 1024);
+    show_run(b" given ", given, 31, 32);
 }
 
 fn direct_on(
@@ -45,6 +46,7 @@ fn direct_on(
     rates: &mut [u32],
     credits: &mut [u32],
     queues: &mut [u32],
+    given: &mut [u32],
 ) {
     let started = start_direct(
         sizes.0,
@@ -55,9 +57,10 @@ fn direct_on(
         rates,
         credits,
         queues,
+        given,
     );
     show_start(b"direct ", sizes, started);
-    show_direct_runs(slots, rates, credits, queues);
+    show_direct_runs(slots, rates, credits, queues, given);
     text(b"\n");
 }
 
@@ -66,7 +69,15 @@ fn direct_exact(sizes: Sizes) {
     let mut rates = [7u32; 1024];
     let mut credits = [7u32; 1024];
     let mut queues = [7u32; 1024];
-    direct_on(sizes, &mut slots, &mut rates, &mut credits, &mut queues);
+    let mut given = [7u32; 32];
+    direct_on(
+        sizes,
+        &mut slots,
+        &mut rates,
+        &mut credits,
+        &mut queues,
+        &mut given,
+    );
 }
 
 fn direct_longer(sizes: Sizes) {
@@ -74,19 +85,31 @@ fn direct_longer(sizes: Sizes) {
     let mut rates = [7u32; 1025];
     let mut credits = [7u32; 1025];
     let mut queues = [7u32; 1025];
-    direct_on(sizes, &mut slots, &mut rates, &mut credits, &mut queues);
+    let mut given = [7u32; 33];
+    direct_on(
+        sizes,
+        &mut slots,
+        &mut rates,
+        &mut credits,
+        &mut queues,
+        &mut given,
+    );
 }
 
-// One of the four is a word too short.
+// One of the five is a word too short.
 fn direct_shorter(sizes: Sizes) {
     let mut one = [7u32; 1024];
     let mut two = [7u32; 1024];
     let mut three = [7u32; 1024];
-    let mut short = [7u32; 1023];
-    direct_on(sizes, &mut short, &mut one, &mut two, &mut three);
-    direct_on(sizes, &mut one, &mut short, &mut two, &mut three);
-    direct_on(sizes, &mut one, &mut two, &mut short, &mut three);
-    direct_on(sizes, &mut one, &mut two, &mut three, &mut short);
+    let mut four = [7u32; 1024];
+    let mut less = [7u32; 1023];
+    let mut given = [7u32; 32];
+    let mut few = [7u32; 31];
+    direct_on(sizes, &mut less, &mut one, &mut two, &mut three, &mut given);
+    direct_on(sizes, &mut one, &mut less, &mut two, &mut three, &mut given);
+    direct_on(sizes, &mut one, &mut two, &mut less, &mut three, &mut given);
+    direct_on(sizes, &mut one, &mut two, &mut three, &mut less, &mut given);
+    direct_on(sizes, &mut one, &mut two, &mut three, &mut four, &mut few);
 }
 
 // Sizes at and past their ends, then runs too short, and both; then line rates at and past their end, alone and with the others.
@@ -117,6 +140,7 @@ fn pipelined_on(
     rates: &mut [u32],
     credits: &mut [u32],
     queues: &mut [u32],
+    given: &mut [u32],
     copy: &mut [u32],
     flight: &mut [u32],
 ) {
@@ -129,11 +153,12 @@ fn pipelined_on(
         rates,
         credits,
         queues,
+        given,
         copy,
         flight,
     );
     show_start(b"pipelined ", sizes, started);
-    show_direct_runs(slots, rates, credits, queues);
+    show_direct_runs(slots, rates, credits, queues, given);
     show_run(b" copy ", copy, 1023, 1024);
     show_run(b" flight ", flight, 2047, 2048);
     text(b"\n");
@@ -144,6 +169,7 @@ fn pipelined_exact(sizes: Sizes) {
     let mut rates = [7u32; 1024];
     let mut credits = [7u32; 1024];
     let mut queues = [7u32; 1024];
+    let mut given = [7u32; 32];
     let mut copy = [7u32; 1024];
     let mut flight = [7u32; 2048];
     pipelined_on(
@@ -152,6 +178,7 @@ fn pipelined_exact(sizes: Sizes) {
         &mut rates,
         &mut credits,
         &mut queues,
+        &mut given,
         &mut copy,
         &mut flight,
     );
@@ -162,6 +189,7 @@ fn pipelined_longer(sizes: Sizes) {
     let mut rates = [7u32; 1025];
     let mut credits = [7u32; 1025];
     let mut queues = [7u32; 1025];
+    let mut given = [7u32; 33];
     let mut copy = [7u32; 1025];
     let mut flight = [7u32; 2049];
     pipelined_on(
@@ -170,6 +198,7 @@ fn pipelined_longer(sizes: Sizes) {
         &mut rates,
         &mut credits,
         &mut queues,
+        &mut given,
         &mut copy,
         &mut flight,
     );
@@ -181,6 +210,7 @@ fn pipelined_shorter(sizes: Sizes) {
     let mut two = [7u32; 1024];
     let mut three = [7u32; 1024];
     let mut four = [7u32; 1024];
+    let mut given = [7u32; 32];
     let mut flight = [7u32; 2048];
     let mut short = [7u32; 1023];
     pipelined_on(
@@ -189,6 +219,7 @@ fn pipelined_shorter(sizes: Sizes) {
         &mut one,
         &mut two,
         &mut three,
+        &mut given,
         &mut four,
         &mut flight,
     );
@@ -198,6 +229,7 @@ fn pipelined_shorter(sizes: Sizes) {
         &mut short,
         &mut two,
         &mut three,
+        &mut given,
         &mut four,
         &mut flight,
     );
@@ -207,6 +239,7 @@ fn pipelined_shorter(sizes: Sizes) {
         &mut two,
         &mut three,
         &mut four,
+        &mut given,
         &mut short,
         &mut flight,
     );
@@ -219,6 +252,7 @@ fn flight_shorter(sizes: Sizes) {
     let mut three = [7u32; 1024];
     let mut four = [7u32; 1024];
     let mut five = [7u32; 1024];
+    let mut given = [7u32; 32];
     let mut flight = [7u32; 2047];
     pipelined_on(
         sizes,
@@ -226,6 +260,28 @@ fn flight_shorter(sizes: Sizes) {
         &mut two,
         &mut three,
         &mut four,
+        &mut given,
+        &mut five,
+        &mut flight,
+    );
+}
+
+// The last given outputs are.
+fn given_shorter(sizes: Sizes) {
+    let mut one = [7u32; 1024];
+    let mut two = [7u32; 1024];
+    let mut three = [7u32; 1024];
+    let mut four = [7u32; 1024];
+    let mut five = [7u32; 1024];
+    let mut given = [7u32; 31];
+    let mut flight = [7u32; 2048];
+    pipelined_on(
+        sizes,
+        &mut one,
+        &mut two,
+        &mut three,
+        &mut four,
+        &mut given,
         &mut five,
         &mut flight,
     );
@@ -242,8 +298,10 @@ pub fn pipelined() {
     pipelined_exact(Sizes(33, 1, 0));
     pipelined_shorter(Sizes(32, 10_000, 0));
     flight_shorter(Sizes(32, 10_000, 0));
+    given_shorter(Sizes(32, 10_000, 0));
     pipelined_shorter(Sizes(32, 31, 0));
     flight_shorter(Sizes(32, 31, 0));
+    given_shorter(Sizes(32, 31, 0));
     pipelined_exact(Sizes(32, 10_000, 100_000_000));
     pipelined_exact(Sizes(32, 10_000, 100_000_001));
     pipelined_exact(Sizes(32, 31, 100_000_001));
