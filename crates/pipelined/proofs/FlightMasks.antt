@@ -10,7 +10,7 @@ use borrow.Author.Tests.{ne-eqb}
 use lib.Dec.{eqb}
 use lib.ListN.{getD}
 use Rattle.wsgs.specs.Basics.{Port, some-of}
-use Rattle.wsgs.specs.Steps.{given}
+use Rattle.wsgs.specs.Steps.{taken}
 use Rattle.wsgs.specs.Pipelined.{output-in, flight-place, in-flight, standing}
 use Rattle.wsgs.proofs.Laws.Tests.{eqb-sym}
 use Rattle.turns.specs.Masks.{in-mask, all-free, without}
@@ -22,7 +22,7 @@ read-in n flight row i = output-in n (getD flight (row + (i - 1)) 0)
 
 -- the word w has of the outputs 1..n those that none of the inputs 1..column has by that row
 pub record FreeIn (n : ℕ) (flight : List ℕ) (row column w : ℕ) : Type 0 where
-  pub free : (j : ℕ) → Port n j → in-mask w j ≡ not (given (read-in n flight row) column j)
+  pub free : (j : ℕ) → Port n j → in-mask w j ≡ not (taken (read-in n flight row) column j)
 
 module _ (n : ℕ) (few : n ≤ 32) (flight : List ℕ) (row : ℕ) where
   -- at first all are free
@@ -39,7 +39,7 @@ module _ (n : ℕ) (few : n ≤ 32) (flight : List ℕ) (row : ℕ) where
       record {
         free = λ j p.
             rw (e, add-one column, in-without w (v + 1) j (omega arith), h .free j p, place)
-            (both (given (read-in n flight row) column j) _ _ (same j p (decLt v n)));
+            (both (taken (read-in n flight row) column j) _ _ (same j p (decLt v n)));
       }
     where
       place : row + (suc column - 1) ≡ row + column

@@ -35,7 +35,7 @@ module _ (n f b k : ℕ) (w : Runs) (u : ℕ) (e : u ≡ into-frame f (k + 2 * n
 -- WHAT AN ACCEPTED TICK FOUND
 pub record TickConditions (c : Clock) (w : Runs) : Type 0 where
   pub some-port : 1 ≤ c .ports
-  pub lent : RunsFit (c .ports) (w .copy) (w .credits) (w .queues) (w .flight)
+  pub lent : RunsFit (c .ports) (w .copy) (w .credits) (w .queues) (w .given) (w .flight)
   pub slots : c .ports * c .ports ≤ length (w .book .slots)
   pub rates : c .ports * c .ports ≤ length (w .book .rates)
   pub covers : c .ports ≤ c .frame
@@ -49,7 +49,15 @@ accepted-found c w e =
     let sized = y .1 .long .sized in
     record {
       some-port = y .1 .ports .0;
-      lent = record { ports = y .1 .ports .1; copy = y .1 .long .copy; credits = sized .credits; queues = sized .queues; flight = sized .flight };
+      lent =
+          record {
+            ports = y .1 .ports .1;
+            copy = y .1 .long .copy;
+            credits = sized .credits;
+            queues = sized .queues;
+            given = sized .given;
+            flight = sized .flight;
+          };
       slots = y .1 .long .slots;
       rates = y .1 .long .rates;
       covers = y .0;
@@ -64,15 +72,15 @@ module _ (k : Clock) (w : Runs) where
   abbrev time : ℕ
   time = k .slot + 1
 
-  pub ticked-left : (r : TickResult) (c q p l l′ : List ℕ) → p ≡ copied-at n (k .frame) (k .line) time w
-      → turn-runs-of c q l ≡ turns n (k .frame) p time (turn-runs w) n
+  pub ticked-left : (r : TickResult) (c q g p l l′ : List ℕ) → p ≡ copied-at n (k .frame) (k .line) time w
+      → turn-runs-of c q g l ≡ turns n (k .frame) p time (turn-runs w) n
       → r ≡ answering (at-slot k time) (handed-out n l (time + 1)) → l′ ≡ row-cleared n l (time + 1)
-      → effect r (pipelined-runs-of (w .book .slots) (w .book .rates) c q p l′) ≡ tick-effect (ticked k w)
+      → effect r (pipelined-runs-of (w .book .slots) (w .book .rates) c q g p l′) ≡ tick-effect (ticked k w)
   unfolding ticked
-  ticked-left r c q p l l′ ep et er el =
+  ticked-left r c q g p l l′ ep et er el =
       let t = et ∙ ap (λ z. turns n (k .frame) z time (turn-runs w) n) ep in
       let rows : l ≡ turns n (k .frame) (copied-at n (k .frame) (k .line) time w) time (turn-runs w) n .flight = ap (λ z. z .flight) t in
-      rw (er, el, rows, ap (λ z. z .credits) t, ap (λ z. z .queues) t, ep)
+      rw (er, el, rows, ap (λ z. z .credits) t, ap (λ z. z .queues) t, ap (λ z. z .given) t, ep)
 
   -- A TICK is this one where its refusal is 0, and else it leaves clock and runs
   module _ (refusal : ℕ) (e : refusal ≡ tick-refusal k w) where

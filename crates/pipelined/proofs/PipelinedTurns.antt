@@ -1,7 +1,7 @@
--- The turns of a pipelined tick. In a turn for slot s an input that has an output changes nothing, and any other takes the lowest open one, if
+-- The turns of a pipelined tick. In a turn for slot s an input that has an output changes nothing, and any other takes the first open one in turn, if
 -- there is one; at time k each input reloads its credits and has its turns where they are due. Assumes nothing.
 use mathlib.Core.Path.{_≡_, refl, sym, _∙_, ap}
-use mathlib.Core.Bool.{Bool, true, false, not, _&&_, and-self}
+use mathlib.Core.Bool.{Bool, true, false, not, _&&_, and-self, and-false}
 use mathlib.Core.List.{List}
 use Prim.Native.Nat.{ℕ, suc, _+_, _-_, _*_, _%_, _≤_, _<_}
 use native.Mathlib.Numerals.{add-one}
@@ -9,15 +9,16 @@ use native.Mathlib.Omega.{arith}
 use lib.Dec.{eqb, ltb}
 use lib.ListN.{getD, set}
 use borrow.Author.Tests.{eq-eqb, ne-eqb, lt-ltb, le-ltb, le-leb, lt-leb}
-use Rattle.wsgs.specs.Basics.{pick, Port, lowest}
-use Rattle.wsgs.specs.Words.{word, less-one}
+use Rattle.wsgs.specs.Basics.{pick, Port, in-turn}
+use Rattle.wsgs.specs.Words.{word, less-one, port-word, put-port}
 use Rattle.wsgs.specs.Frames.{first-of-frame}
 use Rattle.wsgs.specs.Pipelined.{TurnRuns, loaded, reloaded, output-in, flight-place, in-flight, reserved, standing, turn-one, turn-two, slot-one, slot-two, pass-one-turn, turns-of, turns}
-use Rattle.wsgs.proofs.Laws.Lowest.{lowest-ext}
-use Rattle.turns.specs.Masks.{in-mask, is-open}
-use Rattle.turns.specs.Charges.{charged}
+use Rattle.wsgs.proofs.Laws.InTurn.{in-turn-ext, in-turn-nobody}
+use Rattle.turns.specs.Masks.{in-mask, is-open, ready-mask}
+use Rattle.turns.specs.Charges.{charged, noted}
 use Rattle.pipelined.specs.Turnings.{turn-runs-of}
-use Rattle.turns.proofs.Choice.{charged-some, charged-none}
+use Rattle.turns.proofs.Choice.{charged-some, charged-none, noted-some, noted-none}
+use Rattle.turns.proofs.Ready.{nothing-asked}
 
 -- a choice between two turnings
 by-test : (b : Bool) (x y : TurnRuns) → _≡_ {A = TurnRuns} (elim b [ true ↦ x | false ↦ y ]) (pick b x y)
@@ -25,20 +26,20 @@ by-test true x y = refl
 by-test false x y = refl
 
 -- A TURN of input i for slot s
-module _ (n s i : ℕ) (c q f : List ℕ) where
+module _ (n s i : ℕ) (c q g f : List ℕ) where
   abbrev w : TurnRuns
-  w = turn-runs-of c q f
+  w = turn-runs-of c q g f
 
-  -- the lowest output that is free and whose words in two runs are above 0
+  -- of the outputs that are free and whose words in two runs are above 0, the first in turn
   abbrev best : List ℕ → List ℕ → ℕ
-  best one two = lowest (λ j. not (standing n f s j) && (ltb 0 (word n one i j) && ltb 0 (word n two i j))) n
+  best one two = in-turn (λ j. not (standing n f s j) && (ltb 0 (word n one i j) && ltb 0 (word n two i j))) n (port-word g i)
 
   -- what a turn leaves that takes output j
   abbrev served-one : ℕ → TurnRuns
-  served-one j = turn-runs-of (less-one n c i j) (less-one n q i j) (set f (flight-place n s i) (100 + j))
+  served-one j = turn-runs-of (less-one n c i j) (less-one n q i j) (put-port g i j) (set f (flight-place n s i) (100 + j))
 
   abbrev served-two : ℕ → TurnRuns
-  served-two j = turn-runs-of c (less-one n q i j) (set f (flight-place n s i) j)
+  served-two j = turn-runs-of c (less-one n q i j) (put-port g i j) (set f (flight-place n s i) j)
 
   -- a turn of each pass; that of pass two goes by the queues alone
   turn-one-is : turn-one n s i w ≡ pick (eqb (reserved n f s i) 0 && ltb 0 (best c q)) (served-one (best c q)) w
@@ -50,10 +51,22 @@ module _ (n s i : ℕ) (c q f : List ℕ) where
   turn-two-is =
       by-test (eqb (reserved n f s i) 0 && ltb 0 asks) (served-two asks) w
       ∙ ap (λ j. pick (eqb (reserved n f s i) 0 && ltb 0 j) (served-two j) w)
-      (lowest-ext _ _ n (λ j p. ap (λ b. not (standing n f s j) && b) (sym (and-self (ltb 0 (word n q i j))))))
+      (in-turn-ext _ _ n _ _ (λ j p. ap (λ b. not (standing n f s j) && b) (sym (and-self (ltb 0 (word n q i j))))) refl)
     where
       asks : ℕ
-      asks = lowest (λ j. not (standing n f s j) && ltb 0 (word n q i j)) n
+      asks = in-turn (λ j. not (standing n f s j) && ltb 0 (word n q i j)) n (port-word g i)
+
+  -- it asks for nothing
+  unasked : (one two : List ℕ) (asked : ℕ) → asked ≡ ready-mask one two ((i - 1) * n) n → asked ≡ 0 → best one two ≡ 0
+  unasked one two asked e z =
+      in-turn-nobody _ n (port-word g i)
+      (λ j p. rw (nothing-asked n 0 one two i asked e z j p, and-false (not (standing n f s j))) tt)
+
+  pub turn-one-unasked : (asked : ℕ) → asked ≡ ready-mask c q ((i - 1) * n) n → asked ≡ 0 → w ≡ turn-one n s i w
+  turn-one-unasked asked e z = rw (turn-one-is, unasked c q asked e z, and-false (eqb (reserved n f s i) 0))
+
+  pub turn-two-unasked : (asked : ℕ) → asked ≡ ready-mask q q ((i - 1) * n) n → asked ≡ 0 → w ≡ turn-two n s i w
+  turn-two-unasked asked e z = rw (turn-two-is, unasked q q asked e z, and-false (eqb (reserved n f s i) 0))
 
   -- the slot's row begins at a place, and the input's word in it is read as output o
   module _ (row o : ℕ) (place : row ≡ s % (2 * n) * n) (read : o ≡ output-in n (getD f (row + (i - 1)) 0)) where
@@ -73,37 +86,38 @@ module _ (n s i : ℕ) (c q f : List ℕ) where
     pub turn-two-held : 1 ≤ o → w ≡ turn-two n s i w
     turn-two-held h = rw (turn-two-is, held, ne-eqb o 0 (omega arith))
 
-    -- it has none, and output r is the lowest that is open by the mask
+    -- it has none, and output r is the first in turn that is open by the mask
     module _ (none : o ≤ 0) (free r : ℕ) (frees : (j : ℕ) → Port n j → in-mask free j ≡ not (standing n f s j)) where
       -- then r is what the definition takes
-      opens : (one two : List ℕ) → r ≡ lowest (is-open n free one two i) n → best one two ≡ r
+      opens : (one two : List ℕ) → r ≡ in-turn (is-open n free one two i) n (port-word g i) → best one two ≡ r
       unfolding is-open
       opens one two e =
-          sym (e ∙ lowest-ext _ _ n (λ j p. ap (λ b. b && (ltb 0 (word n one i j) && ltb 0 (word n two i j))) (frees j p)))
+          sym (e ∙ in-turn-ext _ _ n _ _ (λ j p. ap (λ b. b && (ltb 0 (word n one i j) && ltb 0 (word n two i j))) (frees j p)) refl)
 
-      module _ (e : r ≡ lowest (is-open n free c q i) n) (c′ q′ : List ℕ) (ec : c′ ≡ charged n c i r) (eq : q′ ≡ charged n q i r) where
-        pub turn-one-some : 1 ≤ r → turn-runs-of c′ q′ (set f (row + (i - 1)) (100 + r)) ≡ turn-one n s i w
+      module _ (e : r ≡ in-turn (is-open n free c q i) n (port-word g i)) (c′ q′ g′ : List ℕ) (ec : c′ ≡ charged n c i r) (eq : q′ ≡ charged n q i r)
+          (eg : g′ ≡ noted g i r) where
+        pub turn-one-some : 1 ≤ r → turn-runs-of c′ q′ g′ (set f (row + (i - 1)) (100 + r)) ≡ turn-one n s i w
         turn-one-some h =
-            rw (turn-one-is, held, eq-eqb o 0 (omega arith), opens c q e, lt-ltb 0 r h, ec, eq, charged-some n c i r h, charged-some n q i r h, spot)
+            rw (turn-one-is, held, eq-eqb o 0 (omega arith), opens c q e, lt-ltb 0 r h, ec, eq, eg, charged-some n c i r h, charged-some n q i r h, noted-some g i r h, spot)
 
-        pub turn-one-none : r ≤ 0 → turn-runs-of c′ q′ f ≡ turn-one n s i w
+        pub turn-one-none : r ≤ 0 → turn-runs-of c′ q′ g′ f ≡ turn-one n s i w
         turn-one-none h =
-            rw (turn-one-is, held, eq-eqb o 0 (omega arith), opens c q e, le-ltb 0 r h, ec, eq, charged-none n c i r h, charged-none n q i r h)
+            rw (turn-one-is, held, eq-eqb o 0 (omega arith), opens c q e, le-ltb 0 r h, ec, eq, eg, charged-none n c i r h, charged-none n q i r h, noted-none g i r h)
 
-      module _ (e : r ≡ lowest (is-open n free q q i) n) (q′ : List ℕ) (eq : q′ ≡ charged n q i r) where
-        pub turn-two-some : 1 ≤ r → turn-runs-of c q′ (set f (row + (i - 1)) r) ≡ turn-two n s i w
-        turn-two-some h = rw (turn-two-is, held, eq-eqb o 0 (omega arith), opens q q e, lt-ltb 0 r h, eq, charged-some n q i r h, spot)
+      module _ (e : r ≡ in-turn (is-open n free q q i) n (port-word g i)) (q′ g′ : List ℕ) (eq : q′ ≡ charged n q i r) (eg : g′ ≡ noted g i r) where
+        pub turn-two-some : 1 ≤ r → turn-runs-of c q′ g′ (set f (row + (i - 1)) r) ≡ turn-two n s i w
+        turn-two-some h = rw (turn-two-is, held, eq-eqb o 0 (omega arith), opens q q e, lt-ltb 0 r h, eq, eg, charged-some n q i r h, noted-some g i r h, spot)
 
-        pub turn-two-none : r ≤ 0 → turn-runs-of c q′ f ≡ turn-two n s i w
-        turn-two-none h = rw (turn-two-is, held, eq-eqb o 0 (omega arith), opens q q e, le-ltb 0 r h, eq, charged-none n q i r h)
+        pub turn-two-none : r ≤ 0 → turn-runs-of c q′ g′ f ≡ turn-two n s i w
+        turn-two-none h = rw (turn-two-is, held, eq-eqb o 0 (omega arith), opens q q e, le-ltb 0 r h, eq, eg, charged-none n q i r h, noted-none g i r h)
 
 -- THE RELOAD of input i's row of credits, where slot s is the first of a frame
-module _ (n k : ℕ) (copy c q f : List ℕ) (s i : ℕ) where
-  pub reloads : (c′ : List ℕ) → first-of-frame k s ≡ true → c′ ≡ loaded n copy i c → turn-runs-of c′ q f ≡ reloaded n k copy s i (turn-runs-of c q f)
+module _ (n k : ℕ) (copy c q g f : List ℕ) (s i : ℕ) where
+  pub reloads : (c′ : List ℕ) → first-of-frame k s ≡ true → c′ ≡ loaded n copy i c → turn-runs-of c′ q g f ≡ reloaded n k copy s i (turn-runs-of c q g f)
   unfolding reloaded
   reloads c′ t l = rw (t, l)
 
-  pub keeps : first-of-frame k s ≡ false → turn-runs-of c q f ≡ reloaded n k copy s i (turn-runs-of c q f)
+  pub keeps : first-of-frame k s ≡ false → turn-runs-of c q g f ≡ reloaded n k copy s i (turn-runs-of c q g f)
   unfolding reloaded
   keeps t = rw t
 

@@ -5,6 +5,7 @@ use mathlib.Core.Bool.{Bool, true, false, not, _&&_}
 use mathlib.Core.List.{List}
 use Prim.Native.Nat.{ℕ, zero, suc, _+_, _-_, _*_, _/_, _%_, _^_, _≤_, _<_}
 use borrow.Author.Tests.{lt-ltb, le-ltb}
+use native.Mathlib.Nat.{zero-div}
 use native.Mathlib.Numerals.{add-one}
 use native.Mathlib.Omega.{arith}
 use lib.Bits.{bitAnd, bitOr, and-shr, and-mod, and-self, and-zero-l, and-zero-r, or-shifted-r}
@@ -101,6 +102,11 @@ ready-bit one two row n k h =
     go true = refl
     go false = refl
 
+-- 0 has none
+no-bits : (k : ℕ) → bits 0 k ≡ false
+unfolding bits
+no-bits k = rw (zero-div (2 ^ k))
+
 -- the bits that two words have in common
 common-bit : (a b k : ℕ) → bits (bitAnd a b) k ≡ (bits a k && bits b k)
 unfolding bits
@@ -167,6 +173,14 @@ module _ (n free : ℕ) (one two : List ℕ) (i w : ℕ) (is : w ≡ ready-mask 
   open-is-common (suc k) p =
       let e : suc k - 1 ≡ k = omega arith in
       rw (mask-bit w k, is, ready-bit one two ((i - 1) * n) n k (omega arith), e)
+
+  -- and where it has no bit, the input asks for nothing
+  pub nothing-asked : w ≡ 0 → (j : ℕ) → Port n j → (ltb 0 (word n one i j) && ltb 0 (word n two i j)) ≡ false
+  unfolding word place
+  nothing-asked z zero p = absurd (omega arith)
+  nothing-asked z (suc k) p =
+      let e : suc k - 1 ≡ k = omega arith in
+      rw e (sym (ready-bit one two ((i - 1) * n) n k (omega arith)) ∙ rw (← is, z, no-bits k))
 
   pub requested-in-turn : (v last : ℕ) → v ≡ common-in-turn free w n last → v ≡ in-turn (is-open n free one two i) n last
   requested-in-turn v last e = e ∙ in-turn-ext _ _ n last last open-is-common refl

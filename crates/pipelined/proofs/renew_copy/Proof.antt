@@ -20,7 +20,7 @@ same-length : tie.Need-same-length
 same-length c = search needs
 
 returns : tie.Need-returns
-returns c = λ time place cr q f.
+returns c = λ time place cr q g f.
     let w = c .before .before in
     let t = w .before .before .before in
     let line = t .before .before .before .before .args .clock .line in
@@ -28,7 +28,7 @@ returns c = λ time place cr q f.
     (w .copy-bookings .ensures ∙ sym (bookings-fit _ _ _ _ _ _ (omega arith) (omega arith) (omega arith)))
 
 returns-2 : tie.Need-returns-2
-returns-2 c = λ time place cr q f. stands _ _ _ time _ _ place (c .if1 .left)
+returns-2 c = λ time place cr q g f. stands _ _ _ time _ _ place (c .if1 .left)
 
 pub renew-copy-spec : {M : Type 1} → statement M
 renew-copy-spec =

@@ -7,16 +7,16 @@ use Rattle.pipelined.proofs.run_tick.Tie as tie
 
 -- the calls, from the last on, and the start
 abbrev turned : tie.After-hand-out-arg → tie.After-all-turns
-turned c = c .before .before .before .before .before .before .before
+turned c = c .before .before .before .before .before .before .before .before .before
 
 abbrev copied : tie.After-all-turns → tie.After-renew-copy
-copied c = c .before .before .before .before .before .before .before
+copied c = c .before .before .before .before .before .before .before .before
 
 abbrev looked : tie.After-renew-copy → tie.After-look-ahead
 looked c = c .before .before
 
 abbrev begun : tie.After-renew-copy → tie.Start
-begun c = looked c .before .before .before .before .before .before .before .before .before .before .before
+begun c = looked c .before .before .before .before .before .before .before .before .before .before .before .before
 
 abbrev start : tie.After-all-turns → tie.Start
 start c = begun (copied c)
@@ -41,7 +41,7 @@ renew-copy-requires c κs = search needs
 
 all-turns-requires : tie.Need-all-turns-requires
 all-turns-requires c κs =
-    let b = c .before .before .before .before .before .before in
+    let b = c .before .before .before .before .before .before .before in
     let p = begun b .pre in
     omega (arith, p .1 .0, looked b .look-ahead .ensures)
 
@@ -66,6 +66,9 @@ same-length-3 c = search needs
 same-length-4 : tie.Need-same-length-4
 same-length-4 c = search needs
 
+same-length-5 : tie.Need-same-length-5
+same-length-5 c = search needs
+
 returns : tie.Need-returns
 returns c =
     let e = c .before .before in
@@ -73,7 +76,7 @@ returns c =
     let t = turned (h .before) in
     let b = copied t in
     let a = looked b .look-ahead .ensures in
-    ticked-left _ _ _ _ _ _ _ _ (b .renew-copy .ensures _ (a .place) _ _ _) (t .all-turns .ensures _ a) (h .hand-out .ensures) (e .clear-row .ensures)
+    ticked-left _ _ _ _ _ _ _ _ _ (b .renew-copy .ensures _ (a .place) _ _ _ _) (t .all-turns .ensures _ a) (h .hand-out .ensures) (e .clear-row .ensures)
 
 pub run-tick-spec : {M : Type 1} → statement M
 run-tick-spec =
@@ -93,4 +96,5 @@ run-tick-spec =
     same-length-2
     same-length-3
     same-length-4
+    same-length-5
     returns)

@@ -13,24 +13,25 @@ use Rattle.pipelined.proofs.pipeline_turns.all_turns.Statement.{stateme
 use Rattle.pipelined.proofs.pipeline_turns.all_turns.Tie as tie
 
 abbrev Inv-loop : tie.InvT-loop
-Inv-loop ports time ahead copy credits₀ queues₀ flight₀ bits done₀ credits queues flight done =
+Inv-loop ports time ahead copy credits₀ queues₀ given₀ flight₀ bits done₀ credits queues given flight done =
     (done ≤ ports)
     × (length credits ≡ length credits₀)
     × (length queues ≡ length queues₀)
+    × (length given ≡ length given₀)
     × (length flight ≡ length flight₀)
     × ((frame : ℕ) → Lookahead ports frame time (ahead .one) (ahead .two) (ahead .into)
-    → turn-runs-of credits queues flight ≡ turns ports frame copy time (turn-runs-of credits₀ queues₀ flight₀) done)
+    → turn-runs-of credits queues given flight ≡ turns ports frame copy time (turn-runs-of credits₀ queues₀ given₀ flight₀) done)
     × (bits ≡ powers 0 32)
 
 abbrev μ-loop : tie.MeasureT-loop
-μ-loop ports time ahead copy credits₀ queues₀ flight₀ bits done₀ credits queues flight done = ports - done
+μ-loop ports time ahead copy credits₀ queues₀ given₀ flight₀ bits done₀ credits queues given flight done = ports - done
 
 loop-holds : tie.Need-loop-holds Inv-loop μ-loop
 unfolding turns powers
-loop-holds c = (search needs, refl, refl, refl, λ frame a. refl, refl)
+loop-holds c = (search needs, refl, refl, refl, refl, λ frame a. refl, refl)
 
-add-t14 : tie.Need-add-t14 Inv-loop μ-loop
-add-t14 c = search needs
+add-t15 : tie.Need-add-t15 Inv-loop μ-loop
+add-t15 c = search needs
 
 turns-of-requires : tie.Need-turns-of-requires Inv-loop μ-loop
 turns-of-requires c κs = (search needs, (search needs, (search needs, (search needs, search needs))))
@@ -43,14 +44,15 @@ loop-less c = search needs
 
 loop-again : tie.Need-loop-again Inv-loop μ-loop
 loop-again c =
-    let t = c .before .before .before .before .before .before in
-    let l = t .before .before .before .before .before .before in (
+    let t = c .before .before .before .before .before .before .before .before in
+    let l = t .before .before .before .before .before .before .before in (
       omega arith,
       t .turns-of .kept .1 .1 .1 .1 .1 .1 .0 ∙ l .loop .inv .1,
       t .turns-of .kept .1 .1 .1 .1 .1 .1 .1 .0 ∙ l .loop .inv .2,
       t .turns-of .kept .1 .1 .1 .1 .1 .1 .1 .1 .0 ∙ l .loop .inv .3,
-      λ frame a. turns-more _ frame _ _ _ _ _ _ (l .loop .inv .4 frame a) (t .turns-of .ensures frame a),
-      l .loop .inv .5,
+      t .turns-of .kept .1 .1 .1 .1 .1 .1 .1 .1 .1 .0 ∙ l .loop .inv .4,
+      λ frame a. turns-more _ frame _ _ _ _ _ _ (l .loop .inv .5 frame a) (t .turns-of .ensures frame a),
+      l .loop .inv .6,
     )
 
 same-length : tie.Need-same-length Inv-loop μ-loop
@@ -62,8 +64,11 @@ same-length-2 c = search needs
 same-length-3 : tie.Need-same-length-3 Inv-loop μ-loop
 same-length-3 c = search needs
 
+same-length-4 : tie.Need-same-length-4 Inv-loop μ-loop
+same-length-4 c = search needs
+
 returns : tie.Need-returns Inv-loop μ-loop
-returns c = λ frame a. c .before .loop .inv .4 frame a ∙ ap (turns _ frame _ _ _) (omega arith)
+returns c = λ frame a. c .before .loop .inv .5 frame a ∙ ap (turns _ frame _ _ _) (omega arith)
 
 pub all-turns-spec : {M : Type 1} → statement M
 all-turns-spec =
@@ -72,7 +77,7 @@ all-turns-spec =
     Inv-loop
     μ-loop
     loop-holds
-    add-t14
+    add-t15
     turns-of-requires
     add-done
     loop-less
@@ -80,4 +85,5 @@ all-turns-spec =
     same-length
     same-length-2
     same-length-3
+    same-length-4
     returns)

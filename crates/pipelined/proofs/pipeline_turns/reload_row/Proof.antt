@@ -49,17 +49,17 @@ same-length : tie.Need-same-length
 same-length c = search needs
 
 returns : tie.Need-returns
-returns c = λ frame time covers place q f.
+returns c = λ frame time covers place q g f.
     let w = c .before .before in
     let r = w .before .before .before in
     let s = start r in
-    reloads _ _ _ _ q f _ _ _ (slot-first _ _ time _ _ (s .pre .1 .0) covers place (r .before .if1 .taken))
+    reloads _ _ _ _ q g f _ _ _ (slot-first _ _ time _ _ (s .pre .1 .0) covers place (r .before .if1 .taken))
     (row-loaded _ _ _ _ (omega arith) _ (s .args .copy .now) (r .row-of .ensures .0 ∙ row-is _ _ (s .pre .0) (s .pre .1 .0)) (omega arith) (w .load-credits .ensures))
 
 returns-2 : tie.Need-returns-2
-returns-2 c = λ frame time covers place q f.
+returns-2 c = λ frame time covers place q g f.
     let s = c .before .before .before .before in
-    keeps _ _ _ _ q f _ _ (slot-later _ _ time _ _ (s .pre .1 .0) covers place (c .if1 .left))
+    keeps _ _ _ _ q g f _ _ (slot-later _ _ time _ _ (s .pre .1 .0) covers place (c .if1 .left))
 
 pub reload-row-spec : {M : Type 1} → statement M
 reload-row-spec =

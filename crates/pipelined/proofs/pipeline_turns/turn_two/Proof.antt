@@ -1,35 +1,42 @@
--- `pipeline_turns::turn_two` meets its contract: the three ways that its tests leave are those of the definition. Assumes nothing.
+-- `pipeline_turns::turn_two` meets its contract: the ways that its tests leave are those of the definition. Assumes nothing.
 use mathlib.Core.Path.{_≡_}
 use Prim.Native.Nat.{_≤_}
 use native.Mathlib.Omega.{arith}
 use borrow.Author.Needs.{needs}
-use Rattle.wsgs.specs.Basics.{lowest}
-use Rattle.wsgs.proofs.Laws.Lowest.{lowest-some}
+use Rattle.wsgs.specs.Basics.{in-turn}
+use Rattle.wsgs.specs.Words.{port-word}
+use Rattle.wsgs.proofs.Laws.InTurn.{in-turn-some}
 use Rattle.turns.specs.Masks.{is-open}
-use Rattle.pipelined.proofs.PipelinedTurns.{turn-two-held, turn-two-some, turn-two-none}
+use Rattle.pipelined.proofs.PipelinedTurns.{turn-two-unasked, turn-two-held, turn-two-some, turn-two-none}
 use Rattle.pipelined.proofs.pipeline_turns.turn_two.Statement.{statement}
 use Rattle.pipelined.proofs.pipeline_turns.turn_two.Tie as tie
 
 -- the calls, from the last on
 abbrev turned : tie.After-struct-known3 → tie.After-second-turn
-turned c = c .before .before .before
+turned c = c .before .before .before .before .before
 
 abbrev freed : tie.After-second-turn → tie.After-free-for
-freed c = c .before .before
+freed c = c .before .before .before
 
 abbrev read : tie.After-free-for → tie.After-output-of
 read c = c .before .before .before .before
 
 abbrev start : tie.After-output-of → tie.Start
-start c = c .before .before .before .before .before
+start c = c .before .before .before .before .before .before .before
 
 -- the output that the turn finds
 found : (t : tie.After-second-turn) → let a = start (read (freed t)) .args in
     t .second-turn .result .0
-    ≡ lowest (is-open (a .ports) (freed t .free-for .result) (a .queues .now) (a .queues .now) (a .input .0)) (a .ports)
+    ≡ in-turn (is-open (a .ports) (freed t .free-for .result) (a .queues .now) (a .queues .now) (a .input .0)) (a .ports)
+    (port-word (a .given .now) (a .input .0))
 found t =
     let p = start (read (freed t)) .pre in
-    t .second-turn .ensures .1 .1 (p .1 .1 .1 .1) (search needs)
+    t .second-turn .ensures .1 .1 .1 (p .1 .1 .1 .1 .1) (search needs) (p .1 .1 .1 .0)
+
+returns : tie.Need-returns
+returns c =
+    let s = c .before .before .before .before in
+    λ slot e cr. turn-two-unasked _ slot _ cr _ _ _ _ (s .pre .1 .1 .1 .1 .1) (c .if1 .taken)
 
 sub-at : tie.Need-sub-at
 sub-at c = search needs
@@ -46,10 +53,10 @@ slice-read-output-of c = search needs
 output-of-requires : tie.Need-output-of-requires
 output-of-requires c κs = search needs
 
-returns : tie.Need-returns
-returns c = λ s e cr.
+returns-2 : tie.Need-returns-2
+returns-2 c = λ s e cr.
     let o = c .before .before in
-    turn-two-held _ s _ cr _ _ _ _ e (o .output-of .ensures .0) (c .if1 .taken)
+    turn-two-held _ s _ cr _ _ _ _ _ e (o .output-of .ensures .0) (c .if2 .taken)
 
 free-for-requires : tie.Need-free-for-requires
 free-for-requires c κs = search needs
@@ -58,17 +65,18 @@ second-turn-requires : tie.Need-second-turn-requires
 second-turn-requires c κs = search needs
 
 -- the output that is taken is a port
-small : (c : tie.Then2) → turned (c .before) .second-turn .result .0 ≤ 32
+small : (c : tie.Then3) → turned (c .before) .second-turn .result .0 ≤ 32
 small c =
     let t = turned (c .before) in
-    let p = lowest-some _ _ _ (found t) (c .if2 .taken) .0 in
+    let p = in-turn-some _ _ _ _ (found t) (c .if3 .taken) .0 in
     omega (arith, start (read (freed t)) .pre .0)
 
 cast-flight : tie.Need-cast-flight
 cast-flight c = omega (arith, small (c .before))
 
+-- as where the place was read
 mul-flight : tie.Need-mul-flight
-mul-flight c = search needs
+mul-flight c = mul-output-of (read (freed (turned (c .before .before))) .before .before)
 
 slice-write-flight : tie.Need-slice-write-flight
 slice-write-flight c = search needs
@@ -79,38 +87,47 @@ same-length c = search needs
 same-length-2 : tie.Need-same-length-2
 same-length-2 c = search needs
 
-returns-2 : tie.Need-returns-2
-returns-2 c = λ s e cr.
+same-length-3 : tie.Need-same-length-3
+same-length-3 c = search needs
+
+returns-3 : tie.Need-returns-3
+returns-3 c = λ s e cr.
     let t = turned (c .before .before) in
     let f = freed t in
     let o = read f in
-    turn-two-some _ s _ cr _ _ _ _ e (o .output-of .ensures .0) (f .before .before .if1 .left) _ _ (f .free-for .ensures s e)
-    (found t) _ (t .second-turn .ensures .1 .0) (c .before .if2 .taken)
-
-same-length-3 : tie.Need-same-length-3
-same-length-3 c = search needs
+    let q = t .second-turn .ensures .1 in
+    turn-two-some _ s _ cr _ _ _ _ _ e (o .output-of .ensures .0) (f .before .before .if2 .left) _ _ (f .free-for .ensures s e)
+    (found t) _ _ (q .0) (q .1 .0) (c .before .if3 .taken)
 
 same-length-4 : tie.Need-same-length-4
 same-length-4 c = search needs
 
-returns-3 : tie.Need-returns-3
-returns-3 c = λ s e cr.
+same-length-5 : tie.Need-same-length-5
+same-length-5 c = search needs
+
+same-length-6 : tie.Need-same-length-6
+same-length-6 c = search needs
+
+returns-4 : tie.Need-returns-4
+returns-4 c = λ s e cr.
     let t = turned (c .before) in
     let f = freed t in
     let o = read f in
-    turn-two-none _ s _ cr _ _ _ _ e (o .output-of .ensures .0) (f .before .before .if1 .left) _ _ (f .free-for .ensures s e)
-    (found t) _ (t .second-turn .ensures .1 .0) (c .if2 .left)
+    let q = t .second-turn .ensures .1 in
+    turn-two-none _ s _ cr _ _ _ _ _ e (o .output-of .ensures .0) (f .before .before .if2 .left) _ _ (f .free-for .ensures s e)
+    (found t) _ _ (q .0) (q .1 .0) (c .if3 .left)
 
 pub turn-two-spec : {M : Type 1} → statement M
 turn-two-spec =
     tie.close
     (tie.spec
+    returns
     sub-at
     add-at
     mul-output-of
     slice-read-output-of
     output-of-requires
-    returns
+    returns-2
     free-for-requires
     second-turn-requires
     cast-flight
@@ -118,7 +135,9 @@ turn-two-spec =
     slice-write-flight
     same-length
     same-length-2
-    returns-2
     same-length-3
+    returns-3
     same-length-4
-    returns-3)
+    same-length-5
+    same-length-6
+    returns-4)
