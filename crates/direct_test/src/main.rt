@@ -1,5 +1,6 @@
 // Ticks of the direct form at the edges of the rules. Each case prints one line: the refusal, the slot, the pairs as input>output/pass, the word
-// of pass one, and the credits and queues afterwards (of more than eight words their sum). `stdout` was worked out by hand from the rules.
+// of pass one, and the credits, the queues and the last given outputs afterwards (of more than eight words their sum). `stdout` was worked out by
+// hand from the rules.
 ghost use Prim.Native.Nat.{_<_};
 use direct::tick;
 use wsgs::Clock;
@@ -85,12 +86,14 @@ fn case(
     rates: &[u32],
     credits: &mut [u32],
     queues: &mut [u32],
+    given: &mut [u32],
 ) {
-    let result = tick(clock, slots, rates, credits, queues);
+    let result = tick(clock, slots, rates, credits, queues, given);
     say(name);
     say_result(result);
     say_run(b", credits", credits);
     say_run(b", queues", queues);
+    say_run(b", given", given);
     say(b"\n");
 }
 
@@ -103,10 +106,11 @@ fn ticks(
     rates: &[u32],
     credits: &mut [u32],
     queues: &mut [u32],
+    given: &mut [u32],
 ) {
     for slot in 0..count {
         let reached = at(clock.ports, clock.frame, slot, clock.line);
-        case(name, reached, slots, rates, credits, queues);
+        case(name, reached, slots, rates, credits, queues, given);
     }
 }
 
@@ -116,8 +120,17 @@ fn one_port(name: &[u8], ports: u32, frame: u32, slot: u32) {
     let rates = [0u32];
     let mut credits = [0u32];
     let mut queues = [2u32];
+    let mut given = [0u32];
     let clock = at(ports, frame, slot, 0);
-    case(name, clock, &slots, &rates, &mut credits, &mut queues);
+    case(
+        name,
+        clock,
+        &slots,
+        &rates,
+        &mut credits,
+        &mut queues,
+        &mut given,
+    );
 }
 
 // The limits of ports, frame and clock, and the order of the questions.
@@ -134,14 +147,13 @@ fn limits() {
     one_port(b"short runs at the last slot", 2, 1, 4000000000);
 }
 
-// Each run in turn short by one word.
-fn short_runs() {
+// The slots or the rates short by one word.
+fn short_book() {
     let long = [1u32; 4];
     let short = [1u32; 3];
     let mut credits = [1u32; 4];
-    let mut few_credits = [1u32; 3];
     let mut queues = [1u32; 4];
-    let mut few_queues = [1u32; 3];
+    let mut given = [1u32; 2];
     let clock = at(2, 3, 0, 0);
     case(
         b"slots too short",
@@ -150,6 +162,7 @@ fn short_runs() {
         &long,
         &mut credits,
         &mut queues,
+        &mut given,
     );
     case(
         b"rates too short",
@@ -158,14 +171,27 @@ fn short_runs() {
         &short,
         &mut credits,
         &mut queues,
+        &mut given,
     );
+}
+
+// Each run that a tick writes in turn short by one word.
+fn short_runs() {
+    let long = [1u32; 4];
+    let mut credits = [1u32; 4];
+    let mut queues = [1u32; 4];
+    let mut given = [1u32; 2];
+    let mut few = [1u32; 3];
+    let mut one = [1u32];
+    let clock = at(2, 3, 0, 0);
     case(
         b"credits too short",
         clock,
         &long,
         &long,
-        &mut few_credits,
+        &mut few,
         &mut queues,
+        &mut given,
     );
     case(
         b"queues too short",
@@ -173,7 +199,17 @@ fn short_runs() {
         &long,
         &long,
         &mut credits,
-        &mut few_queues,
+        &mut few,
+        &mut given,
+    );
+    case(
+        b"given too short",
+        clock,
+        &long,
+        &long,
+        &mut credits,
+        &mut queues,
+        &mut one,
     );
 }
 
@@ -183,6 +219,7 @@ fn word_beyond() {
     let rates = [0u32, 44];
     let mut credits = [0u32, 66];
     let mut queues = [1u32, 77];
+    let mut given = [0u32, 88];
     case(
         b"one word beyond",
         at(1, 5, 0, 1),
@@ -190,6 +227,7 @@ fn word_beyond() {
         &rates,
         &mut credits,
         &mut queues,
+        &mut given,
     );
 }
 
@@ -199,6 +237,7 @@ fn one_slot_frames() {
     let rates = [0u32];
     let mut credits = [9u32];
     let mut queues = [3u32];
+    let mut given = [0u32];
     ticks(
         b"frame of 1",
         at(1, 1, 0, 0),
@@ -207,6 +246,7 @@ fn one_slot_frames() {
         &rates,
         &mut credits,
         &mut queues,
+        &mut given,
     );
 }
 
@@ -216,6 +256,7 @@ fn frame_of_three() {
     let rates = [0u32; 4];
     let mut credits = [0u32; 4];
     let mut queues = [5u32, 5, 5, 0];
+    let mut given = [0u32; 2];
     ticks(
         b"frame of 3",
         at(2, 3, 0, 0),
@@ -224,6 +265,7 @@ fn frame_of_three() {
         &rates,
         &mut credits,
         &mut queues,
+        &mut given,
     );
 }
 
@@ -233,6 +275,7 @@ fn frame_by_rates() {
     let rates = [600u32, 0, 0, 333];
     let mut credits = [9u32; 4];
     let mut queues = [3u32, 1, 0, 5];
+    let mut given = [0u32; 2];
     ticks(
         b"frame of 3 by rates",
         at(2, 3, 0, 1000),
@@ -241,6 +284,7 @@ fn frame_by_rates() {
         &rates,
         &mut credits,
         &mut queues,
+        &mut given,
     );
 }
 
@@ -250,8 +294,17 @@ fn one_rate(name: &[u8], line: u32, slots: u32, rate: u32) {
     let rates = [rate];
     let mut credits = [9u32];
     let mut queues = [0u32];
+    let mut given = [0u32];
     let clock = at(1, 3, 0, line);
-    case(name, clock, &slots, &rates, &mut credits, &mut queues);
+    case(
+        name,
+        clock,
+        &slots,
+        &rates,
+        &mut credits,
+        &mut queues,
+        &mut given,
+    );
 }
 
 // Rates just within a slot and just above it, lines whose rate no start accepts or leaves rates without meaning, and bookings up to the largest
@@ -275,6 +328,7 @@ fn credits_unbooked() {
     let none = [0u32; 4];
     let mut credits = [9u32, 0, 4000000000, 0];
     let mut queues = [1u32; 4];
+    let mut given = [0u32; 2];
     case(
         b"credits without bookings",
         at(2, 10, 5, 0),
@@ -282,14 +336,16 @@ fn credits_unbooked() {
         &none,
         &mut credits,
         &mut queues,
+        &mut given,
     );
 }
 
-// The largest words everywhere, in the middle of a frame, where they are not read.
+// The largest words everywhere, in the middle of a frame, where bookings are not read.
 fn largest_words() {
     let largest = [4294967295u32; 4];
     let mut credits = [4294967295u32; 4];
     let mut queues = [4294967295u32; 4];
+    let mut given = [4294967295u32; 2];
     case(
         b"the largest words",
         at(2, 10, 5, 4294967295),
@@ -297,6 +353,7 @@ fn largest_words() {
         &largest,
         &mut credits,
         &mut queues,
+        &mut given,
     );
 }
 
@@ -305,6 +362,7 @@ fn credits_left() {
     let none = [0u32; 4];
     let mut credits = [7u32; 4];
     let mut queues = [1u32, 0, 0, 1];
+    let mut given = [0u32; 2];
     case(
         b"credits of an old frame",
         at(2, 10, 10, 1000),
@@ -312,6 +370,7 @@ fn credits_left() {
         &none,
         &mut credits,
         &mut queues,
+        &mut given,
     );
 }
 
@@ -321,12 +380,65 @@ fn full_switch(name: &[u8], booked: u32, rate: u32) {
     let rates = [rate; 1024];
     let mut credits = [3u32; 1024];
     let mut queues = [1u32; 1024];
+    let mut given = [0u32; 32];
     let clock = at(32, 4, 4, 1000);
-    case(name, clock, &slots, &rates, &mut credits, &mut queues);
+    case(
+        name,
+        clock,
+        &slots,
+        &rates,
+        &mut credits,
+        &mut queues,
+        &mut given,
+    );
+}
+
+// An input with packets for both outputs is given them in turn: the next one, and after the last the first.
+fn in_turn() {
+    let none = [0u32; 4];
+    let mut credits = [0u32; 4];
+    let mut queues = [3u32, 3, 0, 0];
+    let mut given = [0u32; 2];
+    ticks(
+        b"in turn",
+        at(2, 10, 0, 0),
+        3,
+        &none,
+        &none,
+        &mut credits,
+        &mut queues,
+        &mut given,
+    );
+}
+
+// A slot of two ports in the middle of a frame, with the same credit for each pair. Input 2 has a packet for each output, and input 1 so many.
+fn one_turn(name: &[u8], credit: u32, queue: u32, one: u32, two: u32) {
+    let none = [0u32; 4];
+    let mut credits = [credit; 4];
+    let mut queues = [queue, queue, 1, 1];
+    let mut given = [one, two];
+    let clock = at(2, 10, 5, 0);
+    case(
+        name,
+        clock,
+        &none,
+        &none,
+        &mut credits,
+        &mut queues,
+        &mut given,
+    );
+}
+
+// In either pass input 1 begins past output 1, and input 2 past output 2. Words past the ports count as 0, and stay where nothing is given.
+fn turns() {
+    one_turn(b"turns of pass one", 1, 1, 1, 2);
+    one_turn(b"turns of pass two", 0, 1, 1, 2);
+    one_turn(b"words past the ports", 0, 0, 3, 4294967295);
 }
 
 fn main() {
     limits();
+    short_book();
     short_runs();
     word_beyond();
     one_slot_frames();
@@ -336,6 +448,8 @@ fn main() {
     credits_unbooked();
     largest_words();
     credits_left();
+    in_turn();
+    turns();
     full_switch(b"32 ports, all booked", 1, 0);
     full_switch(b"32 ports, none booked", 0, 0);
     full_switch(b"32 ports, all booked by rate", 0, 250);

@@ -7,11 +7,11 @@ use Rattle.direct_test.proofs.ticks.Statement.{statement}
 use Rattle.direct_test.proofs.ticks.Tie as tie
 
 abbrev Inv-loop : tie.InvT-loop
-Inv-loop name clock count slots rates credits₀ queues₀ slot₀ credits queues slot =
-    (slot ≤ count) × (length credits ≡ length credits₀) × (length queues ≡ length queues₀)
+Inv-loop name clock count slots rates credits₀ queues₀ given₀ slot₀ credits queues given slot =
+    (slot ≤ count) × (length credits ≡ length credits₀) × (length queues ≡ length queues₀) × (length given ≡ length given₀)
 
 abbrev μ-loop : tie.MeasureT-loop
-μ-loop name clock count slots rates credits₀ queues₀ slot₀ credits queues slot = count - slot
+μ-loop name clock count slots rates credits₀ queues₀ given₀ slot₀ credits queues given slot = count - slot
 
 loop-holds : tie.Need-loop-holds Inv-loop μ-loop
 loop-holds c = search needs
@@ -37,6 +37,9 @@ same-length c = search needs
 same-length-2 : tie.Need-same-length-2 Inv-loop μ-loop
 same-length-2 c = search needs
 
+same-length-3 : tie.Need-same-length-3 Inv-loop μ-loop
+same-length-3 c = search needs
+
 returns : tie.Need-returns Inv-loop μ-loop
 returns c = search needs
 
@@ -54,4 +57,5 @@ ticks-spec =
     loop-again
     same-length
     same-length-2
+    same-length-3
     returns)
