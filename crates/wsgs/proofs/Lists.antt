@@ -13,11 +13,12 @@ use Rattle.wsgs.specs.Steps.{Matching, empty-matching, nine-steps}
 use Rattle.wsgs.specs.Switch.{Switch, Form, direct, pipelined, Call, final}
 use Rattle.wsgs.specs.Ledger.{Ledger, ledger-of, answered, has-turns, tick-two}
 use Rattle.wsgs.specs.Seen.{Seen, seen, second-view, steps-answer, early-answer}
-use Rattle.wsgs.specs.Claims.{all-of-form, opens, Same, PipelinedBegins, NoOutputTwice, MatchingMaximal, PacketsConserved, QueuesSeen}
+use Rattle.wsgs.specs.Claims.{all-of-form, opens, Same, PipelinedBegins, NoOutputTwice, MatchingMaximal, PacketsConserved, QueuesSeen, LastGivenFound, NoOutputStarves}
 use Rattle.wsgs.proofs.Steps.{once, maximal}
 use Rattle.wsgs.proofs.Share.{Fair}
 use Rattle.wsgs.proofs.Trace.{trace-of}
 use Rattle.wsgs.proofs.Packets
+use Rattle.wsgs.proofs.Given.{direct-found, pipelined-found, Turned, direct-turned, pipelined-turned, given-within}
 use Rattle.wsgs.proofs.Direct.FollowsSteps as DirectForm
 use Rattle.wsgs.proofs.Pipelined.FollowsSteps as PipelinedForm
 
@@ -85,3 +86,17 @@ maximal-answered m cs s o t k i j a b pi pj e d =
 -- and packets are conserved
 pub conserved : PacketsConserved
 conserved m cs s o t = Packets.conserved m (ledger-of cs s) (seen cs s) (final cs s) (trace-of m cs s o t)
+
+-- an input finds the output that it was last given
+pub last-found : LastGivenFound
+last-found direct cs s o t = direct-found (ledger-of cs s) (seen cs s) (final cs s) (trace-of direct cs s o t)
+last-found pipelined cs s o t = pipelined-found (ledger-of cs s) (seen cs s) (final cs s) (trace-of pipelined cs s o t)
+
+-- and starves none
+pub starves-none : NoOutputStarves
+starves-none m cs s o t k i j pi pj =
+    given-within (ledger-of cs s) (seen cs s) (fair m cs s o t) (turned m o) (last-found m cs s o t) i j pi pj k
+  where
+    turned : (m : Form) → T (all-of-form m cs) → (x y : ℕ) → 1 ≤ x → Port (ledger-of cs s .ports) y → Turned (ledger-of cs s) x y
+    turned direct o = direct-turned (ledger-of cs s) (seen cs s) (final cs s) (trace-of direct cs s o t)
+    turned pipelined o = pipelined-turned (ledger-of cs s) (seen cs s) (final cs s) (trace-of pipelined cs s o t)

@@ -92,7 +92,7 @@ module _ (n k x y : ℕ) (pk : Port n k) (px : Port n x) (py : Port n y) where
           (λ u v r s. omega (arith, r, s, h, ahead-from n 1 y (py .low))) (λ u v r s. absurd (omega (arith, r, s, h)))
           (λ u v r s. absurd (omega (arith, r, s, h))))
 
-ahead-within : (n k y : ℕ) → Port n k → Port n y → ahead n k y < n
+pub ahead-within : (n k y : ℕ) → Port n k → Port n y → ahead n k y < n
 ahead-within n k y pk py = go (decLe k y)
   where
     go : Dec (k ≤ y) → ahead n k y < n
