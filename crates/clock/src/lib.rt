@@ -16,13 +16,14 @@ pub fn tick_direct(
     rates: &[u32],
     credits: &mut [u32],
     queues: &mut [u32],
+    given: &mut [u32],
 ) -> Answer
     ensures outcome { λ r. ⌜ effect r
-        (now (clock .exit), direct-runs-of (now (slots .entry)) (now (rates .entry)) (now (credits .exit)) (now (queues .exit)))
+        (now (clock .exit), direct-runs-of (now (slots .entry)) (now (rates .entry)) (now (credits .exit)) (now (queues .exit)) (now (given .exit)))
         ≡ answer-effect (Direct.tick (now (clock .entry))
-        (direct-runs-of (now (slots .entry)) (now (rates .entry)) (now (credits .entry)) (now (queues .entry)))) ⌝ }
+        (direct-runs-of (now (slots .entry)) (now (rates .entry)) (now (credits .entry)) (now (queues .entry)) (now (given .entry)))) ⌝ }
 {
-    let result = direct::tick(*clock, slots, rates, credits, queues);
+    let result = direct::tick(*clock, slots, rates, credits, queues, given);
     *clock = result.clock;
     Answer {
         refusal: result.refusal,
@@ -38,14 +39,15 @@ pub fn step_direct(
     rates: &[u32],
     credits: &mut [u32],
     queues: &mut [u32],
+    given: &mut [u32],
 ) -> TickResult
     ensures outcome { λ r. ⌜ effect r
-        (direct-runs-of (now (slots .entry)) (now (rates .entry)) (now (credits .exit)) (now (queues .exit)))
+        (direct-runs-of (now (slots .entry)) (now (rates .entry)) (now (credits .exit)) (now (queues .exit)) (now (given .exit)))
         ≡ tick-effect (Direct.tick clock
-        (direct-runs-of (now (slots .entry)) (now (rates .entry)) (now (credits .entry)) (now (queues .entry)))) ⌝ }
+        (direct-runs-of (now (slots .entry)) (now (rates .entry)) (now (credits .entry)) (now (queues .entry)) (now (given .entry)))) ⌝ }
 {
     let mut advanced = clock;
-    let answer = tick_direct(&mut advanced, slots, rates, credits, queues);
+    let answer = tick_direct(&mut advanced, slots, rates, credits, queues, given);
     TickResult {
         refusal: answer.refusal,
         clock: advanced,
@@ -61,19 +63,20 @@ pub fn tick_pipelined(
     rates: &[u32],
     credits: &mut [u32],
     queues: &mut [u32],
+    given: &mut [u32],
     copy: &mut [u32],
     flight: &mut [u32],
 ) -> Answer
     ensures outcome { λ r. ⌜ effect r (
       now (clock .exit),
       pipelined-runs-of (now (slots .entry)) (now (rates .entry)) (now (credits .exit)) (now (queues .exit))
-          (now (copy .exit)) (now (flight .exit)),
+          (now (given .exit)) (now (copy .exit)) (now (flight .exit)),
     )
         ≡ answer-effect (Pipelined.tick (now (clock .entry))
         (pipelined-runs-of (now (slots .entry)) (now (rates .entry)) (now (credits .entry)) (now (queues .entry))
-        (now (copy .entry)) (now (flight .entry)))) ⌝ }
+        (now (given .entry)) (now (copy .entry)) (now (flight .entry)))) ⌝ }
 {
-    let result = pipelined::tick(*clock, slots, rates, credits, queues, copy, flight);
+    let result = pipelined::tick(*clock, slots, rates, credits, queues, given, copy, flight);
     *clock = result.clock;
     Answer {
         refusal: result.refusal,
@@ -89,18 +92,28 @@ pub fn step_pipelined(
     rates: &[u32],
     credits: &mut [u32],
     queues: &mut [u32],
+    given: &mut [u32],
     copy: &mut [u32],
     flight: &mut [u32],
 ) -> TickResult
     ensures outcome { λ r. ⌜ effect r
         (pipelined-runs-of (now (slots .entry)) (now (rates .entry)) (now (credits .exit)) (now (queues .exit))
-        (now (copy .exit)) (now (flight .exit)))
+        (now (given .exit)) (now (copy .exit)) (now (flight .exit)))
         ≡ tick-effect (Pipelined.tick clock
         (pipelined-runs-of (now (slots .entry)) (now (rates .entry)) (now (credits .entry)) (now (queues .entry))
-        (now (copy .entry)) (now (flight .entry)))) ⌝ }
+        (now (given .entry)) (now (copy .entry)) (now (flight .entry)))) ⌝ }
 {
     let mut advanced = clock;
-    let answer = tick_pipelined(&mut advanced, slots, rates, credits, queues, copy, flight);
+    let answer = tick_pipelined(
+        &mut advanced,
+        slots,
+        rates,
+        credits,
+        queues,
+        given,
+        copy,
+        flight,
+    );
     TickResult {
         refusal: answer.refusal,
         clock: advanced,

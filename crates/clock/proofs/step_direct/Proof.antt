@@ -63,18 +63,18 @@ abbrev stayed : Stays (step.ended .signature .params) (step.ended .kept)
 stayed = all-said (step.ended .signature .params) (step.ended .kept)
 
 -- the machine values of the parameters
-abbrev spells : (κs : Lfts 4) → Spells (typesAt (step.signature .params) κs)
-spells κs = (LL.vals clock.the-type clock-laws.the-laws, (slice-vals, (slice-vals, (slice-vals, (slice-vals, tt)))))
+abbrev spells : (κs : Lfts 5) → Spells (typesAt (step.signature .params) κs)
+spells κs = (LL.vals clock.the-type clock-laws.the-laws, (slice-vals, (slice-vals, (slice-vals, (slice-vals, (slice-vals, tt))))))
 
 -- the block of the local that holds the clock
 abbrev c : Blocks (code.function .locals) → ℕ
-c l = l .1 .1 .1 .1 .1 .1 .0
+c l = l .1 .1 .1 .1 .1 .1 .1 .0
 
 -- the contract of the tick
 abbrev Tick : {M : Type 1} (𝓤 : URA M) (H : Heap 𝓤) (A : Atoms 𝓤) (mem : Memory → SProp 𝓤) (run : Routine → Fun 𝓤) → Contract 𝓤
 Tick 𝓤 H A mem run = tripleOf 𝓤 H A tick.signature (tick.spec 𝓤 H A mem run)
 
-module _ {M : Type 1} (𝓤 : URA M) (H : Heap 𝓤) (A : Atoms 𝓤) (W : Given 𝓤 H A) (mem : Memory → SProp 𝓤) (run : Routine → Fun 𝓤) (κs : Lfts 4) (qs : Shares 4) (a : Args step.signature κs) where
+module _ {M : Type 1} (𝓤 : URA M) (H : Heap 𝓤) (A : Atoms 𝓤) (W : Given 𝓤 H A) (mem : Memory → SProp 𝓤) (run : Routine → Fun 𝓤) (κs : Lfts 5) (qs : Shares 5) (a : Args step.signature κs) where
   -- what this function's contract and the tick's bind outside, where the clock is lent at block l, for the lifetime α, under the name γ
   abbrev y : walkOf 𝓤 H A step.ended stayed (step.clauses 𝓤 H A mem run) .Ghost
   y = ((κs, qs, tt, a, valss (typesAt (step.signature .params) κs) (spells κs) a), tt)
@@ -95,45 +95,45 @@ module _ {M : Type 1} (𝓤 : URA M) (H : Heap 𝓤) (A : Atoms 𝓤) (W : Given
 
   -- what the tick ensures of its result, of the clock and of the runs
   abbrev out : Outcome Direct.Runs
-  out = Direct.tick (a .0) (direct-runs-of (a .1 .0 .now) (a .1 .1 .0 .now) (a .1 .1 .1 .0 .now) (a .1 .1 .1 .1 .0 .now))
+  out = Direct.tick (a .0) (direct-runs-of (a .1 .0 .now) (a .1 .1 .0 .now) (a .1 .1 .1 .0 .now) (a .1 .1 .1 .1 .0 .now) (a .1 .1 .1 .1 .1 .0 .now))
 
   abbrev Said : Answer → Clock → Lasts step.ended κs a → Type 0
-  Said r k zs = effect r (k, direct-runs-of (a .1 .0 .now) (a .1 .1 .0 .now) (zs .1 .1 .1 .0) (zs .1 .1 .1 .1 .0)) ≡ answer-effect out
+  Said r k zs = effect r (k, direct-runs-of (a .1 .0 .now) (a .1 .1 .0 .now) (zs .1 .1 .1 .0) (zs .1 .1 .1 .1 .0) (zs .1 .1 .1 .1 .1 .0)) ≡ answer-effect out
 
   module _ (C : Calls 𝓤 H) (Λ : Loops 𝓤 H) (fm : FmC 𝓤 H (W .laws) C) (known : Triple 𝓤 (C #clock·tick-direct) (Tick 𝓤 H A mem run)) where
-    walk : Is clock.the-row (a .0) (value (a .0) ∷ []) → Room u32 (length (a .1 .0 .now)) → Room u32 (length (a .1 .1 .0 .now)) → Room u32 (length (a .1 .1 .1 .0 .now)) → Room u32 (length (a .1 .1 .1 .1 .0 .now))
+    walk : Is clock.the-row (a .0) (value (a .0) ∷ []) → Room u32 (length (a .1 .0 .now)) → Room u32 (length (a .1 .1 .0 .now)) → Room u32 (length (a .1 .1 .1 .0 .now)) → Room u32 (length (a .1 .1 .1 .1 .0 .now)) → Room u32 (length (a .1 .1 .1 .1 .1 .0 .now))
         → ent 𝓤 (onEntry 𝓤 H A step.signature κs qs a (y .0 .4)) (WpFn 𝓤 H C Λ code.function (flat (typesAt (step.signature .params) κs) (y .0 .4)) (walkOf 𝓤 H A step.ended stayed (step.clauses 𝓤 H A mem run) .post y))
-    walk was r₁ r₂ r₃ r₄ =
+    walk was r₁ r₂ r₃ r₄ r₅ =
         qed W (raw (alive 𝓤 H A step.signature κs qs) ∷ ‵ (owns (typesAt (step.signature .params) κs) a (y .0 .4)) ∷ []) ∵
         move ! (1 ∷ []) $ fsplit ! $ drop ! $ enter ! C Λ code.function _ _ $ locals ! (λ l. params1 ! $
-        pass1 ! (init ! 24 refl (LL.lawful clock.the-type clock-laws.the-laws 𝓤 H A W .typed (a .0) _ was .0)) $ takes ! 22 refl r₁ $ takes ! 20 refl r₂ $ takes ! 18 refl r₃ $ takes ! 16 refl r₄ $ pass0 ! $
-        -- [_i at 2 · (13 − i); what the runs own at 28; their tokens]
-        assigns ! (of-opd ! (load ! (from ! (stop !)) (look ! 24 refl))) (from ! (stop !)) (init ! 14 refl (LL.lawful clock.the-type clock-laws.the-laws 𝓤 H A W .typed (a .0) _ was .0)) $
-        assigns ! (addr ! (from ! (stop !))) (from ! (stop !)) (init ! 10 refl (tt, tt)) $
-        lends-on ! 18 8 6 refl refl refl r₃ $ lends-on ! 16 4 2 refl refl refl r₄ $
-        move ! (14 ∷ []) $ lends-clock ! tt (a .0) (c l) was (λ α γ.
-        -- [the reference; its token; the lender's part; _13 at 3; …; _7 at 15; …; _5 at 18; …; what the runs own at 30; their tokens]
-        move ! (0 ∷ 30 ∷ []) $ fjoin ! $ move ! (1 ∷ 30 ∷ []) $ join ! $ use2 W (raw (Tick 𝓤 H A mem run .pre (y′ α (c l) γ))) (goes α (c l) γ) $
-        calls-at ! fm (Tick 𝓤 H A mem run) known (y′ α (c l) γ) (copies ! 12 refl (copies ! 23 refl (copies ! 21 refl (copies ! 8 refl (copies ! 4 refl (no-more !)))))) (λ u. returned ! tt tick.ended (tick.clauses 𝓤 H A mem run) (y′ α (c l) γ) u (λ r zs.
+        pass1 ! (init ! 30 refl (LL.lawful clock.the-type clock-laws.the-laws 𝓤 H A W .typed (a .0) _ was .0)) $ takes ! 28 refl r₁ $ takes ! 26 refl r₂ $ takes ! 24 refl r₃ $ takes ! 22 refl r₄ $ takes ! 20 refl r₅ $ pass0 ! $
+        -- [_i at 2 · (16 − i); what the runs own at 34; their tokens]
+        assigns ! (of-opd ! (load ! (from ! (stop !)) (look ! 30 refl))) (from ! (stop !)) (init ! 18 refl (LL.lawful clock.the-type clock-laws.the-laws 𝓤 H A W .typed (a .0) _ was .0)) $
+        assigns ! (addr ! (from ! (stop !))) (from ! (stop !)) (init ! 14 refl (tt, tt)) $
+        lends-on ! 24 12 10 refl refl refl r₃ $ lends-on ! 22 8 6 refl refl refl r₄ $ lends-on ! 20 4 2 refl refl refl r₅ $
+        move ! (18 ∷ []) $ lends-clock ! tt (a .0) (c l) was (λ α γ.
+        -- [the reference; its token; the lender's part; _16 at 3; …; _8 at 19; …; _6 at 22; …; what the runs own at 36; their tokens]
+        move ! (0 ∷ 36 ∷ []) $ fjoin ! $ move ! (1 ∷ 36 ∷ []) $ join ! $ use2 W (raw (Tick 𝓤 H A mem run .pre (y′ α (c l) γ))) (goes α (c l) γ) $
+        calls-at ! fm (Tick 𝓤 H A mem run) known (y′ α (c l) γ) (copies ! 16 refl (copies ! 29 refl (copies ! 27 refl (copies ! 12 refl (copies ! 8 refl (copies ! 4 refl (no-more !))))))) (λ u. returned ! tt tick.ended (tick.clauses 𝓤 H A mem run) (y′ α (c l) γ) u (λ r zs.
         use1 W (raw (fact 𝓤 (Said r (zs .0) (tt, zs .1)))) (id⊢ 𝓤 _) $ heard ! (Said r (zs .0) (tt, zs .1)) (λ e.
         move ! (2 ∷ []) $ peeks ! answer.the-row (Is answer.the-row) (shows 𝓤 H A answer.the-row) r (u ∷ []) (λ is-r. drop ! $
-        -- [clock and runs at exit; the tokens; the lender's part; _13 at 3; …; _7 at 15; …]
-        lands-as ! 15 (ap only (LL.tells answer.the-type answer-laws.the-laws r _ is-r)) refl refl (LL.lawful answer.the-type answer-laws.the-laws 𝓤 H A W .typed r _ is-r .0) $
-        fsplit ! $ move ! (2 ∷ []) $ use1 W (Tokens α (c l) γ) (id⊢ 𝓤 _) $ split ! $ move ! (0 ∷ 4 ∷ 2 ∷ []) $ clock-back ! tt (zs .0) (c l) (λ is. move ! (behind 16) $
-        -- [the tokens of the runs; the runs at exit; _i at 2 + 2 · (13 − i)]
-        assigns ! (of-opd ! (load ! (from ! (stop !)) (look ! 16 refl))) (from ! (stop !)) (init ! 2 refl (LL.lawful clock.the-type clock-laws.the-laws 𝓤 H A W .typed (zs .0) _ is .0)) $
-        makes-result ! 2 14 28 (zs .0) r is is-r refl refl $
-        returns ! (look ! 28 refl) $ leaves ! 2 _ refl $
+        -- [clock and runs at exit; the tokens; the lender's part; _16 at 3; …; _8 at 19; …]
+        lands-as ! 19 (ap only (LL.tells answer.the-type answer-laws.the-laws r _ is-r)) refl refl (LL.lawful answer.the-type answer-laws.the-laws 𝓤 H A W .typed r _ is-r .0) $
+        fsplit ! $ move ! (2 ∷ []) $ use1 W (Tokens α (c l) γ) (id⊢ 𝓤 _) $ split ! $ move ! (0 ∷ 4 ∷ 2 ∷ []) $ clock-back ! tt (zs .0) (c l) (λ is. move ! (behind 20) $
+        -- [the tokens of the runs; the runs at exit; _i at 2 + 2 · (16 − i)]
+        assigns ! (of-opd ! (load ! (from ! (stop !)) (look ! 20 refl))) (from ! (stop !)) (init ! 2 refl (LL.lawful clock.the-type clock-laws.the-laws 𝓤 H A W .typed (zs .0) _ is .0)) $
+        makes-result ! 2 18 34 (zs .0) r is is-r refl refl $
+        returns ! (look ! 34 refl) $ leaves ! 2 _ refl $
         move ! (1 ∷ []) $ nothing ! $ fjoin ! $ move ! (1 ∷ 0 ∷ []) $
-        ends ! step.ended (step.clauses 𝓤 H A mem run) y _ (result-of (zs .0) r) (tt, zs .1) (tt, (tt, (tt, (tt, (tt, tt))))) ((LL.makes result.the-type result-laws.the-plain) 𝓤 H A (result-of (zs .0) r) _ (result-typed (zs .0) r _ is is-r)) $
+        ends ! step.ended (step.clauses 𝓤 H A mem run) y _ (result-of (zs .0) r) (tt, zs .1) (tt, (tt, (tt, (tt, (tt, (tt, tt)))))) ((LL.makes result.the-type result-laws.the-plain) 𝓤 H A (result-of (zs .0) r) _ (result-typed (zs .0) r _ is is-r)) $
         tells ! (ap by-value e))))))))
 
 step-meets : {M : Type 1} (𝓤 : URA M) (H : Heap 𝓤) (A : Atoms 𝓤) (W : Given 𝓤 H A) (mem : Memory → SProp 𝓤) (run : Routine → Fun 𝓤) (𝓣 : Tables 𝓤 H) → Triple 𝓤 (𝓣 .C #clock·tick-direct) (Tick 𝓤 H A mem run)
     → Meets 𝓤 H A step.signature (WpFn 𝓤 H (𝓣 .C) (𝓣 .Λ) code.function) (step.spec 𝓤 H A mem run)
 step-meets 𝓤 H A W mem run 𝓣 known =
     by-walk 𝓤 H A W step.ended (step.clauses 𝓤 H A mem run) 𝓣 code.function spells
-    (λ κs. (LL.tells clock.the-type clock-laws.the-laws, (shr-slice-tells (named 0) (κs .0) u32, (shr-slice-tells (named 1) (κs .1 .0) u32, (mut-slice-tells (named 2) (κs .1 .1 .0) u32, (mut-slice-tells (named 3) (κs .1 .1 .1 .0) u32, tt))))))
-    (λ κs qs bounds a g are. walk 𝓤 H A W mem run κs qs a (𝓣 .C) (𝓣 .Λ) (fmOf 𝓤 H (W .laws) 𝓣) known (are .0) (are .1 .0 .0 .1) (are .1 .1 .0 .0 .1) (are .1 .1 .1 .0 .0 .1) (are .1 .1 .1 .1 .0 .0 .1))
+    (λ κs. (LL.tells clock.the-type clock-laws.the-laws, (shr-slice-tells (named 0) (κs .0) u32, (shr-slice-tells (named 1) (κs .1 .0) u32, (mut-slice-tells (named 2) (κs .1 .1 .0) u32, (mut-slice-tells (named 3) (κs .1 .1 .1 .0) u32, (mut-slice-tells (named 4) (κs .1 .1 .1 .1 .0) u32, tt)))))))
+    (λ κs qs bounds a g are. walk 𝓤 H A W mem run κs qs a (𝓣 .C) (𝓣 .Λ) (fmOf 𝓤 H (W .laws) 𝓣) known (are .0) (are .1 .0 .0 .1) (are .1 .1 .0 .0 .1) (are .1 .1 .1 .0 .0 .1) (are .1 .1 .1 .1 .0 .0 .1) (are .1 .1 .1 .1 .1 .0 .0 .1))
 
 pub step-direct-spec : {M : Type 1} → stated.statement M
 unfolding code.routine tablesOf

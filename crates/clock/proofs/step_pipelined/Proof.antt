@@ -63,18 +63,18 @@ abbrev stayed : Stays (step.ended .signature .params) (step.ended .kept)
 stayed = all-said (step.ended .signature .params) (step.ended .kept)
 
 -- the machine values of the parameters
-abbrev spells : (κs : Lfts 6) → Spells (typesAt (step.signature .params) κs)
-spells κs = (LL.vals clock.the-type clock-laws.the-laws, (slice-vals, (slice-vals, (slice-vals, (slice-vals, (slice-vals, (slice-vals, tt)))))))
+abbrev spells : (κs : Lfts 7) → Spells (typesAt (step.signature .params) κs)
+spells κs = (LL.vals clock.the-type clock-laws.the-laws, (slice-vals, (slice-vals, (slice-vals, (slice-vals, (slice-vals, (slice-vals, (slice-vals, tt))))))))
 
 -- the block of the local that holds the clock
 abbrev c : Blocks (code.function .locals) → ℕ
-c l = l .1 .1 .1 .1 .1 .1 .1 .1 .0
+c l = l .1 .1 .1 .1 .1 .1 .1 .1 .1 .0
 
 -- the contract of the tick
 abbrev Tick : {M : Type 1} (𝓤 : URA M) (H : Heap 𝓤) (A : Atoms 𝓤) (mem : Memory → SProp 𝓤) (run : Routine → Fun 𝓤) → Contract 𝓤
 Tick 𝓤 H A mem run = tripleOf 𝓤 H A tick.signature (tick.spec 𝓤 H A mem run)
 
-module _ {M : Type 1} (𝓤 : URA M) (H : Heap 𝓤) (A : Atoms 𝓤) (W : Given 𝓤 H A) (mem : Memory → SProp 𝓤) (run : Routine → Fun 𝓤) (κs : Lfts 6) (qs : Shares 6) (a : Args step.signature κs) where
+module _ {M : Type 1} (𝓤 : URA M) (H : Heap 𝓤) (A : Atoms 𝓤) (W : Given 𝓤 H A) (mem : Memory → SProp 𝓤) (run : Routine → Fun 𝓤) (κs : Lfts 7) (qs : Shares 7) (a : Args step.signature κs) where
   -- what this function's contract and the tick's bind outside, where the clock is lent at block l, for the lifetime α, under the name γ
   abbrev y : walkOf 𝓤 H A step.ended stayed (step.clauses 𝓤 H A mem run) .Ghost
   y = ((κs, qs, tt, a, valss (typesAt (step.signature .params) κs) (spells κs) a), tt)
@@ -95,45 +95,45 @@ module _ {M : Type 1} (𝓤 : URA M) (H : Heap 𝓤) (A : Atoms 𝓤) (W : Given
 
   -- what the tick ensures of its result, of the clock and of the runs
   abbrev out : Outcome Pipelined.Runs
-  out = Pipelined.tick (a .0) (pipelined-runs-of (a .1 .0 .now) (a .1 .1 .0 .now) (a .1 .1 .1 .0 .now) (a .1 .1 .1 .1 .0 .now) (a .1 .1 .1 .1 .1 .0 .now) (a .1 .1 .1 .1 .1 .1 .0 .now))
+  out = Pipelined.tick (a .0) (pipelined-runs-of (a .1 .0 .now) (a .1 .1 .0 .now) (a .1 .1 .1 .0 .now) (a .1 .1 .1 .1 .0 .now) (a .1 .1 .1 .1 .1 .0 .now) (a .1 .1 .1 .1 .1 .1 .0 .now) (a .1 .1 .1 .1 .1 .1 .1 .0 .now))
 
   abbrev Said : Answer → Clock → Lasts step.ended κs a → Type 0
-  Said r k zs = effect r (k, pipelined-runs-of (a .1 .0 .now) (a .1 .1 .0 .now) (zs .1 .1 .1 .0) (zs .1 .1 .1 .1 .0) (zs .1 .1 .1 .1 .1 .0) (zs .1 .1 .1 .1 .1 .1 .0)) ≡ answer-effect out
+  Said r k zs = effect r (k, pipelined-runs-of (a .1 .0 .now) (a .1 .1 .0 .now) (zs .1 .1 .1 .0) (zs .1 .1 .1 .1 .0) (zs .1 .1 .1 .1 .1 .0) (zs .1 .1 .1 .1 .1 .1 .0) (zs .1 .1 .1 .1 .1 .1 .1 .0)) ≡ answer-effect out
 
   module _ (C : Calls 𝓤 H) (Λ : Loops 𝓤 H) (fm : FmC 𝓤 H (W .laws) C) (known : Triple 𝓤 (C #clock·tick-pipelined) (Tick 𝓤 H A mem run)) where
-    walk : Is clock.the-row (a .0) (value (a .0) ∷ []) → Room u32 (length (a .1 .0 .now)) → Room u32 (length (a .1 .1 .0 .now)) → Room u32 (length (a .1 .1 .1 .0 .now)) → Room u32 (length (a .1 .1 .1 .1 .0 .now)) → Room u32 (length (a .1 .1 .1 .1 .1 .0 .now)) → Room u32 (length (a .1 .1 .1 .1 .1 .1 .0 .now))
+    walk : Is clock.the-row (a .0) (value (a .0) ∷ []) → Room u32 (length (a .1 .0 .now)) → Room u32 (length (a .1 .1 .0 .now)) → Room u32 (length (a .1 .1 .1 .0 .now)) → Room u32 (length (a .1 .1 .1 .1 .0 .now)) → Room u32 (length (a .1 .1 .1 .1 .1 .0 .now)) → Room u32 (length (a .1 .1 .1 .1 .1 .1 .0 .now)) → Room u32 (length (a .1 .1 .1 .1 .1 .1 .1 .0 .now))
         → ent 𝓤 (onEntry 𝓤 H A step.signature κs qs a (y .0 .4)) (WpFn 𝓤 H C Λ code.function (flat (typesAt (step.signature .params) κs) (y .0 .4)) (walkOf 𝓤 H A step.ended stayed (step.clauses 𝓤 H A mem run) .post y))
-    walk was r₁ r₂ r₃ r₄ r₅ r₆ =
+    walk was r₁ r₂ r₃ r₄ r₅ r₆ r₇ =
         qed W (raw (alive 𝓤 H A step.signature κs qs) ∷ ‵ (owns (typesAt (step.signature .params) κs) a (y .0 .4)) ∷ []) ∵
         move ! (1 ∷ []) $ fsplit ! $ drop ! $ enter ! C Λ code.function _ _ $ locals ! (λ l. params1 ! $
-        pass1 ! (init ! 36 refl (LL.lawful clock.the-type clock-laws.the-laws 𝓤 H A W .typed (a .0) _ was .0)) $ takes ! 34 refl r₁ $ takes ! 32 refl r₂ $ takes ! 30 refl r₃ $ takes ! 28 refl r₄ $ takes ! 26 refl r₅ $ takes ! 24 refl r₆ $ pass0 ! $
-        -- [_i at 2 · (19 − i); what the runs own at 40; their tokens]
-        assigns ! (of-opd ! (load ! (from ! (stop !)) (look ! 36 refl))) (from ! (stop !)) (init ! 22 refl (LL.lawful clock.the-type clock-laws.the-laws 𝓤 H A W .typed (a .0) _ was .0)) $
-        assigns ! (addr ! (from ! (stop !))) (from ! (stop !)) (init ! 18 refl (tt, tt)) $
-        lends-on ! 30 16 14 refl refl refl r₃ $ lends-on ! 28 12 10 refl refl refl r₄ $ lends-on ! 26 8 6 refl refl refl r₅ $ lends-on ! 24 4 2 refl refl refl r₆ $
-        move ! (22 ∷ []) $ lends-clock ! tt (a .0) (c l) was (λ α γ.
-        -- [the reference; its token; the lender's part; _19 at 3; …; _9 at 23; …; _7 at 26; …; what the runs own at 42; their tokens]
-        move ! (0 ∷ 42 ∷ []) $ fjoin ! $ move ! (1 ∷ 42 ∷ []) $ join ! $ use2 W (raw (Tick 𝓤 H A mem run .pre (y′ α (c l) γ))) (goes α (c l) γ) $
-        calls-at ! fm (Tick 𝓤 H A mem run) known (y′ α (c l) γ) (copies ! 20 refl (copies ! 35 refl (copies ! 33 refl (copies ! 16 refl (copies ! 12 refl (copies ! 8 refl (copies ! 4 refl (no-more !)))))))) (λ u. returned ! tt tick.ended (tick.clauses 𝓤 H A mem run) (y′ α (c l) γ) u (λ r zs.
+        pass1 ! (init ! 42 refl (LL.lawful clock.the-type clock-laws.the-laws 𝓤 H A W .typed (a .0) _ was .0)) $ takes ! 40 refl r₁ $ takes ! 38 refl r₂ $ takes ! 36 refl r₃ $ takes ! 34 refl r₄ $ takes ! 32 refl r₅ $ takes ! 30 refl r₆ $ takes ! 28 refl r₇ $ pass0 ! $
+        -- [_i at 2 · (22 − i); what the runs own at 46; their tokens]
+        assigns ! (of-opd ! (load ! (from ! (stop !)) (look ! 42 refl))) (from ! (stop !)) (init ! 26 refl (LL.lawful clock.the-type clock-laws.the-laws 𝓤 H A W .typed (a .0) _ was .0)) $
+        assigns ! (addr ! (from ! (stop !))) (from ! (stop !)) (init ! 22 refl (tt, tt)) $
+        lends-on ! 36 20 18 refl refl refl r₃ $ lends-on ! 34 16 14 refl refl refl r₄ $ lends-on ! 32 12 10 refl refl refl r₅ $ lends-on ! 30 8 6 refl refl refl r₆ $ lends-on ! 28 4 2 refl refl refl r₇ $
+        move ! (26 ∷ []) $ lends-clock ! tt (a .0) (c l) was (λ α γ.
+        -- [the reference; its token; the lender's part; _22 at 3; …; _10 at 27; …; _8 at 30; …; what the runs own at 48; their tokens]
+        move ! (0 ∷ 48 ∷ []) $ fjoin ! $ move ! (1 ∷ 48 ∷ []) $ join ! $ use2 W (raw (Tick 𝓤 H A mem run .pre (y′ α (c l) γ))) (goes α (c l) γ) $
+        calls-at ! fm (Tick 𝓤 H A mem run) known (y′ α (c l) γ) (copies ! 24 refl (copies ! 41 refl (copies ! 39 refl (copies ! 20 refl (copies ! 16 refl (copies ! 12 refl (copies ! 8 refl (copies ! 4 refl (no-more !))))))))) (λ u. returned ! tt tick.ended (tick.clauses 𝓤 H A mem run) (y′ α (c l) γ) u (λ r zs.
         use1 W (raw (fact 𝓤 (Said r (zs .0) (tt, zs .1)))) (id⊢ 𝓤 _) $ heard ! (Said r (zs .0) (tt, zs .1)) (λ e.
         move ! (2 ∷ []) $ peeks ! answer.the-row (Is answer.the-row) (shows 𝓤 H A answer.the-row) r (u ∷ []) (λ is-r. drop ! $
-        -- [clock and runs at exit; the tokens; the lender's part; _19 at 3; …; _9 at 23; …]
-        lands-as ! 23 (ap only (LL.tells answer.the-type answer-laws.the-laws r _ is-r)) refl refl (LL.lawful answer.the-type answer-laws.the-laws 𝓤 H A W .typed r _ is-r .0) $
-        fsplit ! $ move ! (2 ∷ []) $ use1 W (Tokens α (c l) γ) (id⊢ 𝓤 _) $ split ! $ move ! (0 ∷ 4 ∷ 2 ∷ []) $ clock-back ! tt (zs .0) (c l) (λ is. move ! (behind 24) $
-        -- [the tokens of the runs; the runs at exit; _i at 2 + 2 · (19 − i)]
-        assigns ! (of-opd ! (load ! (from ! (stop !)) (look ! 24 refl))) (from ! (stop !)) (init ! 2 refl (LL.lawful clock.the-type clock-laws.the-laws 𝓤 H A W .typed (zs .0) _ is .0)) $
-        makes-result ! 2 22 40 (zs .0) r is is-r refl refl $
-        returns ! (look ! 40 refl) $ leaves ! 2 _ refl $
+        -- [clock and runs at exit; the tokens; the lender's part; _22 at 3; …; _10 at 27; …]
+        lands-as ! 27 (ap only (LL.tells answer.the-type answer-laws.the-laws r _ is-r)) refl refl (LL.lawful answer.the-type answer-laws.the-laws 𝓤 H A W .typed r _ is-r .0) $
+        fsplit ! $ move ! (2 ∷ []) $ use1 W (Tokens α (c l) γ) (id⊢ 𝓤 _) $ split ! $ move ! (0 ∷ 4 ∷ 2 ∷ []) $ clock-back ! tt (zs .0) (c l) (λ is. move ! (behind 28) $
+        -- [the tokens of the runs; the runs at exit; _i at 2 + 2 · (22 − i)]
+        assigns ! (of-opd ! (load ! (from ! (stop !)) (look ! 28 refl))) (from ! (stop !)) (init ! 2 refl (LL.lawful clock.the-type clock-laws.the-laws 𝓤 H A W .typed (zs .0) _ is .0)) $
+        makes-result ! 2 26 46 (zs .0) r is is-r refl refl $
+        returns ! (look ! 46 refl) $ leaves ! 2 _ refl $
         move ! (1 ∷ []) $ nothing ! $ fjoin ! $ move ! (1 ∷ 0 ∷ []) $
-        ends ! step.ended (step.clauses 𝓤 H A mem run) y _ (result-of (zs .0) r) (tt, zs .1) (tt, (tt, (tt, (tt, (tt, (tt, (tt, tt))))))) ((LL.makes result.the-type result-laws.the-plain) 𝓤 H A (result-of (zs .0) r) _ (result-typed (zs .0) r _ is is-r)) $
+        ends ! step.ended (step.clauses 𝓤 H A mem run) y _ (result-of (zs .0) r) (tt, zs .1) (tt, (tt, (tt, (tt, (tt, (tt, (tt, (tt, tt)))))))) ((LL.makes result.the-type result-laws.the-plain) 𝓤 H A (result-of (zs .0) r) _ (result-typed (zs .0) r _ is is-r)) $
         tells ! (ap by-value e))))))))
 
 step-meets : {M : Type 1} (𝓤 : URA M) (H : Heap 𝓤) (A : Atoms 𝓤) (W : Given 𝓤 H A) (mem : Memory → SProp 𝓤) (run : Routine → Fun 𝓤) (𝓣 : Tables 𝓤 H) → Triple 𝓤 (𝓣 .C #clock·tick-pipelined) (Tick 𝓤 H A mem run)
     → Meets 𝓤 H A step.signature (WpFn 𝓤 H (𝓣 .C) (𝓣 .Λ) code.function) (step.spec 𝓤 H A mem run)
 step-meets 𝓤 H A W mem run 𝓣 known =
     by-walk 𝓤 H A W step.ended (step.clauses 𝓤 H A mem run) 𝓣 code.function spells
-    (λ κs. (LL.tells clock.the-type clock-laws.the-laws, (shr-slice-tells (named 0) (κs .0) u32, (shr-slice-tells (named 1) (κs .1 .0) u32, (mut-slice-tells (named 2) (κs .1 .1 .0) u32, (mut-slice-tells (named 3) (κs .1 .1 .1 .0) u32, (mut-slice-tells (named 4) (κs .1 .1 .1 .1 .0) u32, (mut-slice-tells (named 5) (κs .1 .1 .1 .1 .1 .0) u32, tt))))))))
-    (λ κs qs bounds a g are. walk 𝓤 H A W mem run κs qs a (𝓣 .C) (𝓣 .Λ) (fmOf 𝓤 H (W .laws) 𝓣) known (are .0) (are .1 .0 .0 .1) (are .1 .1 .0 .0 .1) (are .1 .1 .1 .0 .0 .1) (are .1 .1 .1 .1 .0 .0 .1) (are .1 .1 .1 .1 .1 .0 .0 .1) (are .1 .1 .1 .1 .1 .1 .0 .0 .1))
+    (λ κs. (LL.tells clock.the-type clock-laws.the-laws, (shr-slice-tells (named 0) (κs .0) u32, (shr-slice-tells (named 1) (κs .1 .0) u32, (mut-slice-tells (named 2) (κs .1 .1 .0) u32, (mut-slice-tells (named 3) (κs .1 .1 .1 .0) u32, (mut-slice-tells (named 4) (κs .1 .1 .1 .1 .0) u32, (mut-slice-tells (named 5) (κs .1 .1 .1 .1 .1 .0) u32, (mut-slice-tells (named 6) (κs .1 .1 .1 .1 .1 .1 .0) u32, tt)))))))))
+    (λ κs qs bounds a g are. walk 𝓤 H A W mem run κs qs a (𝓣 .C) (𝓣 .Λ) (fmOf 𝓤 H (W .laws) 𝓣) known (are .0) (are .1 .0 .0 .1) (are .1 .1 .0 .0 .1) (are .1 .1 .1 .0 .0 .1) (are .1 .1 .1 .1 .0 .0 .1) (are .1 .1 .1 .1 .1 .0 .0 .1) (are .1 .1 .1 .1 .1 .1 .0 .0 .1) (are .1 .1 .1 .1 .1 .1 .1 .0 .0 .1))
 
 pub step-pipelined-spec : {M : Type 1} → stated.statement M
 unfolding code.routine tablesOf

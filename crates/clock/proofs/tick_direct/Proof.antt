@@ -61,14 +61,14 @@ abbrev stayed : Stays (tick.ended .signature .params) (tick.ended .kept)
 stayed = all-said (tick.ended .signature .params) (tick.ended .kept)
 
 -- the machine values of the parameters
-abbrev spells : (κs : Lfts 5) → Spells (typesAt (tick.signature .params) κs)
-spells κs = (ptr-vals, (slice-vals, (slice-vals, (slice-vals, (slice-vals, tt)))))
+abbrev spells : (κs : Lfts 6) → Spells (typesAt (tick.signature .params) κs)
+spells κs = (ptr-vals, (slice-vals, (slice-vals, (slice-vals, (slice-vals, (slice-vals, tt))))))
 
 -- the contract of `direct::tick`
 abbrev Core : {M : Type 1} (𝓤 : URA M) (H : Heap 𝓤) (A : Atoms 𝓤) (mem : Memory → SProp 𝓤) (run : Routine → Fun 𝓤) → Contract 𝓤
 Core 𝓤 H A mem run = tripleOf 𝓤 H A core.signature (core.spec 𝓤 H A mem run)
 
-module _ {M : Type 1} (𝓤 : URA M) (H : Heap 𝓤) (A : Atoms 𝓤) (W : Given 𝓤 H A) (mem : Memory → SProp 𝓤) (run : Routine → Fun 𝓤) (κs : Lfts 5) (qs : Shares 5) (a : Args tick.signature κs) where
+module _ {M : Type 1} (𝓤 : URA M) (H : Heap 𝓤) (A : Atoms 𝓤) (W : Given 𝓤 H A) (mem : Memory → SProp 𝓤) (run : Routine → Fun 𝓤) (κs : Lfts 6) (qs : Shares 6) (a : Args tick.signature κs) where
   abbrev k : Clock
   k = a .0 .now
 
@@ -96,36 +96,36 @@ module _ {M : Type 1} (𝓤 : URA M) (H : Heap 𝓤) (A : Atoms 𝓤) (W : Given
 
   -- what the core ensures of its result and the runs
   abbrev out : Outcome Direct.Runs
-  out = Direct.tick k (direct-runs-of (a .1 .0 .now) (a .1 .1 .0 .now) (a .1 .1 .1 .0 .now) (a .1 .1 .1 .1 .0 .now))
+  out = Direct.tick k (direct-runs-of (a .1 .0 .now) (a .1 .1 .0 .now) (a .1 .1 .1 .0 .now) (a .1 .1 .1 .1 .0 .now) (a .1 .1 .1 .1 .1 .0 .now))
 
   abbrev Said : TickResult → Lasts core.ended (κs .1) (y′ .0 .3) → Type 0
-  Said t zs = effect t (direct-runs-of (a .1 .0 .now) (a .1 .1 .0 .now) (zs .1 .1 .1 .0) (zs .1 .1 .1 .1 .0)) ≡ tick-effect out
+  Said t zs = effect t (direct-runs-of (a .1 .0 .now) (a .1 .1 .0 .now) (zs .1 .1 .1 .0) (zs .1 .1 .1 .1 .0) (zs .1 .1 .1 .1 .1 .0)) ≡ tick-effect out
 
   module _ (C : Calls 𝓤 H) (Λ : Loops 𝓤 H) (fm : FmC 𝓤 H (W .laws) C) (known : Triple 𝓤 (C #direct·tick) (Core 𝓤 H A mem run)) where
-    walk : Room u32 (length (a .1 .0 .now)) → Room u32 (length (a .1 .1 .0 .now)) → Room u32 (length (a .1 .1 .1 .0 .now)) → Room u32 (length (a .1 .1 .1 .1 .0 .now))
+    walk : Room u32 (length (a .1 .0 .now)) → Room u32 (length (a .1 .1 .0 .now)) → Room u32 (length (a .1 .1 .1 .0 .now)) → Room u32 (length (a .1 .1 .1 .1 .0 .now)) → Room u32 (length (a .1 .1 .1 .1 .1 .0 .now))
         → ent 𝓤 (onEntry 𝓤 H A tick.signature κs qs a (y .0 .4)) (WpFn 𝓤 H C Λ code.function (flat (typesAt (tick.signature .params) κs) (y .0 .4)) (walkOf 𝓤 H A tick.ended stayed (tick.clauses 𝓤 H A mem run) .post y))
-    walk r₁ r₂ r₃ r₄ =
+    walk r₁ r₂ r₃ r₄ r₅ =
         qed W ((‵ (flft (κs .0) (qs .0)) ⊛ Tokens) ∷ ‵ (owns (typesAt (tick.signature .params) κs) a (y .0 .4)) ∷ []) ∵
         split ! $ move ! (2 ∷ []) $ fsplit ! $ fsplit3 ! $ drop ! $ move ! (0 ∷ 1 ∷ 3 ∷ []) $
         -- [obs; the borrow; the token; what the runs own; their tokens]
         enter ! C Λ code.function _ _ $ locals ! (λ l. params1 ! $
-        pass1 ! (init ! 20 refl (tt, tt)) $ takes ! 18 refl r₁ $ takes ! 16 refl r₂ $ takes ! 14 refl r₃ $ takes ! 12 refl r₄ $ pass0 ! $
-        move ! (24 ∷ 25 ∷ 26 ∷ []) $ opens-clock ! tt k (a .0 .ptr .0) (a .0 .ptr .1) (λ was.
-        -- [the clock's cell; the open borrow; obs; auth; _i at 4 + 2 · (11 − i); what the runs own at 28; their tokens]
-        reads-clock ! 24 12 k was refl refl $
-        lends-on ! 18 10 8 refl refl refl r₃ $ lends-on ! 16 6 4 refl refl refl r₄ $
-        -- the call: one item in front, so _i at 5 + 2 · (11 − i)
-        move ! (29 ∷ 28 ∷ []) $ use2 W (raw (Core 𝓤 H A mem run .pre y′)) (goes was) $
-        calls-at ! fm (Core 𝓤 H A mem run) known y′ (copies ! 13 refl (copies ! 23 refl (copies ! 21 refl (copies ! 9 refl (copies ! 5 refl (no-more !)))))) (λ u. returned ! tt core.ended (core.clauses 𝓤 H A mem run) y′ u (λ t zs.
+        pass1 ! (init ! 26 refl (tt, tt)) $ takes ! 24 refl r₁ $ takes ! 22 refl r₂ $ takes ! 20 refl r₃ $ takes ! 18 refl r₄ $ takes ! 16 refl r₅ $ pass0 ! $
+        move ! (30 ∷ 31 ∷ 32 ∷ []) $ opens-clock ! tt k (a .0 .ptr .0) (a .0 .ptr .1) (λ was.
+        -- [the clock's cell; the open borrow; obs; auth; _i at 4 + 2 · (14 − i); what the runs own at 34; their tokens]
+        reads-clock ! 30 16 k was refl refl $
+        lends-on ! 24 14 12 refl refl refl r₃ $ lends-on ! 22 10 8 refl refl refl r₄ $ lends-on ! 20 6 4 refl refl refl r₅ $
+        -- the call: one item in front, so _i at 5 + 2 · (14 − i)
+        move ! (35 ∷ 34 ∷ []) $ use2 W (raw (Core 𝓤 H A mem run .pre y′)) (goes was) $
+        calls-at ! fm (Core 𝓤 H A mem run) known y′ (copies ! 17 refl (copies ! 29 refl (copies ! 27 refl (copies ! 13 refl (copies ! 9 refl (copies ! 5 refl (no-more !))))))) (λ u. returned ! tt core.ended (core.clauses 𝓤 H A mem run) y′ u (λ t zs.
         use1 W (raw (fact 𝓤 (Said t zs))) (id⊢ 𝓤 _) $ heard ! (Said t zs) (λ e. fsplit ! $ drop ! $
         move ! (2 ∷ []) $ peeks ! result.the-row (Is result.the-row) (shows 𝓤 H A result.the-row) t (u ∷ []) (λ is. drop ! $
-        -- [the runs at exit; their tokens; the clock's cell; the open borrow; obs; auth; _i at 6 + 2 · (11 − i)]
-        lands-as ! 16 (ap only (LL.tells result.the-type result-laws.the-laws t _ is)) refl refl (LL.lawful result.the-type result-laws.the-laws 𝓤 H A W .typed t _ is .0) $ answers ! 2 26 16 28 k t is refl refl $
+        -- [the runs at exit; their tokens; the clock's cell; the open borrow; obs; auth; _i at 6 + 2 · (14 − i)]
+        lands-as ! 20 (ap only (LL.tells result.the-type result-laws.the-laws t _ is)) refl refl (LL.lawful result.the-type result-laws.the-laws 𝓤 H A W .typed t _ is .0) $ answers ! 2 32 20 34 k t is refl refl $
         move ! (2 ∷ 3 ∷ 4 ∷ 5 ∷ []) $ closes-clock ! tt (t .clock) (a .0 .ptr .0) (a .0 .ptr .1) (clock-typed t _ is) $
-        -- [obs; the borrow; its token; the runs at exit; their tokens; _i at 5 + 2 · (11 − i)]
-        returns ! (look ! 27 refl) $ leaves ! 5 _ refl $ use1 W (‵ (fres (a .0 .name) (clock.the-row .coded .code (t .clock)))) (W .names .obs-res _ _) $
+        -- [obs; the borrow; its token; the runs at exit; their tokens; _i at 5 + 2 · (14 − i)]
+        returns ! (look ! 33 refl) $ leaves ! 5 _ refl $ use1 W (‵ (fres (a .0 .name) (clock.the-row .coded .code (t .clock)))) (W .names .obs-res _ _) $
         move ! (0 ∷ 3 ∷ []) $ fjoin ! $ move ! (2 ∷ 3 ∷ []) $ join ! $ use1 W (raw (alive 𝓤 H A tick.signature κs qs)) (id⊢ 𝓤 _) $
-        ends ! tick.ended (tick.clauses 𝓤 H A mem run) y _ (answer-of t) (t .clock, zs .1) (tt, (tt, (tt, (tt, (tt, tt))))) ((LL.makes answer.the-type answer-laws.the-plain) 𝓤 H A (answer-of t) _ (answer-typed t _ is)) $
+        ends ! tick.ended (tick.clauses 𝓤 H A mem run) y _ (answer-of t) (t .clock, zs .1) (tt, (tt, (tt, (tt, (tt, (tt, tt)))))) ((LL.makes answer.the-type answer-laws.the-plain) 𝓤 H A (answer-of t) _ (answer-typed t _ is)) $
         -- [the borrow]
         drop ! $ tells ! (ap in-place e)))))))
 
@@ -133,8 +133,8 @@ tick-meets : {M : Type 1} (𝓤 : URA M) (H : Heap 𝓤) (A : Atoms 𝓤) (W : G
     → Meets 𝓤 H A tick.signature (WpFn 𝓤 H (𝓣 .C) (𝓣 .Λ) code.function) (tick.spec 𝓤 H A mem run)
 tick-meets 𝓤 H A W mem run 𝓣 known =
     by-walk 𝓤 H A W tick.ended (tick.clauses 𝓤 H A mem run) 𝓣 code.function spells
-    (λ κs. (mut-tells (named 0) (κs .0) clock.the-row, (shr-slice-tells (named 1) (κs .1 .0) u32, (shr-slice-tells (named 2) (κs .1 .1 .0) u32, (mut-slice-tells (named 3) (κs .1 .1 .1 .0) u32, (mut-slice-tells (named 4) (κs .1 .1 .1 .1 .0) u32, tt))))))
-    (λ κs qs bounds a g are. walk 𝓤 H A W mem run κs qs a (𝓣 .C) (𝓣 .Λ) (fmOf 𝓤 H (W .laws) 𝓣) known (are .1 .0 .0 .1) (are .1 .1 .0 .0 .1) (are .1 .1 .1 .0 .0 .1) (are .1 .1 .1 .1 .0 .0 .1))
+    (λ κs. (mut-tells (named 0) (κs .0) clock.the-row, (shr-slice-tells (named 1) (κs .1 .0) u32, (shr-slice-tells (named 2) (κs .1 .1 .0) u32, (mut-slice-tells (named 3) (κs .1 .1 .1 .0) u32, (mut-slice-tells (named 4) (κs .1 .1 .1 .1 .0) u32, (mut-slice-tells (named 5) (κs .1 .1 .1 .1 .1 .0) u32, tt)))))))
+    (λ κs qs bounds a g are. walk 𝓤 H A W mem run κs qs a (𝓣 .C) (𝓣 .Λ) (fmOf 𝓤 H (W .laws) 𝓣) known (are .1 .0 .0 .1) (are .1 .1 .0 .0 .1) (are .1 .1 .1 .0 .0 .1) (are .1 .1 .1 .1 .0 .0 .1) (are .1 .1 .1 .1 .1 .0 .0 .1))
 
 pub tick-direct-spec : {M : Type 1} → stated.statement M
 unfolding code.routine tablesOf
