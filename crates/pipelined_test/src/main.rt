@@ -100,15 +100,17 @@ fn case(
     rates: &[u32],
     credits: &mut [u32],
     queues: &mut [u32],
+    given: &mut [u32],
     copy: &mut [u32],
     flight: &mut [u32],
 ) {
-    let result = tick(clock, slots, rates, credits, queues, copy, flight);
+    let result = tick(clock, slots, rates, credits, queues, given, copy, flight);
     say(name);
     say_number(b", after slot ", clock.slot as u64);
     say_result(result);
     say_run(b", credits", credits);
     say_run(b", queues", queues);
+    say_run(b", given", given);
     say_run(b", copy", copy);
     say_run(b", flight", flight);
     say(b"\n");
@@ -123,12 +125,23 @@ fn cases(
     rates: &[u32],
     credits: &mut [u32],
     queues: &mut [u32],
+    given: &mut [u32],
     copy: &mut [u32],
     flight: &mut [u32],
 ) {
     for slot in clock.slot..to {
         let reached = at(clock.ports, clock.frame, slot, clock.line);
-        case(name, reached, slots, rates, credits, queues, copy, flight);
+        case(
+            name,
+            reached,
+            slots,
+            rates,
+            credits,
+            queues,
+            given,
+            copy,
+            flight,
+        );
     }
 }
 
@@ -137,6 +150,7 @@ fn time_5() {
     let none = [0u32; 9];
     let mut credits = [1u32, 0, 0, 0, 0, 0, 0, 0, 0];
     let mut queues = [2u32, 0, 0, 0, 0, 0, 0, 0, 0];
+    let mut given = [0u32; 3];
     let mut copy = [0u32; 9];
     let mut flight = [0u32; 18];
     cases(
@@ -147,6 +161,7 @@ fn time_5() {
         &none,
         &mut credits,
         &mut queues,
+        &mut given,
         &mut copy,
         &mut flight,
     );
@@ -158,6 +173,7 @@ fn frame_of_ports() {
     let rates = [0u32; 4];
     let mut credits = [0u32; 4];
     let mut queues = [3u32, 0, 0, 3];
+    let mut given = [0u32; 2];
     let mut copy = [0u32; 4];
     let mut flight = [0u32; 8];
     cases(
@@ -168,6 +184,7 @@ fn frame_of_ports() {
         &rates,
         &mut credits,
         &mut queues,
+        &mut given,
         &mut copy,
         &mut flight,
     );
@@ -180,6 +197,7 @@ fn frame_by_rates() {
     let rates = [600u32, 0, 0, 333];
     let mut credits = [0u32; 4];
     let mut queues = [3u32, 0, 0, 3];
+    let mut given = [0u32; 2];
     let mut copy = [0u32; 4];
     let mut flight = [0u32; 8];
     cases(
@@ -190,6 +208,7 @@ fn frame_by_rates() {
         &rates,
         &mut credits,
         &mut queues,
+        &mut given,
         &mut copy,
         &mut flight,
     );
@@ -201,6 +220,7 @@ fn one_port() {
     let rates = [0u32];
     let mut credits = [0u32];
     let mut queues = [3u32];
+    let mut given = [0u32];
     let mut copy = [0u32];
     let mut flight = [0u32; 2];
     cases(
@@ -211,6 +231,7 @@ fn one_port() {
         &rates,
         &mut credits,
         &mut queues,
+        &mut given,
         &mut copy,
         &mut flight,
     );
@@ -222,6 +243,7 @@ fn one_load(name: &[u8], line: u32, slots: u32, rate: u32) {
     let rates = [rate];
     let mut credits = [0u32];
     let mut queues = [1u32];
+    let mut given = [0u32];
     let mut copy = [0u32];
     let mut flight = [0u32; 2];
     case(
@@ -231,6 +253,7 @@ fn one_load(name: &[u8], line: u32, slots: u32, rate: u32) {
         &rates,
         &mut credits,
         &mut queues,
+        &mut given,
         &mut copy,
         &mut flight,
     );
@@ -250,6 +273,7 @@ fn input_1() {
     let none = [0u32; 1024];
     let mut credits = [0u32; 1024];
     let mut queues = [1u32; 1024];
+    let mut given = [0u32; 32];
     let mut copy = [0u32; 1024];
     let mut flight = [0u32; 2048];
     case(
@@ -259,6 +283,7 @@ fn input_1() {
         &none,
         &mut credits,
         &mut queues,
+        &mut given,
         &mut copy,
         &mut flight,
     );
@@ -269,6 +294,7 @@ fn all_inputs() {
     let ones = [1u32; 1024];
     let mut credits = [1u32; 1024];
     let mut queues = [1u32; 1024];
+    let mut given = [0u32; 32];
     let mut copy = [0u32; 1024];
     let mut flight = [0u32; 2048];
     case(
@@ -278,6 +304,7 @@ fn all_inputs() {
         &ones,
         &mut credits,
         &mut queues,
+        &mut given,
         &mut copy,
         &mut flight,
     );
@@ -290,6 +317,7 @@ fn moved_booking() {
     let none = [0u32; 4];
     let mut credits = [0u32; 4];
     let mut queues = [0u32; 4];
+    let mut given = [0u32; 2];
     let mut copy = [0u32; 4];
     let mut flight = [0u32; 8];
     case(
@@ -299,6 +327,7 @@ fn moved_booking() {
         &none,
         &mut credits,
         &mut queues,
+        &mut given,
         &mut copy,
         &mut flight,
     );
@@ -309,16 +338,19 @@ fn moved_booking() {
         &none,
         &mut credits,
         &mut queues,
+        &mut given,
         &mut copy,
         &mut flight,
     );
 }
 
-// Rows in flight that no tick left, at time 9 of two ports: input 1 works on rows 1 and 3, input 2 on rows 0 and 2, and row 2 is handed out.
+// Rows in flight that no tick left, and last given outputs past the ports, at time 9 of two ports: input 1 works on rows 1 and 3, input 2 on
+// rows 0 and 2, and row 2 is handed out.
 fn rows(name: &[u8], flight: &mut [u32]) {
     let none = [0u32; 4];
     let mut credits = [0u32; 4];
     let mut queues = [5u32; 4];
+    let mut given = [3u32, 4294967295];
     let mut copy = [0u32; 4];
     case(
         name,
@@ -327,12 +359,14 @@ fn rows(name: &[u8], flight: &mut [u32]) {
         &none,
         &mut credits,
         &mut queues,
+        &mut given,
         &mut copy,
         flight,
     );
 }
 
-// Two inputs that have one output are handed out both; words that are read as 0 stand for no output; a full row is left alone.
+// Two inputs that have one output are handed out both; words that are read as 0 stand for no output, and last given outputs past the ports for
+// none; a full row is left alone, and so are these where nothing is given.
 fn garbage() {
     let mut same = [0u32, 0, 0, 0, 101, 1, 2, 2];
     rows(b"one output twice", &mut same);
@@ -342,11 +376,55 @@ fn garbage() {
     rows(b"full rows", &mut full);
 }
 
+// An input with packets for both outputs chooses them in turn, the next one and after the last the first: for slots 11, 12 and 13.
+fn in_turn() {
+    let none = [0u32; 4];
+    let mut credits = [0u32; 4];
+    let mut queues = [2u32, 2, 0, 0];
+    let mut given = [0u32; 2];
+    let mut copy = [0u32; 4];
+    let mut flight = [0u32; 8];
+    cases(
+        b"in turn",
+        at(2, 50, 8, 0),
+        11,
+        &none,
+        &none,
+        &mut credits,
+        &mut queues,
+        &mut given,
+        &mut copy,
+        &mut flight,
+    );
+}
+
+// Both turns of an input in one tick: pass one begins past output 1, and pass two past what pass one chose.
+fn both_turns() {
+    let none = [0u32; 4];
+    let mut credits = [1u32, 1, 0, 0];
+    let mut queues = [1u32, 1, 0, 0];
+    let mut given = [1u32, 0];
+    let mut copy = [0u32; 4];
+    let mut flight = [0u32; 8];
+    case(
+        b"both turns",
+        at(2, 50, 8, 0),
+        &none,
+        &none,
+        &mut credits,
+        &mut queues,
+        &mut given,
+        &mut copy,
+        &mut flight,
+    );
+}
+
 // An input that has an output for its pass-one slot pays no credit there, and pays none in pass two.
 fn credit_stays() {
     let none = [0u32];
     let mut credits = [1u32];
     let mut queues = [1u32];
+    let mut given = [0u32];
     let mut copy = [0u32];
     let mut flight = [0u32, 101];
     case(
@@ -356,6 +434,7 @@ fn credit_stays() {
         &none,
         &mut credits,
         &mut queues,
+        &mut given,
         &mut copy,
         &mut flight,
     );
@@ -367,6 +446,7 @@ fn last_slot() {
     let rates = [0u32];
     let mut credits = [0u32];
     let mut queues = [2u32];
+    let mut given = [0u32];
     let mut copy = [0u32];
     let mut flight = [0u32; 2];
     cases(
@@ -377,6 +457,7 @@ fn last_slot() {
         &rates,
         &mut credits,
         &mut queues,
+        &mut given,
         &mut copy,
         &mut flight,
     );
@@ -387,6 +468,7 @@ fn one_word(name: &[u8], ports: u32, frame: u32, slot: u32) {
     let none = [0u32; 1];
     let mut credits = [0u32; 1];
     let mut queues = [0u32; 1];
+    let mut given = [0u32; 1];
     let mut copy = [0u32; 1];
     let mut flight = [0u32; 2];
     case(
@@ -396,6 +478,7 @@ fn one_word(name: &[u8], ports: u32, frame: u32, slot: u32) {
         &none,
         &mut credits,
         &mut queues,
+        &mut given,
         &mut copy,
         &mut flight,
     );
@@ -413,14 +496,16 @@ fn limits() {
     one_word(b"10000 slots in a frame", 1, 10000, 0);
 }
 
-// A switch of two ports whose frame copy and rows in flight have that many words, and whose other runs are long enough.
-fn short_run(name: &[u8], copied: usize, flown: usize)
+// A switch of two ports whose last given outputs, frame copy and rows in flight have that many words, and whose other runs are long enough.
+fn short_run(name: &[u8], last: usize, copied: usize, flown: usize)
+    requires last { ⌜ last ≤ 2 ⌝ }
     requires copied { ⌜ copied ≤ 4 ⌝ }
     requires flown { ⌜ flown ≤ 8 ⌝ }
 {
     let none = [0u32; 4];
     let mut credits = [0u32; 4];
     let mut queues = [0u32; 4];
+    let mut given = [0u32; 2];
     let mut copy = [0u32; 4];
     let mut flight = [0u32; 8];
     case(
@@ -430,6 +515,7 @@ fn short_run(name: &[u8], copied: usize, flown: usize)
         &none,
         &mut credits,
         &mut queues,
+        &mut given[..last],
         &mut copy[..copied],
         &mut flight[..flown],
     );
@@ -446,6 +532,7 @@ fn short_matrix(name: &[u8], booked: usize, rated: usize, credited: usize, queue
     let rates = [0u32; 4];
     let mut credits = [0u32; 4];
     let mut queues = [0u32; 4];
+    let mut given = [0u32; 2];
     let mut copy = [0u32; 4];
     let mut flight = [0u32; 8];
     case(
@@ -455,6 +542,7 @@ fn short_matrix(name: &[u8], booked: usize, rated: usize, credited: usize, queue
         &rates[..rated],
         &mut credits[..credited],
         &mut queues[..queued],
+        &mut given,
         &mut copy,
         &mut flight,
     );
@@ -466,9 +554,10 @@ fn short_runs() {
     short_matrix(b"rates too short", 4, 3, 4, 4);
     short_matrix(b"credits too short", 4, 4, 3, 4);
     short_matrix(b"queues too short", 4, 4, 4, 3);
-    short_run(b"copy too short", 3, 8);
-    short_run(b"rows too short", 4, 7);
-    short_run(b"long enough", 4, 8);
+    short_run(b"given too short", 1, 4, 8);
+    short_run(b"copy too short", 2, 3, 8);
+    short_run(b"rows too short", 2, 4, 7);
+    short_run(b"long enough", 2, 4, 8);
 }
 
 // One word more than is used.
@@ -477,6 +566,7 @@ fn word_beyond() {
     let rates = [0u32, 44];
     let mut credits = [0u32, 66];
     let mut queues = [2u32, 77];
+    let mut given = [0u32, 33];
     let mut copy = [0u32, 88];
     let mut flight = [0u32, 0, 99];
     case(
@@ -486,6 +576,7 @@ fn word_beyond() {
         &rates,
         &mut credits,
         &mut queues,
+        &mut given,
         &mut copy,
         &mut flight,
     );
@@ -501,6 +592,8 @@ fn main() {
     all_inputs();
     moved_booking();
     garbage();
+    in_turn();
+    both_turns();
     credit_stays();
     last_slot();
     limits();

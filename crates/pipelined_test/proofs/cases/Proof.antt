@@ -7,15 +7,19 @@ use Rattle.pipelined_test.proofs.cases.Statement.{statement}
 use Rattle.pipelined_test.proofs.cases.Tie as tie
 
 abbrev Inv-loop : tie.InvT-loop
-Inv-loop name clock to slots rates credits₀ queues₀ copy₀ flight₀ slot₀ credits queues copy flight slot =
-    (length credits ≡ length credits₀) × (length queues ≡ length queues₀) × (length copy ≡ length copy₀) × (length flight ≡ length flight₀)
+Inv-loop name clock to slots rates credits₀ queues₀ given₀ copy₀ flight₀ slot₀ credits queues given copy flight slot =
+    (length credits ≡ length credits₀)
+    × (length queues ≡ length queues₀)
+    × (length given ≡ length given₀)
+    × (length copy ≡ length copy₀)
+    × (length flight ≡ length flight₀)
 
 abbrev μ-loop : tie.MeasureT-loop
-μ-loop name clock to slots rates credits₀ queues₀ copy₀ flight₀ slot₀ credits queues copy flight slot =
+μ-loop name clock to slots rates credits₀ queues₀ given₀ copy₀ flight₀ slot₀ credits queues given copy flight slot =
     to - slot
 
 loop-holds : tie.Need-loop-holds Inv-loop μ-loop
-loop-holds c = (refl, refl, refl, refl)
+loop-holds c = (refl, refl, refl, refl, refl)
 
 at-requires : tie.Need-at-requires Inv-loop μ-loop
 at-requires c κs = search needs
@@ -31,10 +35,10 @@ loop-less c = search needs
 
 loop-again : tie.Need-loop-again Inv-loop μ-loop
 loop-again c =
-    let k = c .before .before .before .before .before .before .before .before in
-    let l = k .before .before .before .before .before .before .before .loop .inv in
+    let k = c .before .before .before .before .before .before .before .before .before .before in
+    let l = k .before .before .before .before .before .before .before .before .loop .inv in
     let kept = k .case .kept .1 .1 .1 .1 in
-    (kept .0 ∙ l .0, kept .1 .0 ∙ l .1, kept .1 .1 .0 ∙ l .2, kept .1 .1 .1 .0 ∙ l .3)
+    (kept .0 ∙ l .0, kept .1 .0 ∙ l .1, kept .1 .1 .0 ∙ l .2, kept .1 .1 .1 .0 ∙ l .3, kept .1 .1 .1 .1 .0 ∙ l .4)
 
 same-length : tie.Need-same-length Inv-loop μ-loop
 same-length c = search needs
@@ -47,6 +51,9 @@ same-length-3 c = search needs
 
 same-length-4 : tie.Need-same-length-4 Inv-loop μ-loop
 same-length-4 c = search needs
+
+same-length-5 : tie.Need-same-length-5 Inv-loop μ-loop
+same-length-5 c = search needs
 
 returns : tie.Need-returns Inv-loop μ-loop
 returns c = search needs
@@ -67,4 +74,5 @@ cases-spec =
     same-length-2
     same-length-3
     same-length-4
+    same-length-5
     returns)

@@ -38,6 +38,9 @@ slice-aggregate-case-5 c = search needs
 slice-aggregate-case-6 : tie.Need-slice-aggregate-case-6
 slice-aggregate-case-6 c = search needs
 
+slice-aggregate-case-7 : tie.Need-slice-aggregate-case-7
+slice-aggregate-case-7 c = search needs
+
 case-requires : tie.Need-case-requires
 case-requires c κs = search needs
 
@@ -59,5 +62,6 @@ short-matrix-spec =
     slice-aggregate-case-4
     slice-aggregate-case-5
     slice-aggregate-case-6
+    slice-aggregate-case-7
     case-requires
     returns)

@@ -20,17 +20,23 @@ slice-aggregate-case-3 c = search needs
 slice-aggregate-case-4 : tie.Need-slice-aggregate-case-4
 slice-aggregate-case-4 c = search needs
 
-array-borrow-prefix-copy : tie.Need-array-borrow-prefix-copy
-array-borrow-prefix-copy c = search needs
+array-borrow-prefix-given : tie.Need-array-borrow-prefix-given
+array-borrow-prefix-given c = search needs
 
 slice-aggregate-case-5 : tie.Need-slice-aggregate-case-5
 slice-aggregate-case-5 c = simp length-take (omega arith)
 
-array-borrow-prefix-flight : tie.Need-array-borrow-prefix-flight
-array-borrow-prefix-flight c = search needs
+array-borrow-prefix-copy : tie.Need-array-borrow-prefix-copy
+array-borrow-prefix-copy c = search needs
 
 slice-aggregate-case-6 : tie.Need-slice-aggregate-case-6
 slice-aggregate-case-6 c = simp length-take (omega arith)
+
+array-borrow-prefix-flight : tie.Need-array-borrow-prefix-flight
+array-borrow-prefix-flight c = search needs
+
+slice-aggregate-case-7 : tie.Need-slice-aggregate-case-7
+slice-aggregate-case-7 c = simp length-take (omega arith)
 
 case-requires : tie.Need-case-requires
 case-requires c κs = search needs
@@ -47,9 +53,11 @@ short-run-spec =
     slice-aggregate-case-2
     slice-aggregate-case-3
     slice-aggregate-case-4
-    array-borrow-prefix-copy
+    array-borrow-prefix-given
     slice-aggregate-case-5
-    array-borrow-prefix-flight
+    array-borrow-prefix-copy
     slice-aggregate-case-6
+    array-borrow-prefix-flight
+    slice-aggregate-case-7
     case-requires
     returns)
