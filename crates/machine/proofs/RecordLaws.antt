@@ -57,20 +57,20 @@ module _ (M : Program.Machine) (call : Call) (x y : ℕ) (running : M .running �
       go (no d) = ap (with-switch M) (unchanged call (M .switch) d .0) ∙ refused M (M .form) call x y d
 
 -- machines and outcomes by their book
-abbrev with-book : Machine → Bookings.Book → (credits queues copy flight : List ℕ) → Program.Machine
-with-book m a c q p f = machine-of m (a .slots) (a .rates) c q p f
+abbrev with-book : Machine → Bookings.Book → (credits queues given copy flight : List ℕ) → Program.Machine
+with-book m a c q g p f = machine-of m (a .slots) (a .rates) c q g p f
 
-abbrev outcome-of : RecordResult → Bookings.Book → (credits queues copy flight : List ℕ) → RecordOutcome
-outcome-of o a c q p f = record-outcome-of o (a .slots) (a .rates) c q p f
+abbrev outcome-of : RecordResult → Bookings.Book → (credits queues given copy flight : List ℕ) → RecordOutcome
+outcome-of o a c q g p f = record-outcome-of o (a .slots) (a .rates) c q g p f
 
-module _ (m : Machine) (a : Bookings.Book) (c q p f : List ℕ) where
+module _ (m : Machine) (a : Bookings.Book) (c q g p f : List ℕ) where
   abbrev M : Program.Machine
-  M = with-book m a c q p f
+  M = with-book m a c q g p f
 
   -- A START, by what it gives back
-  abbrev after-start : Bool → ℕ → ℕ → StartResult → Bookings.Book → (credits queues copy flight : List ℕ) → RecordOutcome
-  after-start form x y s a c q p f =
-      record { machine = with-book (started-machine m form s) a c q p f; slots = 0; refusal = machine-refusal m x y (s .refusal) }
+  abbrev after-start : Bool → ℕ → ℕ → StartResult → Bookings.Book → (credits queues given copy flight : List ℕ) → RecordOutcome
+  after-start form x y s a c q g p f =
+      record { machine = with-book (started-machine m form s) a c q g p f; slots = 0; refusal = machine-refusal m x y (s .refusal) }
 
   module _ (call : Call) (form : Bool) (x y : ℕ) where
     abbrev o : Outcome
@@ -78,7 +78,7 @@ module _ (m : Machine) (a : Bookings.Book) (c q p f : List ℕ) where
 
     -- the switch that a machine of either form has afterwards
     abbrev with-runs : Machine → Program.Machine
-    with-runs k = with-book k (o .after .book) (o .after .credits) (o .after .queues) (o .after .copy) (o .after .flight)
+    with-runs k = with-book k (o .after .book) (o .after .credits) (o .after .queues) (o .after .given) (o .after .copy) (o .after .flight)
 
     abbrev given-back : StartResult
     given-back = record { refusal = o .refusal; clock = o .after .clock }
@@ -90,38 +90,38 @@ module _ (m : Machine) (a : Bookings.Book) (c q p f : List ℕ) where
         go (yes e) = rw (eq-eqb (o .refusal) 0 e) (accepted M (form-of form) call x y e)
         go (no d) =
             rw (ne-eqb (o .refusal) 0 d)
-            (ap (λ (s : Switch). with-book m (s .book) (s .credits) (s .queues) (s .copy) (s .flight)) (unchanged call (M .switch) d .0)
+            (ap (λ (s : Switch). with-book m (s .book) (s .credits) (s .queues) (s .given) (s .copy) (s .flight)) (unchanged call (M .switch) d .0)
             ∙ refused M (form-of form) call x y d)
 
   module _ (x y z : ℕ) (s : StartResult) (after : Machine) (refusal : Refusal) (er : refusal ≡ machine-refusal m x y (s .refusal)) where
     -- what the code leaves
-    abbrev left : Bookings.Book → (credits queues copy flight : List ℕ) → RecordOutcome
-    left a c q p f = outcome-of (record { machine = after; «slots_left» = 0; refusal = refusal }) a c q p f
+    abbrev left : Bookings.Book → (credits queues given copy flight : List ℕ) → RecordOutcome
+    left a c q g p f = outcome-of (record { machine = after; «slots_left» = 0; refusal = refusal }) a c q g p f
 
-    pub start-obeyed : (a′ : Bookings.Book) (c′ q′ : List ℕ) → after ≡ started-machine m false s
-        → effect s (direct-runs-of (a′ .slots) (a′ .rates) c′ q′) ≡ start-effect (Direct.start x y 0 (m .clock) (direct-runs (M .switch)))
-        → left a′ c′ q′ p f ≡ obey M (Request Start x y z)
+    pub start-obeyed : (a′ : Bookings.Book) (c′ q′ g′ : List ℕ) → after ≡ started-machine m false s
+        → effect s (direct-runs-of (a′ .slots) (a′ .rates) c′ q′ g′) ≡ start-effect (Direct.start x y 0 (m .clock) (direct-runs (M .switch)))
+        → left a′ c′ q′ g′ p f ≡ obey M (Request Start x y z)
     unfolding apply obey
-    start-obeyed a′ c′ q′ ea e =
-        ap₂ (λ (k : Machine) (n : Refusal). outcome-of (record { machine = k; «slots_left» = 0; refusal = n }) a′ c′ q′ p f) ea er
-        ∙ ap (λ (e : Effect StartResult Direct.Runs). after-start false x y (e .answer) (e .words .book) (e .words .credits) (e .words .queues) p f) e
+    start-obeyed a′ c′ q′ g′ ea e =
+        ap₂ (λ (k : Machine) (n : Refusal). outcome-of (record { machine = k; «slots_left» = 0; refusal = n }) a′ c′ q′ g′ p f) ea er
+        ∙ ap (λ (e : Effect StartResult Direct.Runs). after-start false x y (e .answer) (e .words .book) (e .words .credits) (e .words .queues) (e .words .given) p f) e
         ∙ call-is M direct (start direct x y 0) x y (started (start direct x y 0) false x y)
 
-    pub pipe-obeyed : (a′ : Bookings.Book) (c′ q′ p′ f′ : List ℕ) → after ≡ started-machine m true s
-        → effect s (pipelined-runs-of (a′ .slots) (a′ .rates) c′ q′ p′ f′) ≡ start-effect (Pipelined.start x y 0 (m .clock) (pipelined-runs (M .switch)))
-        → left a′ c′ q′ p′ f′ ≡ obey M (Request Pipe x y z)
+    pub pipe-obeyed : (a′ : Bookings.Book) (c′ q′ g′ p′ f′ : List ℕ) → after ≡ started-machine m true s
+        → effect s (pipelined-runs-of (a′ .slots) (a′ .rates) c′ q′ g′ p′ f′) ≡ start-effect (Pipelined.start x y 0 (m .clock) (pipelined-runs (M .switch)))
+        → left a′ c′ q′ g′ p′ f′ ≡ obey M (Request Pipe x y z)
     unfolding apply obey
-    pipe-obeyed a′ c′ q′ p′ f′ ea e =
-        ap₂ (λ (k : Machine) (n : Refusal). outcome-of (record { machine = k; «slots_left» = 0; refusal = n }) a′ c′ q′ p′ f′) ea er
+    pipe-obeyed a′ c′ q′ g′ p′ f′ ea e =
+        ap₂ (λ (k : Machine) (n : Refusal). outcome-of (record { machine = k; «slots_left» = 0; refusal = n }) a′ c′ q′ g′ p′ f′) ea er
         ∙ ap (λ (e : Effect StartResult Pipelined.Runs).
-        after-start true x y (e .answer) (e .words .book) (e .words .credits) (e .words .queues) (e .words .copy) (e .words .flight)) e
+        after-start true x y (e .answer) (e .words .book) (e .words .credits) (e .words .queues) (e .words .given) (e .words .copy) (e .words .flight)) e
         ∙ call-is M pipelined (start pipelined x y 0) x y (started (start pipelined x y 0) true x y)
 
   -- A CALL on the book or on the queues, by what it gives back
   module _ (x y z : ℕ) (running : m .running ≡ true) (number : ℕ) (refusal : Refusal) (er : refusal ≡ machine-refusal m x y number) where
     -- what the code leaves, and with the number in it
     abbrev kept : Refusal → Bookings.Book → (queues : List ℕ) → RecordOutcome
-    kept refusal a q = outcome-of (record { machine = m; «slots_left» = 0; refusal = refusal }) a c q p f
+    kept refusal a q = outcome-of (record { machine = m; «slots_left» = 0; refusal = refusal }) a c q g p f
 
     pub book-obeyed : (a′ : Bookings.Book) → effect number a′ ≡ book-effect (m .clock) a x y z → kept refusal a′ q ≡ obey M (Request Book x y z)
     unfolding apply obey
@@ -150,24 +150,24 @@ module _ (m : Machine) (a : Bookings.Book) (c q p f : List ℕ) where
   -- A TICK RECORD that asks for slots in range, and out of range
   module _ (x y z : ℕ) (running : m .running ≡ true) (is : Bool) (ei : is ≡ between 1 10000 z) (refusal : Refusal) where
     pub ticks-obeyed : is ≡ true → refusal ≡ machine-refusal m x y 0
-        → outcome-of (record { machine = m; «slots_left» = z; refusal = refusal }) a c q p f ≡ obey M (Request Tick x y z)
+        → outcome-of (record { machine = m; «slots_left» = z; refusal = refusal }) a c q g p f ≡ obey M (Request Tick x y z)
     unfolding obey
     ticks-obeyed t er = rw (er, running, ← ei, t)
 
     pub range-obeyed : is ≡ false → refusal ≡ machine-refusal m x y 6
-        → outcome-of (record { machine = m; «slots_left» = 0; refusal = refusal }) a c q p f ≡ obey M (Request Tick x y z)
+        → outcome-of (record { machine = m; «slots_left» = 0; refusal = refusal }) a c q g p f ≡ obey M (Request Tick x y z)
     unfolding obey
     range-obeyed t er = rw (er, running, ← ei, t)
 
   -- A RECORD that cannot be read, and one that a machine which does not run cannot obey
   module _ {r : RecordResult} {number : ℕ} (er : r ≡ unread-result m number) where
-    pub unread-obeyed : outcome-of r a c q p f ≡ obey M (Refused number)
+    pub unread-obeyed : outcome-of r a c q g p f ≡ obey M (Refused number)
     unfolding obey
-    unread-obeyed = ap (λ (r : RecordResult). outcome-of r a c q p f) er
+    unread-obeyed = ap (λ (r : RecordResult). outcome-of r a c q g p f) er
 
   module _ (r : RecordResult) (er : r ≡ unread-result m 12) (idle : m .running ≡ false) (x y z : ℕ) where
     abbrev Idle : Operation → Type 0
-    Idle operation = outcome-of r a c q p f ≡ obey M (Request operation x y z)
+    Idle operation = outcome-of r a c q g p f ≡ obey M (Request operation x y z)
 
     pub idle-book : Idle Book
     unfolding obey

@@ -32,20 +32,20 @@ slot-is : (M : Program.Machine) {o : Outcome} → o ≡ apply (tick (M .form)) (
 unfolding run-slot
 slot-is M e = ap (slot-from M) e
 
-module _ (m : Machine) (a : Book) (c q p f : List ℕ) (r : SlotResult) (t : TickResult) (er : r ≡ tick-slot-result m t) where
+module _ (m : Machine) (a : Book) (c q g p f : List ℕ) (r : SlotResult) (t : TickResult) (er : r ≡ tick-slot-result m t) where
   abbrev M : Program.Machine
-  M = machine-of m (a .slots) (a .rates) c q p f
+  M = machine-of m (a .slots) (a .rates) c q g p f
 
-  pub direct-slot-is : {c′ q′ : List ℕ} → m .pipelined ≡ false
-      → effect t (direct-runs-of (a .slots) (a .rates) c′ q′) ≡ tick-effect (Direct.tick (m .clock) (direct-runs (M .switch)))
-      → slot-outcome-of r (a .slots) (a .rates) c′ q′ p f ≡ run-slot M
-  direct-slot-is {c′} {q′} form e =
-      ap (λ (r : SlotResult). slot-outcome-of r (a .slots) (a .rates) c′ q′ p f) er
+  pub direct-slot-is : {c′ q′ g′ : List ℕ} → m .pipelined ≡ false
+      → effect t (direct-runs-of (a .slots) (a .rates) c′ q′ g′) ≡ tick-effect (Direct.tick (m .clock) (direct-runs (M .switch)))
+      → slot-outcome-of r (a .slots) (a .rates) c′ q′ g′ p f ≡ run-slot M
+  direct-slot-is {c′} {q′} {g′} form e =
+      ap (λ (r : SlotResult). slot-outcome-of r (a .slots) (a .rates) c′ q′ g′ p f) er
       ∙ slot-is M (Calls.tick-direct (M .switch) _ e ∙ ap (λ b. apply (tick (form-of b)) (M .switch)) (sym form))
 
-  pub pipelined-slot-is : {c′ q′ p′ f′ : List ℕ} → m .pipelined ≡ true
-      → effect t (pipelined-runs-of (a .slots) (a .rates) c′ q′ p′ f′) ≡ tick-effect (Pipelined.tick (m .clock) (pipelined-runs (M .switch)))
-      → slot-outcome-of r (a .slots) (a .rates) c′ q′ p′ f′ ≡ run-slot M
-  pipelined-slot-is {c′} {q′} {p′} {f′} form e =
-      ap (λ (r : SlotResult). slot-outcome-of r (a .slots) (a .rates) c′ q′ p′ f′) er
+  pub pipelined-slot-is : {c′ q′ g′ p′ f′ : List ℕ} → m .pipelined ≡ true
+      → effect t (pipelined-runs-of (a .slots) (a .rates) c′ q′ g′ p′ f′) ≡ tick-effect (Pipelined.tick (m .clock) (pipelined-runs (M .switch)))
+      → slot-outcome-of r (a .slots) (a .rates) c′ q′ g′ p′ f′ ≡ run-slot M
+  pipelined-slot-is {c′} {q′} {g′} {p′} {f′} form e =
+      ap (λ (r : SlotResult). slot-outcome-of r (a .slots) (a .rates) c′ q′ g′ p′ f′) er
       ∙ slot-is M (Calls.tick-pipelined (M .switch) _ e ∙ ap (λ b. apply (tick (form-of b)) (M .switch)) (sym form))

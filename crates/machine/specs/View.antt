@@ -23,22 +23,22 @@ form-of true = pipelined
 form-of false = direct
 
 -- a machine with its runs
-abbrev pub machine-of : Machine → (slots rates credits queues copy flight : List ℕ) → Program.Machine
-machine-of m s r c q p f =
+abbrev pub machine-of : Machine → (slots rates credits queues given copy flight : List ℕ) → Program.Machine
+machine-of m s r c q g p f =
     record {
       running = m .running;
       form = form-of (m .pipelined);
-      switch = record { clock = m .clock; book = book-of s r; credits = c; queues = q; copy = p; flight = f };
+      switch = record { clock = m .clock; book = book-of s r; credits = c; queues = q; given = g; copy = p; flight = f };
     }
 
 -- what a record leaves, and what a slot leaves, with the runs
-abbrev pub record-outcome-of : RecordResult → (slots rates credits queues copy flight : List ℕ) → RecordOutcome
-record-outcome-of o s r c q p f = record { machine = machine-of (o .machine) s r c q p f; slots = o .«slots_left»; refusal = o .refusal }
+abbrev pub record-outcome-of : RecordResult → (slots rates credits queues given copy flight : List ℕ) → RecordOutcome
+record-outcome-of o s r c q g p f = record { machine = machine-of (o .machine) s r c q g p f; slots = o .«slots_left»; refusal = o .refusal }
 
-abbrev pub slot-outcome-of : SlotResult → (slots rates credits queues copy flight : List ℕ) → SlotOutcome
-slot-outcome-of o s r c q p f =
+abbrev pub slot-outcome-of : SlotResult → (slots rates credits queues given copy flight : List ℕ) → SlotOutcome
+slot-outcome-of o s r c q g p f =
     record {
-      machine = machine-of (o .machine) s r c q p f;
+      machine = machine-of (o .machine) s r c q g p f;
       slot = o .slot;
       matching = matching-of (o .outputs) (o .«first_pass»);
       refusal = o .refusal;
@@ -46,7 +46,7 @@ slot-outcome-of o s r c q p f =
 
 -- a refusal looks at no run
 abbrev pub machine-refusal : Machine → ℕ → ℕ → ℕ → Refusal
-machine-refusal m x y number = refusal-of (machine-of m [] [] [] [] [] []) x y number
+machine-refusal m x y number = refusal-of (machine-of m [] [] [] [] [] [] []) x y number
 
 -- what a record that cannot be read leaves
 abbrev pub unread-result : Machine → ℕ → RecordResult

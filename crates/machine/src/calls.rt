@@ -47,10 +47,12 @@ fn obey_start(
     rates: &mut [u32],
     credits: &mut [u32],
     queues: &mut [u32],
+    given: &mut [u32],
 ) -> RecordResult
     ensures outcome { λ r. ⌜ ((z : ℕ) (p f : List ℕ)
-        → record-outcome-of r (now (slots .exit)) (now (rates .exit)) (now (credits .exit)) (now (queues .exit)) p f
-        ≡ obey (machine-of machine (now (slots .entry)) (now (rates .entry)) (now (credits .entry)) (now (queues .entry)) p f)
+        → record-outcome-of r (now (slots .exit)) (now (rates .exit)) (now (credits .exit)) (now (queues .exit)) (now (given .exit)) p f
+        ≡ obey (machine-of machine
+        (now (slots .entry)) (now (rates .entry)) (now (credits .entry)) (now (queues .entry)) (now (given .entry)) p f)
         (Request Start ports frame z)) ⌝ }
 {
     let clock = machine.clock;
@@ -63,6 +65,7 @@ fn obey_start(
         rates,
         credits,
         queues,
+        given,
     );
     RecordResult {
         machine: after_start(machine, false, started),
@@ -80,13 +83,16 @@ fn obey_pipe(
     rates: &mut [u32],
     credits: &mut [u32],
     queues: &mut [u32],
+    given: &mut [u32],
     copy: &mut [u32],
     flight: &mut [u32],
 ) -> RecordResult
     ensures outcome { λ r. ⌜ ((z : ℕ) → record-outcome-of r
-        (now (slots .exit)) (now (rates .exit)) (now (credits .exit)) (now (queues .exit)) (now (copy .exit)) (now (flight .exit))
+        (now (slots .exit)) (now (rates .exit)) (now (credits .exit)) (now (queues .exit))
+        (now (given .exit)) (now (copy .exit)) (now (flight .exit))
         ≡ obey (machine-of machine
-        (now (slots .entry)) (now (rates .entry)) (now (credits .entry)) (now (queues .entry)) (now (copy .entry)) (now (flight .entry)))
+        (now (slots .entry)) (now (rates .entry)) (now (credits .entry)) (now (queues .entry))
+        (now (given .entry)) (now (copy .entry)) (now (flight .entry)))
         (Request Pipe ports frame z)) ⌝ }
 {
     let clock = machine.clock;
@@ -99,6 +105,7 @@ fn obey_pipe(
         rates,
         credits,
         queues,
+        given,
         copy,
         flight,
     );
@@ -118,9 +125,9 @@ fn obey_book(
     slots: &mut [u32],
     rates: &[u32],
 ) -> RecordResult
-    ensures outcome { λ r. ⌜ ((c q p f : List ℕ)
-        → record-outcome-of r (now (slots .exit)) (now (rates .entry)) c q p f
-        ≡ obey (machine-of machine (now (slots .entry)) (now (rates .entry)) c q p f) (Request Book input output amount)) ⌝ }
+    ensures outcome { λ r. ⌜ ((c q g p f : List ℕ)
+        → record-outcome-of r (now (slots .exit)) (now (rates .entry)) c q g p f
+        ≡ obey (machine-of machine (now (slots .entry)) (now (rates .entry)) c q g p f) (Request Book input output amount)) ⌝ }
 {
     if !machine.running {
         return unread(machine, 12);
@@ -144,9 +151,9 @@ fn obey_release(
     slots: &mut [u32],
     rates: &[u32],
 ) -> RecordResult
-    ensures outcome { λ r. ⌜ ((c q p f : List ℕ)
-        → record-outcome-of r (now (slots .exit)) (now (rates .entry)) c q p f
-        ≡ obey (machine-of machine (now (slots .entry)) (now (rates .entry)) c q p f) (Request Release input output amount)) ⌝ }
+    ensures outcome { λ r. ⌜ ((c q g p f : List ℕ)
+        → record-outcome-of r (now (slots .exit)) (now (rates .entry)) c q g p f
+        ≡ obey (machine-of machine (now (slots .entry)) (now (rates .entry)) c q g p f) (Request Release input output amount)) ⌝ }
 {
     if !machine.running {
         return unread(machine, 12);
@@ -169,8 +176,8 @@ fn obey_arrive(
     packets: u64,
     queues: &mut [u32],
 ) -> RecordResult
-    ensures outcome { λ r. ⌜ ((s t c p f : List ℕ) → record-outcome-of r s t c (now (queues .exit)) p f
-        ≡ obey (machine-of machine s t c (now (queues .entry)) p f) (Request Arrive input output packets)) ⌝ }
+    ensures outcome { λ r. ⌜ ((s t c g p f : List ℕ) → record-outcome-of r s t c (now (queues .exit)) g p f
+        ≡ obey (machine-of machine s t c (now (queues .entry)) g p f) (Request Arrive input output packets)) ⌝ }
 {
     if !machine.running {
         return unread(machine, 12);
@@ -186,8 +193,8 @@ fn obey_arrive(
 
 // Asks for slots, which are left to run.
 fn obey_tick(machine: Machine, input: u64, output: u64, amount: u64) -> RecordResult
-    ensures outcome { λ r. ⌜ ((s t c q p f : List ℕ) → record-outcome-of r s t c q p f
-        ≡ obey (machine-of machine s t c q p f) (Request Tick input output amount)) ⌝ }
+    ensures outcome { λ r. ⌜ ((s t c q g p f : List ℕ) → record-outcome-of r s t c q g p f
+        ≡ obey (machine-of machine s t c q g p f) (Request Tick input output amount)) ⌝ }
 {
     if !machine.running {
         return unread(machine, 12);
@@ -217,17 +224,29 @@ pub fn obey_request(
     rates: &mut [u32],
     credits: &mut [u32],
     queues: &mut [u32],
+    given: &mut [u32],
     copy: &mut [u32],
     flight: &mut [u32],
 ) -> RecordResult
     ensures outcome { λ r. ⌜ record-outcome-of r
-        (now (slots .exit)) (now (rates .exit)) (now (credits .exit)) (now (queues .exit)) (now (copy .exit)) (now (flight .exit))
+        (now (slots .exit)) (now (rates .exit)) (now (credits .exit)) (now (queues .exit))
+        (now (given .exit)) (now (copy .exit)) (now (flight .exit))
         ≡ obey (machine-of machine
-        (now (slots .entry)) (now (rates .entry)) (now (credits .entry)) (now (queues .entry)) (now (copy .entry)) (now (flight .entry)))
+        (now (slots .entry)) (now (rates .entry)) (now (credits .entry)) (now (queues .entry))
+        (now (given .entry)) (now (copy .entry)) (now (flight .entry)))
         (Request operation input output amount) ⌝ }
 {
     match operation {
-        Operation::Start => obey_start(machine, input, output, slots, rates, credits, queues),
+        Operation::Start => obey_start(
+            machine,
+            input,
+            output,
+            slots,
+            rates,
+            credits,
+            queues,
+            given,
+        ),
         Operation::Pipe => obey_pipe(
             machine,
             input,
@@ -236,6 +255,7 @@ pub fn obey_request(
             rates,
             credits,
             queues,
+            given,
             copy,
             flight,
         ),

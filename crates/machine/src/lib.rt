@@ -14,8 +14,11 @@ ghost use mathlib.Core.Path.{_≡_};
 ghost use Rattle.wsgs.specs.Program.{obey, run-slot};
 ghost use Rattle.machine.specs.View.{machine-of, record-outcome-of, slot-outcome-of};
 
-// The words of a run that holds a word for each pair of 32 ports, and of one that holds the rows in flight.
+// The words of a run that holds a word for each pair of 32 ports, of one that holds a word for each input, and of one that holds the rows in
+// flight.
 pub const PAIR_WORDS: usize = 1_024;
+
+pub const PORT_WORDS: usize = 32;
 
 pub const FLIGHT_WORDS: usize = 2_048;
 
@@ -50,13 +53,16 @@ pub fn obey(
     rates: &mut [u32],
     credits: &mut [u32],
     queues: &mut [u32],
+    given: &mut [u32],
     copy: &mut [u32],
     flight: &mut [u32],
 ) -> RecordResult
     ensures outcome { λ r. ⌜ record-outcome-of r
-        (now (slots .exit)) (now (rates .exit)) (now (credits .exit)) (now (queues .exit)) (now (copy .exit)) (now (flight .exit))
+        (now (slots .exit)) (now (rates .exit)) (now (credits .exit)) (now (queues .exit))
+        (now (given .exit)) (now (copy .exit)) (now (flight .exit))
         ≡ obey (machine-of machine
-        (now (slots .entry)) (now (rates .entry)) (now (credits .entry)) (now (queues .entry)) (now (copy .entry)) (now (flight .entry)))
+        (now (slots .entry)) (now (rates .entry)) (now (credits .entry)) (now (queues .entry))
+        (now (given .entry)) (now (copy .entry)) (now (flight .entry)))
         reading ⌝ }
 {
     match reading {
@@ -70,6 +76,7 @@ pub fn obey(
             rates,
             credits,
             queues,
+            given,
             copy,
             flight,
         ),
@@ -84,17 +91,19 @@ pub fn run_slot(
     rates: &[u32],
     credits: &mut [u32],
     queues: &mut [u32],
+    given: &mut [u32],
     copy: &mut [u32],
     flight: &mut [u32],
 ) -> SlotResult
     ensures outcome { λ r. ⌜ slot-outcome-of r
-        (now (slots .entry)) (now (rates .entry)) (now (credits .exit)) (now (queues .exit)) (now (copy .exit)) (now (flight .exit))
+        (now (slots .entry)) (now (rates .entry)) (now (credits .exit)) (now (queues .exit))
+        (now (given .exit)) (now (copy .exit)) (now (flight .exit))
         ≡ run-slot (machine-of machine
         (now (slots .entry)) (now (rates .entry)) (now (credits .entry)) (now (queues .entry))
-        (now (copy .entry)) (now (flight .entry))) ⌝ }
+        (now (given .entry)) (now (copy .entry)) (now (flight .entry))) ⌝ }
 {
     if machine.pipelined {
-        return pipelined_slot(machine, slots, rates, credits, queues, copy, flight);
+        return pipelined_slot(machine, slots, rates, credits, queues, given, copy, flight);
     }
-    direct_slot(machine, slots, rates, credits, queues)
+    direct_slot(machine, slots, rates, credits, queues, given)
 }

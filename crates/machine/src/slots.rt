@@ -52,14 +52,16 @@ pub fn direct_slot(
     rates: &[u32],
     credits: &mut [u32],
     queues: &mut [u32],
+    given: &mut [u32],
 ) -> SlotResult
     requires form { ⌜ machine .pipelined ≡ false ⌝ }
     ensures outcome { λ r. ⌜ ((p f : List ℕ)
-        → slot-outcome-of r (now (slots .entry)) (now (rates .entry)) (now (credits .exit)) (now (queues .exit)) p f
-        ≡ run-slot (machine-of machine (now (slots .entry)) (now (rates .entry)) (now (credits .entry)) (now (queues .entry)) p f)) ⌝ }
+        → slot-outcome-of r (now (slots .entry)) (now (rates .entry)) (now (credits .exit)) (now (queues .exit)) (now (given .exit)) p f
+        ≡ run-slot (machine-of machine
+        (now (slots .entry)) (now (rates .entry)) (now (credits .entry)) (now (queues .entry)) (now (given .entry)) p f)) ⌝ }
 {
     let clock = machine.clock;
-    let tick = clock::step_direct(clock, slots, rates, credits, queues);
+    let tick = clock::step_direct(clock, slots, rates, credits, queues, given);
     slot_result(machine, tick)
 }
 
@@ -70,17 +72,19 @@ pub fn pipelined_slot(
     rates: &[u32],
     credits: &mut [u32],
     queues: &mut [u32],
+    given: &mut [u32],
     copy: &mut [u32],
     flight: &mut [u32],
 ) -> SlotResult
     requires form { ⌜ machine .pipelined ≡ true ⌝ }
     ensures outcome { λ r. ⌜ slot-outcome-of r
-        (now (slots .entry)) (now (rates .entry)) (now (credits .exit)) (now (queues .exit)) (now (copy .exit)) (now (flight .exit))
+        (now (slots .entry)) (now (rates .entry)) (now (credits .exit)) (now (queues .exit))
+        (now (given .exit)) (now (copy .exit)) (now (flight .exit))
         ≡ run-slot (machine-of machine
         (now (slots .entry)) (now (rates .entry)) (now (credits .entry)) (now (queues .entry))
-        (now (copy .entry)) (now (flight .entry))) ⌝ }
+        (now (given .entry)) (now (copy .entry)) (now (flight .entry))) ⌝ }
 {
     let clock = machine.clock;
-    let tick = clock::step_pipelined(clock, slots, rates, credits, queues, copy, flight);
+    let tick = clock::step_pipelined(clock, slots, rates, credits, queues, given, copy, flight);
     slot_result(machine, tick)
 }

@@ -34,11 +34,14 @@ same-length-5 c = search needs
 same-length-6 : tie.Need-same-length-6
 same-length-6 c = search needs
 
+same-length-7 : tie.Need-same-length-7
+same-length-7 c = search needs
+
 returns : tie.Need-returns
-returns c = let call = c .before .before .before .before .before .before .before .before .before .before .before .before in rw (call .before .before .before .before .before .before .before .before .reading .given .1) (call .obey-request .ensures)
+returns c = let call = c .before .before .before .before .before .before .before .before .before .before .before .before .before .before in rw (call .before .before .before .before .before .before .before .before .before .reading .given .1) (call .obey-request .ensures)
 
 returns-2 : tie.Need-returns-2
-returns-2 c = rw (c .before .before .reading2 .given .1) (unread-obeyed _ _ _ _ _ _ (c .unread .ensures))
+returns-2 c = rw (c .before .before .reading2 .given .1) (unread-obeyed _ _ _ _ _ _ _ (c .unread .ensures))
 
 pub obey-spec : {M : Type 1} → statement M
 obey-spec =
@@ -54,5 +57,6 @@ obey-spec =
     same-length-4
     same-length-5
     same-length-6
+    same-length-7
     returns
     returns-2)

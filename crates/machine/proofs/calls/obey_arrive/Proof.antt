@@ -12,7 +12,7 @@ unread-requires c κs = search needs
 returns : tie.Need-returns
 returns c =
     let a = c .before .before .before .before .args in
-    λ s t k p f. idle-arrive (a .machine) (book-of s t) k (a .queues .now) p f _ (c .unread .ensures) (not-true (a .machine .running) (c .before .if1 .taken)) _ _ _
+    λ s t k g p f. idle-arrive (a .machine) (book-of s t) k (a .queues .now) g p f _ (c .unread .ensures) (not-true (a .machine .running) (c .before .if1 .taken)) _ _ _
 
 arrive-requires : tie.Need-arrive-requires
 arrive-requires c κs = search needs
@@ -28,8 +28,8 @@ returns-2 c =
     let call = c .before .before .before in
     let way = call .before .before .before in
     let a = way .before .before .before .args in
-    λ s t k p f.
-    arrive-obeyed (a .machine) (book-of s t) k (a .queues .now) p f _ _ _ (not-false (a .machine .running) (way .if1 .left)) _ _ (c .refusal .ensures) _ (call .arrive .ensures)
+    λ s t k g p f.
+    arrive-obeyed (a .machine) (book-of s t) k (a .queues .now) g p f _ _ _ (not-false (a .machine .running) (way .if1 .left)) _ _ (c .refusal .ensures) _ (call .arrive .ensures)
 
 pub obey-arrive-spec : {M : Type 1} → statement M
 obey-arrive-spec =

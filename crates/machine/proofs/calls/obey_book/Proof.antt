@@ -12,7 +12,7 @@ unread-requires c κs = search needs
 returns : tie.Need-returns
 returns c =
     let a = c .before .before .before .before .before .args in
-    λ k q p f. idle-book (a .machine) (book-of (a .slots .now) (a .rates .now)) k q p f _ (c .unread .ensures) (not-true (a .machine .running) (c .before .if1 .taken)) _ _ _
+    λ k q g p f. idle-book (a .machine) (book-of (a .slots .now) (a .rates .now)) k q g p f _ (c .unread .ensures) (not-true (a .machine .running) (c .before .if1 .taken)) _ _ _
 
 book-requires : tie.Need-book-requires
 book-requires c κs = search needs
@@ -28,8 +28,8 @@ returns-2 c =
     let call = c .before .before .before in
     let way = call .before .before .before in
     let a = way .before .before .before .before .args in
-    λ k q p f.
-    book-obeyed (a .machine) (book-of (a .slots .now) (a .rates .now)) k q p f _ _ _ (not-false (a .machine .running) (way .if1 .left)) _ _ (c .refusal .ensures) _ (call .book .ensures)
+    λ k q g p f.
+    book-obeyed (a .machine) (book-of (a .slots .now) (a .rates .now)) k q g p f _ _ _ (not-false (a .machine .running) (way .if1 .left)) _ _ (c .refusal .ensures) _ (call .book .ensures)
 
 pub obey-book-spec : {M : Type 1} → statement M
 obey-book-spec =

@@ -32,12 +32,15 @@ same-length-5 c = search needs
 same-length-6 : tie.Need-same-length-6
 same-length-6 c = search needs
 
+same-length-7 : tie.Need-same-length-7
+same-length-7 c = search needs
+
 returns : tie.Need-returns
 returns c =
-    let call = c .before .before .before .before .before .before .before .before .before .before .before .before .before .before in
-    let a = call .before .before .before .before .before .before .before .before .before .before .before .before .before .before .args in
+    let call = c .before .before .before .before .before .before .before .before .before .before .before .before .before .before .before .before in
+    let a = call .before .before .before .before .before .before .before .before .before .before .before .before .before .before .before .before .args in
     λ z.
-    pipe-obeyed (a .machine) (book-of (a .slots .now) (a .rates .now)) (a .credits .now) (a .queues .now) (a .copy .now) (a .flight .now) _ _ z (call .start-pipelined .result) _ _ (c .refusal .ensures) _ _ _ _ _
+    pipe-obeyed (a .machine) (book-of (a .slots .now) (a .rates .now)) (a .credits .now) (a .queues .now) (a .given .now) (a .copy .now) (a .flight .now) _ _ z (call .start-pipelined .result) _ _ (c .refusal .ensures) _ _ _ _ _ _
     (c .before .after-start .ensures) (call .start-pipelined .ensures)
 
 pub obey-pipe-spec : {M : Type 1} → statement M
@@ -53,4 +56,5 @@ obey-pipe-spec =
     same-length-4
     same-length-5
     same-length-6
+    same-length-7
     returns)

@@ -26,12 +26,15 @@ same-length-3 c = search needs
 same-length-4 : tie.Need-same-length-4
 same-length-4 c = search needs
 
+same-length-5 : tie.Need-same-length-5
+same-length-5 c = search needs
+
 returns : tie.Need-returns
 returns c =
-    let call = c .before .before .before .before .before .before .before .before .before .before in
-    let a = call .before .before .before .before .before .before .before .before .before .before .args in
+    let call = c .before .before .before .before .before .before .before .before .before .before .before .before in
+    let a = call .before .before .before .before .before .before .before .before .before .before .before .before .args in
     λ z p f.
-    start-obeyed (a .machine) (book-of (a .slots .now) (a .rates .now)) (a .credits .now) (a .queues .now) p f _ _ z (call .start-direct .result) _ _ (c .refusal .ensures) _ _ _ (c .before .after-start .ensures)
+    start-obeyed (a .machine) (book-of (a .slots .now) (a .rates .now)) (a .credits .now) (a .queues .now) (a .given .now) p f _ _ z (call .start-direct .result) _ _ (c .refusal .ensures) _ _ _ _ (c .before .after-start .ensures)
     (call .start-direct .ensures)
 
 pub obey-start-spec : {M : Type 1} → statement M
@@ -45,4 +48,5 @@ obey-start-spec =
     same-length-2
     same-length-3
     same-length-4
+    same-length-5
     returns)

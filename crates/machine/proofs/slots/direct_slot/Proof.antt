@@ -17,15 +17,18 @@ same-length c = search needs
 same-length-2 : tie.Need-same-length-2
 same-length-2 c = search needs
 
+same-length-3 : tie.Need-same-length-3
+same-length-3 c = search needs
+
 returns : tie.Need-returns
 returns c =
-    let call = c .before .before .before .before .before in
-    let start = call .before .before .before .before .before .before .before .before in
+    let call = c .before .before .before .before .before .before .before in
+    let start = call .before .before .before .before .before .before .before .before .before .before in
     let a = start .args in
     λ p f.
-    direct-slot-is (a .machine) (book-of (a .slots .now) (a .rates .now)) (a .credits .now) (a .queues .now) p f _ _ (c .slot-result .ensures) (start .pre) (call .step-direct .ensures)
+    direct-slot-is (a .machine) (book-of (a .slots .now) (a .rates .now)) (a .credits .now) (a .queues .now) (a .given .now) p f _ _ (c .slot-result .ensures) (start .pre) (call .step-direct .ensures)
 
 pub direct-slot-spec : {M : Type 1} → statement M
 direct-slot-spec =
     tie.close
-    (tie.spec step-direct-requires slot-result-requires same-length same-length-2 returns)
+    (tie.spec step-direct-requires slot-result-requires same-length same-length-2 same-length-3 returns)

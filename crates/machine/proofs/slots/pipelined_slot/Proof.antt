@@ -23,12 +23,15 @@ same-length-3 c = search needs
 same-length-4 : tie.Need-same-length-4
 same-length-4 c = search needs
 
+same-length-5 : tie.Need-same-length-5
+same-length-5 c = search needs
+
 returns : tie.Need-returns
 returns c =
-    let call = c .before .before .before .before .before .before .before .before .before in
-    let start = call .before .before .before .before .before .before .before .before .before .before .before .before in
+    let call = c .before .before .before .before .before .before .before .before .before .before .before in
+    let start = call .before .before .before .before .before .before .before .before .before .before .before .before .before .before in
     let a = start .args in
-    pipelined-slot-is (a .machine) (book-of (a .slots .now) (a .rates .now)) (a .credits .now) (a .queues .now) (a .copy .now) (a .flight .now) _ _ (c .slot-result .ensures) (start .pre) (call .step-pipelined .ensures)
+    pipelined-slot-is (a .machine) (book-of (a .slots .now) (a .rates .now)) (a .credits .now) (a .queues .now) (a .given .now) (a .copy .now) (a .flight .now) _ _ (c .slot-result .ensures) (start .pre) (call .step-pipelined .ensures)
 
 pub pipelined-slot-spec : {M : Type 1} → statement M
 pipelined-slot-spec =
@@ -40,4 +43,5 @@ pipelined-slot-spec =
     same-length-2
     same-length-3
     same-length-4
+    same-length-5
     returns)
