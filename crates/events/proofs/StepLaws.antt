@@ -27,35 +27,35 @@ step-is : {o o′ : StepOutcome} {s : State} {out out′ : List ℕ} {at next : 
 step-is {s = s} {out = out} {out′ = out′} {at = at} {next = next} e h = subst⁻¹ (λ (o : StepOutcome). StepWritten o s out at next out′) e h
 
 -- a state by its book
-abbrev state-with : Progress → List ℕ → Book → (credits queues copy flight : List ℕ) → State
-state-with k b a c q p f = state-of k b (a .slots) (a .rates) c q p f
+abbrev state-with : Progress → List ℕ → Book → (credits queues given copy flight : List ℕ) → State
+state-with k b a c q g p f = state-of k b (a .slots) (a .rates) c q g p f
 
-module _ (k : Progress) (b : List ℕ) (a : Book) (c q p f : List ℕ) where
+module _ (k : Progress) (b : List ℕ) (a : Book) (c q g p f : List ℕ) where
   abbrev S : State
-  S = state-with k b a c q p f
+  S = state-with k b a c q g p f
 
   abbrev M : Program.Machine
-  M = machine-of (k .machine) (a .slots) (a .rates) c q p f
+  M = machine-of (k .machine) (a .slots) (a .rates) c q g p f
 
   -- THE END OF THE HEADING, and of any other record
   pub heading-written : {out : List ℕ} {at : ℕ} (k′ : Progress) (next : ℕ) → k .«past_heading» ≡ false → k′ ≡ ended-progress (k .machine) 0 → next ≡ at
-      → at ≤ length out → StepWritten (record-end S) (state-with k′ b a c q p f) out at next out
+      → at ≤ length out → StepWritten (record-end S) (state-with k′ b a c q g p f) out at next out
   heading-written {out = out} {at = at} k′ next h e en l =
-      step-is (end-heading S h) (record { state = ap (λ (k : Progress). state-with k b a c q p f) e; text = rw en (wrote-none out at l) })
+      step-is (end-heading S h) (record { state = ap (λ (k : Progress). state-with k b a c q g p f) e; text = rw en (wrote-none out at l) })
 
-  module _ {out out′ : List ℕ} {at : ℕ} (r : RecordResult) (k′ : Progress) (next end : ℕ) (a′ : Book) (c′ q′ p′ f′ : List ℕ) where
-    obeyed-written : (reading : Reading) → record-outcome-of r (a′ .slots) (a′ .rates) c′ q′ p′ f′ ≡ obey M reading → TextWritten out at (refusal-text (r .refusal)) next out′
-        → k′ ≡ ended-progress (r .machine) (r .«slots_left») → end ≡ next → StepWritten (record-step S reading) (state-with k′ b a′ c′ q′ p′ f′) out at end out′
+  module _ {out out′ : List ℕ} {at : ℕ} (r : RecordResult) (k′ : Progress) (next end : ℕ) (a′ : Book) (c′ q′ g′ p′ f′ : List ℕ) where
+    obeyed-written : (reading : Reading) → record-outcome-of r (a′ .slots) (a′ .rates) c′ q′ g′ p′ f′ ≡ obey M reading → TextWritten out at (refusal-text (r .refusal)) next out′
+        → k′ ≡ ended-progress (r .machine) (r .«slots_left») → end ≡ next → StepWritten (record-step S reading) (state-with k′ b a′ c′ q′ g′ p′ f′) out at end out′
     unfolding record-step
     obeyed-written reading e w ek el =
         record {
-          state = ap (λ (k : Progress). state-with k b a′ c′ q′ p′ f′) ek ∙ ap (λ (o : RecordOutcome). ended S (o .machine) (o .slots)) e;
+          state = ap (λ (k : Progress). state-with k b a′ c′ q′ g′ p′ f′) ek ∙ ap (λ (o : RecordOutcome). ended S (o .machine) (o .slots)) e;
           text = rw el (wrote-is w (ap (λ (o : RecordOutcome). refusal-text (o .refusal)) e));
         }
 
     pub record-written : (n : ℕ) (reading : Reading) → k .«past_heading» ≡ true → n ≡ min (k .count - 1) kept-bytes → reading ≡ read-record (take n b)
-        → record-outcome-of r (a′ .slots) (a′ .rates) c′ q′ p′ f′ ≡ obey M reading → TextWritten out at (refusal-text (r .refusal)) next out′
-        → k′ ≡ ended-progress (r .machine) (r .«slots_left») → end ≡ next → StepWritten (record-end S) (state-with k′ b a′ c′ q′ p′ f′) out at end out′
+        → record-outcome-of r (a′ .slots) (a′ .rates) c′ q′ g′ p′ f′ ≡ obey M reading → TextWritten out at (refusal-text (r .refusal)) next out′
+        → k′ ≡ ended-progress (r .machine) (r .«slots_left») → end ≡ next → StepWritten (record-end S) (state-with k′ b a′ c′ q′ g′ p′ f′) out at end out′
     record-written n reading h en er e w ek el =
         let is : reading ≡ read-record (take (min (k .count - 1) kept-bytes) b) = er ∙ ap (λ n. read-record (take n b)) en in
         step-is (end-read S h ∙ ap (record-step S) (sym is)) (obeyed-written reading e w ek el)
@@ -71,15 +71,15 @@ module _ (k : Progress) (b : List ℕ) (a : Book) (c q p f : List ℕ) where
     byte-kept {out = out} {at = at} is e t h l = step-is (byte-more S x (sym e ∙ t)) (record { state = h; text = wrote-none out at l })
 
   -- A SLOT
-  module _ {out out′ : List ℕ} {at : ℕ} (r : SlotResult) (k′ : Progress) (left next : ℕ) (c′ q′ p′ f′ : List ℕ) where
-    pub slot-written : slot-outcome-of r (a .slots) (a .rates) c′ q′ p′ f′ ≡ run-slot M → TextWritten out at (slot-result-text r) next out′
+  module _ {out out′ : List ℕ} {at : ℕ} (r : SlotResult) (k′ : Progress) (left next : ℕ) (c′ q′ g′ p′ f′ : List ℕ) where
+    pub slot-written : slot-outcome-of r (a .slots) (a .rates) c′ q′ g′ p′ f′ ≡ run-slot M → TextWritten out at (slot-result-text r) next out′
         → left ≡ slots-after (r .refusal .number) (k .«slots_left») → k′ ≡ moved-progress k (r .machine) left
-        → StepWritten (slot-step S) (state-with k′ b a c′ q′ p′ f′) out at next out′
+        → StepWritten (slot-step S) (state-with k′ b a c′ q′ g′ p′ f′) out at next out′
     unfolding slot-step
     slot-written e w en ek =
         record {
           state =
-              ap (λ (k : Progress). state-with k b a c′ q′ p′ f′) (ek ∙ ap (moved-progress k (r .machine)) en)
+              ap (λ (k : Progress). state-with k b a c′ q′ g′ p′ f′) (ek ∙ ap (moved-progress k (r .machine)) en)
               ∙ ap (λ (o : SlotOutcome). with-machine S (o .machine) (slots-after (o .refusal .number) (k .«slots_left»))) e;
           text = wrote-is w (ap (λ (o : SlotOutcome). slot-text o) e);
         }

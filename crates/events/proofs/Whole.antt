@@ -175,5 +175,5 @@ module _ {s s′ s″ : State} {input text end : List ℕ} (b : FirstState s) (c
 -- the program begins so, with runs for 32 ports
 pub first-state : (buffer : List ℕ) → kept-bytes ≤ length buffer
     → let words : List ℕ = replicate 1024 0 in
-    FirstState (state-of first-progress buffer words words words words words (replicate 2048 0))
+    FirstState (state-of first-progress buffer words words words words (replicate 32 0) words (replicate 2048 0))
 first-state buffer h = record { machine = refl; past-heading = refl; after-CR = refl; count = refl; buffer = h; slots-left = refl }

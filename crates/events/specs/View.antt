@@ -15,10 +15,10 @@ use Rattle.events.specs.declared.FeedResult.{FeedResult}
 use Rattle.events.specs.Feeding.{State, StepOutcome, FeedOutcome}
 
 -- what is kept, with the buffer of the record so far and the runs
-abbrev pub state-of : Progress → (buffer slots rates credits queues copy flight : List ℕ) → State
-state-of k b s r c q p f =
+abbrev pub state-of : Progress → (buffer slots rates credits queues given copy flight : List ℕ) → State
+state-of k b s r c q g p f =
     record {
-      machine = machine-of (k .machine) s r c q p f;
+      machine = machine-of (k .machine) s r c q g p f;
       past-heading = k .«past_heading»;
       after-CR = k .«after_cr»;
       count = k .count;
@@ -34,9 +34,9 @@ pub record FeedEffect : Type 0 where
   pub out : List ℕ
 
 -- as the code has it, and as the definition's outcome has it on an output
-abbrev pub feed-effect-of : FeedResult → (out buffer slots rates credits queues copy flight : List ℕ) → FeedEffect
-feed-effect-of o out b s r c q p f =
-    record { state = state-of (o .progress) b s r c q p f; taken = o .taken; written = o .written; out = out }
+abbrev pub feed-effect-of : FeedResult → (out buffer slots rates credits queues given copy flight : List ℕ) → FeedEffect
+feed-effect-of o out b s r c q g p f =
+    record { state = state-of (o .progress) b s r c q g p f; taken = o .taken; written = o .written; out = out }
 
 abbrev pub feed-effect : FeedOutcome → List ℕ → FeedEffect
 feed-effect o out =
@@ -44,7 +44,7 @@ feed-effect o out =
 
 -- what a slot prints, which looks at no run
 abbrev pub slot-result-text : SlotResult → List ℕ
-slot-result-text r = slot-text (slot-outcome-of r [] [] [] [] [] [])
+slot-result-text r = slot-text (slot-outcome-of r [] [] [] [] [] [] [])
 
 -- what is kept after a record has ended, and with another machine and other slots to run
 abbrev pub ended-progress : Machine → ℕ → Progress

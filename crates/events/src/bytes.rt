@@ -57,15 +57,18 @@ fn end_record(
     rates: &mut [u32],
     credits: &mut [u32],
     queues: &mut [u32],
+    given: &mut [u32],
     copy: &mut [u32],
     flight: &mut [u32],
 ) -> ByteResult
     requires buffer { ⌜ kept-bytes ≤ length (now buffer) ⌝ }
     requires room { ⌜ at + refusal-room ≤ length (now out) ⌝ }
     ensures outcome { λ r. ⌜ StepWritten (record-end (state-of progress (now (buffer .entry))
-        (now (slots .entry)) (now (rates .entry)) (now (credits .entry)) (now (queues .entry)) (now (copy .entry)) (now (flight .entry))))
+        (now (slots .entry)) (now (rates .entry)) (now (credits .entry)) (now (queues .entry))
+        (now (given .entry)) (now (copy .entry)) (now (flight .entry))))
         (state-of (r .progress) (now (buffer .entry))
-        (now (slots .exit)) (now (rates .exit)) (now (credits .exit)) (now (queues .exit)) (now (copy .exit)) (now (flight .exit)))
+        (now (slots .exit)) (now (rates .exit)) (now (credits .exit)) (now (queues .exit))
+        (now (given .exit)) (now (copy .exit)) (now (flight .exit)))
         (now (out .entry)) at (r .next) (now (out .exit)) ⌝ }
 {
     let machine = progress.machine;
@@ -81,6 +84,7 @@ fn end_record(
         rates,
         credits,
         queues,
+        given,
         copy,
         flight,
     );
@@ -114,8 +118,8 @@ fn counted(count: usize) -> usize
 // A byte more of the record so far.
 fn append(mut progress: Progress, byte: u8, buffer: &mut [u8]) -> Progress
     requires buffer { ⌜ kept-bytes ≤ length (now buffer) ⌝ }
-    ensures state { λ r. ⌜ ((s t c q p f : List ℕ)
-        → state-of r (now (buffer .exit)) s t c q p f ≡ appended (state-of progress (now (buffer .entry)) s t c q p f) byte) ⌝ }
+    ensures state { λ r. ⌜ ((s t c q g p f : List ℕ)
+        → state-of r (now (buffer .exit)) s t c q g p f ≡ appended (state-of progress (now (buffer .entry)) s t c q g p f) byte) ⌝ }
 {
     let count = progress.count;
     keep(buffer, count, byte);
@@ -143,16 +147,19 @@ pub fn take_byte(
     rates: &mut [u32],
     credits: &mut [u32],
     queues: &mut [u32],
+    given: &mut [u32],
     copy: &mut [u32],
     flight: &mut [u32],
 ) -> ByteResult
     requires buffer { ⌜ kept-bytes ≤ length (now buffer) ⌝ }
     requires room { ⌜ at + refusal-room ≤ length (now out) ⌝ }
     ensures outcome { λ r. ⌜ StepWritten (byte-step (state-of progress (now (buffer .entry))
-        (now (slots .entry)) (now (rates .entry)) (now (credits .entry)) (now (queues .entry)) (now (copy .entry)) (now (flight .entry)))
+        (now (slots .entry)) (now (rates .entry)) (now (credits .entry)) (now (queues .entry))
+        (now (given .entry)) (now (copy .entry)) (now (flight .entry)))
         byte)
         (state-of (r .progress) (now (buffer .exit))
-        (now (slots .exit)) (now (rates .exit)) (now (credits .exit)) (now (queues .exit)) (now (copy .exit)) (now (flight .exit)))
+        (now (slots .exit)) (now (rates .exit)) (now (credits .exit)) (now (queues .exit))
+        (now (given .exit)) (now (copy .exit)) (now (flight .exit)))
         (now (out .entry)) at (r .next) (now (out .exit)) ⌝ }
 {
     if is_end(progress.after_cr, byte) {
@@ -165,6 +172,7 @@ pub fn take_byte(
             rates,
             credits,
             queues,
+            given,
             copy,
             flight,
         );

@@ -93,13 +93,16 @@ pub fn feed(
     rates: &mut [u32],
     credits: &mut [u32],
     queues: &mut [u32],
+    given: &mut [u32],
     copy: &mut [u32],
     flight: &mut [u32],
 ) -> FeedResult
     ensures outcome { λ r. ⌜ feed-effect-of r (now (out .exit)) (now (buffer .exit))
-        (now (slots .exit)) (now (rates .exit)) (now (credits .exit)) (now (queues .exit)) (now (copy .exit)) (now (flight .exit))
+        (now (slots .exit)) (now (rates .exit)) (now (credits .exit)) (now (queues .exit))
+        (now (given .exit)) (now (copy .exit)) (now (flight .exit))
         ≡ feed-effect (fed (length (now (out .entry))) (now (block .entry)) (state-of progress (now (buffer .entry))
-        (now (slots .entry)) (now (rates .entry)) (now (credits .entry)) (now (queues .entry)) (now (copy .entry)) (now (flight .entry))))
+        (now (slots .entry)) (now (rates .entry)) (now (credits .entry)) (now (queues .entry))
+        (now (given .entry)) (now (copy .entry)) (now (flight .entry))))
         (now (out .entry)) ⌝ }
 {
     let mut fed = FeedResult {
@@ -117,6 +120,7 @@ pub fn feed(
             rates,
             credits,
             queues,
+            given,
             copy,
             flight,
         );

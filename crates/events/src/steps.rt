@@ -52,6 +52,7 @@ fn step_slot(
     rates: &[u32],
     credits: &mut [u32],
     queues: &mut [u32],
+    given: &mut [u32],
     copy: &mut [u32],
     flight: &mut [u32],
 ) -> FeedResult
@@ -59,14 +60,16 @@ fn step_slot(
     requires room { ⌜ fed .written + slot-room ≤ length (now out) ⌝ }
     ensures taken { λ r. ⌜ r .taken ≡ fed .taken ⌝ }
     ensures outcome { λ r. ⌜ ((b : List ℕ) → StepWritten (slot-step (state-of (fed .progress) b
-        (now (slots .entry)) (now (rates .entry)) (now (credits .entry)) (now (queues .entry)) (now (copy .entry)) (now (flight .entry))))
+        (now (slots .entry)) (now (rates .entry)) (now (credits .entry)) (now (queues .entry))
+        (now (given .entry)) (now (copy .entry)) (now (flight .entry))))
         (state-of (r .progress) b
-        (now (slots .entry)) (now (rates .entry)) (now (credits .exit)) (now (queues .exit)) (now (copy .exit)) (now (flight .exit)))
+        (now (slots .entry)) (now (rates .entry)) (now (credits .exit)) (now (queues .exit))
+        (now (given .exit)) (now (copy .exit)) (now (flight .exit)))
         (now (out .entry)) (fed .written) (r .written) (now (out .exit))) ⌝ }
 {
     let progress = fed.progress;
     let machine = progress.machine;
-    let slot = run_slot(machine, slots, rates, credits, queues, copy, flight);
+    let slot = run_slot(machine, slots, rates, credits, queues, given, copy, flight);
     let written = put_slot(out, fed.written, slot);
     let after = slot.machine;
     let refusal = slot.refusal;
@@ -88,6 +91,7 @@ fn step_byte(
     rates: &mut [u32],
     credits: &mut [u32],
     queues: &mut [u32],
+    given: &mut [u32],
     copy: &mut [u32],
     flight: &mut [u32],
 ) -> FeedResult
@@ -96,10 +100,12 @@ fn step_byte(
     requires room { ⌜ fed .written + refusal-room ≤ length (now out) ⌝ }
     ensures taken { λ r. ⌜ r .taken ≡ fed .taken + 1 ⌝ }
     ensures outcome { λ r. ⌜ StepWritten (byte-step (state-of (fed .progress) (now (buffer .entry))
-        (now (slots .entry)) (now (rates .entry)) (now (credits .entry)) (now (queues .entry)) (now (copy .entry)) (now (flight .entry)))
+        (now (slots .entry)) (now (rates .entry)) (now (credits .entry)) (now (queues .entry))
+        (now (given .entry)) (now (copy .entry)) (now (flight .entry)))
         (getD (now (block .entry)) (fed .taken) 0))
         (state-of (r .progress) (now (buffer .exit))
-        (now (slots .exit)) (now (rates .exit)) (now (credits .exit)) (now (queues .exit)) (now (copy .exit)) (now (flight .exit)))
+        (now (slots .exit)) (now (rates .exit)) (now (credits .exit)) (now (queues .exit))
+        (now (given .exit)) (now (copy .exit)) (now (flight .exit)))
         (now (out .entry)) (fed .written) (r .written) (now (out .exit)) ⌝ }
 {
     let progress = fed.progress;
@@ -115,6 +121,7 @@ fn step_byte(
         rates,
         credits,
         queues,
+        given,
         copy,
         flight,
     );
@@ -136,6 +143,7 @@ pub fn step(
     rates: &mut [u32],
     credits: &mut [u32],
     queues: &mut [u32],
+    given: &mut [u32],
     copy: &mut [u32],
     flight: &mut [u32],
 ) -> FeedResult
@@ -143,18 +151,21 @@ pub fn step(
     requires buffer { ⌜ kept-bytes ≤ length (now buffer) ⌝ }
     requires room { ⌜ fed .written + slot-room ≤ length (now out) ⌝ }
     ensures taken { λ r. ⌜ r .taken ≡ next-taken (state-of (fed .progress) (now (buffer .entry))
-        (now (slots .entry)) (now (rates .entry)) (now (credits .entry)) (now (queues .entry)) (now (copy .entry)) (now (flight .entry)))
+        (now (slots .entry)) (now (rates .entry)) (now (credits .entry)) (now (queues .entry))
+        (now (given .entry)) (now (copy .entry)) (now (flight .entry)))
         (fed .taken) ⌝ }
     ensures outcome { λ r. ⌜ StepWritten (next-step (now (block .entry)) (state-of (fed .progress) (now (buffer .entry))
-        (now (slots .entry)) (now (rates .entry)) (now (credits .entry)) (now (queues .entry)) (now (copy .entry)) (now (flight .entry)))
+        (now (slots .entry)) (now (rates .entry)) (now (credits .entry)) (now (queues .entry))
+        (now (given .entry)) (now (copy .entry)) (now (flight .entry)))
         (fed .taken))
         (state-of (r .progress) (now (buffer .exit))
-        (now (slots .exit)) (now (rates .exit)) (now (credits .exit)) (now (queues .exit)) (now (copy .exit)) (now (flight .exit)))
+        (now (slots .exit)) (now (rates .exit)) (now (credits .exit)) (now (queues .exit))
+        (now (given .exit)) (now (copy .exit)) (now (flight .exit)))
         (now (out .entry)) (fed .written) (r .written) (now (out .exit)) ⌝ }
 {
     let progress = fed.progress;
     if progress.slots_left > 0 {
-        return step_slot(fed, out, slots, rates, credits, queues, copy, flight);
+        return step_slot(fed, out, slots, rates, credits, queues, given, copy, flight);
     }
     step_byte(
         fed,
@@ -165,6 +176,7 @@ pub fn step(
         rates,
         credits,
         queues,
+        given,
         copy,
         flight,
     )

@@ -13,7 +13,7 @@ same-length : tie.Need-same-length
 same-length c = search needs
 
 returns : tie.Need-returns
-returns c = λ s t k q p f. rw (c .before .before .before .keep .ensures, c .counted .ensures)
+returns c = λ s t k q g p f. rw (c .before .before .before .keep .ensures, c .counted .ensures)
 
 pub append-spec : {M : Type 1} → statement M
 append-spec = tie.close (tie.spec keep-requires counted-requires same-length returns)

@@ -14,8 +14,8 @@ ended-requires c κs = search needs
 
 returns : tie.Need-returns
 returns c =
-    let a = c .before .before .before .before .before .before .before .before .before .before .before .before .args in
-    heading-written (a .progress) (a .buffer .now) (book-of (a .slots .now) (a .rates .now)) (a .credits .now) (a .queues .now) (a .copy .now) (a .flight .now) _ _
+    let a = c .before .before .before .before .before .before .before .before .before .before .before .before .before .args in
+    heading-written (a .progress) (a .buffer .now) (book-of (a .slots .now) (a .rates .now)) (a .credits .now) (a .queues .now) (a .given .now) (a .copy .now) (a .flight .now) _ _
     (not-true (a .progress .«past_heading») (c .before .if1 .taken)) (c .ended .ensures .0) (c .ended .ensures .1) (omega arith)
 
 kept-length-requires : tie.Need-kept-length-requires
@@ -32,7 +32,7 @@ obey-requires c κs = search needs
 
 put-refusal-requires : tie.Need-put-refusal-requires
 put-refusal-requires c κs =
-    let start = c .before .before .before .before .before .before .before .before .before .before .before .before .before .before .before .before .before .before .before .before .before .before .before .before .before .before .before .before .before .before .before .before .before .before .before in
+    let start = c .before .before .before .before .before .before .before .before .before .before .before .before .before .before .before .before .before .before .before .before .before .before .before .before .before .before .before .before .before .before .before .before .before .before .before .before .before .before .before in
     omega (arith, start .pre .1)
 
 ended-requires-2 : tie.Need-ended-requires-2
@@ -59,14 +59,17 @@ same-length-6 c = search needs
 same-length-7 : tie.Need-same-length-7
 same-length-7 c = search needs
 
+same-length-8 : tie.Need-same-length-8
+same-length-8 c = search needs
+
 returns-2 : tie.Need-returns-2
 returns-2 c =
     let put = c .before .before .before .before in
-    let call = put .before .before .before .before .before .before .before .before .before .before .before .before .before .before .before in
-    let read = call .before .before .before .before .before .before .before in
+    let call = put .before .before .before .before .before .before .before .before .before .before .before .before .before .before .before .before .before in
+    let read = call .before .before .before .before .before .before .before .before in
     let length = read .before .before in
-    let a = length .before .before .before .before .before .before .before .before .before .before .before .before .args in
-    record-written (a .progress) (a .buffer .now) (book-of (a .slots .now) (a .rates .now)) (a .credits .now) (a .queues .now) (a .copy .now) (a .flight .now) (call .obey .result) _ _ _ _ _ _ _ _ _ _
+    let a = length .before .before .before .before .before .before .before .before .before .before .before .before .before .args in
+    record-written (a .progress) (a .buffer .now) (book-of (a .slots .now) (a .rates .now)) (a .credits .now) (a .queues .now) (a .given .now) (a .copy .now) (a .flight .now) (call .obey .result) _ _ _ _ _ _ _ _ _ _ _
     (not-false (a .progress .«past_heading») (length .before .if1 .left)) (length .kept-length .ensures) (read .read-record .ensures) (call .obey .ensures)
     (put .put-refusal .ensures) (c .ended2 .ensures .0) (c .ended2 .ensures .1)
 
@@ -89,4 +92,5 @@ end-record-spec =
     same-length-5
     same-length-6
     same-length-7
+    same-length-8
     returns-2)

@@ -36,26 +36,29 @@ same-length-7 c = search needs
 same-length-8 : tie.Need-same-length-8
 same-length-8 c = search needs
 
+same-length-9 : tie.Need-same-length-9
+same-length-9 c = search needs
+
 returns : tie.Need-returns
 returns c =
-    let call = c .before .before .before .before .before .before .before .before .before .before .before .before .before .before in
-    let way = call .before .before .before .before .before .before .before .before .before in
-    let a = way .before .before .before .before .before .before .before .before .before .before .args in
-    byte-ended (a .progress) (a .buffer .now) (book-of (a .slots .now) (a .rates .now)) (a .credits .now) (a .queues .now) (a .copy .now) (a .flight .now) (a .byte) _ (way .before .is-end .ensures) (way .if1 .taken) (call .end-record .ensures)
+    let call = c .before .before .before .before .before .before .before .before .before .before .before .before .before .before .before .before in
+    let way = call .before .before .before .before .before .before .before .before .before .before in
+    let a = way .before .before .before .before .before .before .before .before .before .before .before .args in
+    byte-ended (a .progress) (a .buffer .now) (book-of (a .slots .now) (a .rates .now)) (a .credits .now) (a .queues .now) (a .given .now) (a .copy .now) (a .flight .now) (a .byte) _ (way .before .is-end .ensures) (way .if1 .taken) (call .end-record .ensures)
 
 append-requires : tie.Need-append-requires
 append-requires c κs = search needs
 
-same-length-9 : tie.Need-same-length-9
-same-length-9 c = search needs
+same-length-10 : tie.Need-same-length-10
+same-length-10 c = search needs
 
 returns-2 : tie.Need-returns-2
 returns-2 c =
     let call = c .before .before in
     let way = call .before .before in
-    let start = way .before .before .before .before .before .before .before .before .before .before in
+    let start = way .before .before .before .before .before .before .before .before .before .before .before in
     let a = start .args in
-    byte-kept (a .progress) (a .buffer .now) (book-of (a .slots .now) (a .rates .now)) (a .credits .now) (a .queues .now) (a .copy .now) (a .flight .now) (a .byte) _ (way .before .is-end .ensures) (way .if1 .left) (call .append .ensures _ _ _ _ _ _) (omega (arith, start .pre .1))
+    byte-kept (a .progress) (a .buffer .now) (book-of (a .slots .now) (a .rates .now)) (a .credits .now) (a .queues .now) (a .given .now) (a .copy .now) (a .flight .now) (a .byte) _ (way .before .is-end .ensures) (way .if1 .left) (call .append .ensures _ _ _ _ _ _ _) (omega (arith, start .pre .1))
 
 pub take-byte-spec : {M : Type 1} → statement M
 take-byte-spec =
@@ -71,7 +74,8 @@ take-byte-spec =
     same-length-6
     same-length-7
     same-length-8
+    same-length-9
     returns
     append-requires
-    same-length-9
+    same-length-10
     returns-2)

@@ -31,24 +31,24 @@ same-length-6 c = search needs
 same-length-7 : tie.Need-same-length-7
 same-length-7 c = search needs
 
+same-length-8 : tie.Need-same-length-8
+same-length-8 c = search needs
+
 returns : tie.Need-returns
 returns c =
-    let call = c .before .before .before .before .before .before .before .before .before .before in
-    let way = call .before .before .before .before .before .before .before .before in
-    let a = way .before .before .before .before .before .before .before .before .before .before .before .before .args in (
+    let call = c .before .before .before .before .before .before .before .before .before .before .before .before in
+    let way = call .before .before .before .before .before .before .before .before .before in
+    let a = way .before .before .before .before .before .before .before .before .before .before .before .before .before .args in (
       call .step-slot .ensures .0 ∙ slot-taken _ _ (way .if1 .taken),
-      step-slot-written (a .fed .progress) (a .buffer .now) (book-of (a .slots .now) (a .rates .now)) (a .credits .now) (a .queues .now) (a .copy .now) (a .flight .now) (a .block .now) (a .fed .taken) (way .if1 .taken)
+      step-slot-written (a .fed .progress) (a .buffer .now) (book-of (a .slots .now) (a .rates .now)) (a .credits .now) (a .queues .now) (a .given .now) (a .copy .now) (a .flight .now) (a .block .now) (a .fed .taken) (way .if1 .taken)
           (call .step-slot .ensures .1 _),
     )
 
 step-byte-requires : tie.Need-step-byte-requires
 step-byte-requires c κs =
-    let way = c .before .before .before .before .before .before .before .before in
-    let start = way .before .before .before .before .before .before .before .before .before .before .before .before in
+    let way = c .before .before .before .before .before .before .before .before .before in
+    let start = way .before .before .before .before .before .before .before .before .before .before .before .before .before in
     (start .pre .0 (omega (arith, way .if1 .left)), (start .pre .1 .0, omega (arith, start .pre .1 .1)))
-
-same-length-8 : tie.Need-same-length-8
-same-length-8 c = search needs
 
 same-length-9 : tie.Need-same-length-9
 same-length-9 c = search needs
@@ -71,13 +71,19 @@ same-length-14 c = search needs
 same-length-15 : tie.Need-same-length-15
 same-length-15 c = search needs
 
+same-length-16 : tie.Need-same-length-16
+same-length-16 c = search needs
+
+same-length-17 : tie.Need-same-length-17
+same-length-17 c = search needs
+
 returns-2 : tie.Need-returns-2
 returns-2 c =
-    let call = c .before .before .before .before .before .before .before .before .before .before .before .before .before .before .before .before in
-    let way = call .before .before .before .before .before .before .before .before .before in
-    let a = way .before .before .before .before .before .before .before .before .before .before .before .before .args in (
+    let call = c .before .before .before .before .before .before .before .before .before .before .before .before .before .before .before .before .before .before in
+    let way = call .before .before .before .before .before .before .before .before .before .before in
+    let a = way .before .before .before .before .before .before .before .before .before .before .before .before .before .args in (
       call .step-byte .ensures .0 ∙ byte-taken _ _ (way .if1 .left),
-      step-byte-written (a .fed .progress) (a .buffer .now) (book-of (a .slots .now) (a .rates .now)) (a .credits .now) (a .queues .now) (a .copy .now) (a .flight .now) (a .block .now) (a .fed .taken) (way .if1 .left)
+      step-byte-written (a .fed .progress) (a .buffer .now) (book-of (a .slots .now) (a .rates .now)) (a .credits .now) (a .queues .now) (a .given .now) (a .copy .now) (a .flight .now) (a .block .now) (a .fed .taken) (way .if1 .left)
           (call .step-byte .ensures .1),
     )
 
@@ -93,9 +99,9 @@ step-spec =
     same-length-5
     same-length-6
     same-length-7
+    same-length-8
     returns
     step-byte-requires
-    same-length-8
     same-length-9
     same-length-10
     same-length-11
@@ -103,4 +109,6 @@ step-spec =
     same-length-13
     same-length-14
     same-length-15
+    same-length-16
+    same-length-17
     returns-2)

@@ -10,9 +10,9 @@ shared-slice-read-byte c = search needs
 take-byte-requires : tie.Need-take-byte-requires
 take-byte-requires c κs = search needs
 
-add-t34 : tie.Need-add-t34
-add-t34 c =
-    let start = c .before .before .before .before .before .before .before .before .before .before .before .before .before .before .before .before .before .before .before .before .before .before .before .before .before .before .before .before .before .before .before .before .before .before .before .before .before in
+add-t37 : tie.Need-add-t37
+add-t37 c =
+    let start = c .before .before .before .before .before .before .before .before .before .before .before .before .before .before .before .before .before .before .before .before .before .before .before .before .before .before .before .before .before .before .before .before .before .before .before .before .before .before .before .before .before in
     omega (arith, start .pre .0, start .good .1 .0 .0)
 
 same-length : tie.Need-same-length
@@ -39,6 +39,9 @@ same-length-7 c = search needs
 same-length-8 : tie.Need-same-length-8
 same-length-8 c = search needs
 
+same-length-9 : tie.Need-same-length-9
+same-length-9 c = search needs
+
 returns : tie.Need-returns
 returns c = search needs
 
@@ -48,7 +51,7 @@ step-byte-spec =
     (tie.spec
     shared-slice-read-byte
     take-byte-requires
-    add-t34
+    add-t37
     same-length
     same-length-2
     same-length-3
@@ -57,4 +60,5 @@ step-byte-spec =
     same-length-6
     same-length-7
     same-length-8
+    same-length-9
     returns)

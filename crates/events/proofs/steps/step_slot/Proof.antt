@@ -11,10 +11,10 @@ run-slot-requires : tie.Need-run-slot-requires
 run-slot-requires c κs = search needs
 
 put-slot-requires : tie.Need-put-slot-requires
-put-slot-requires c κs = search needs
+put-slot-requires c κs = let start = c .before .before .before .before .before .before .before .before .before .before .before .before .before .before .before .before .before .before .before .before .before .before .before .before .before .before .before in start .pre .1
 
 slots-after-requires : tie.Need-slots-after-requires
-slots-after-requires c κs = let start = c .before .before .before .before .before .before .before .before .before .before .before .before .before .before .before .before .before .before .before .before .before .before .before .before .before .before .before .before in omega (arith, start .pre .0)
+slots-after-requires c κs = let start = c .before .before .before .before .before .before .before .before .before .before .before .before .before .before .before .before .before .before .before .before .before .before .before .before .before .before .before .before .before .before .before .before in omega (arith, start .pre .0)
 
 moved-requires : tie.Need-moved-requires
 moved-requires c κs = search needs
@@ -34,14 +34,17 @@ same-length-4 c = search needs
 same-length-5 : tie.Need-same-length-5
 same-length-5 c = search needs
 
+same-length-6 : tie.Need-same-length-6
+same-length-6 c = search needs
+
 returns : tie.Need-returns
 returns c =
     let put = c .before .before .before .before .before .before in
-    let call = put .before .before .before .before .before .before .before .before .before .before in
-    let a = call .before .before .before .before .before .before .before .before .before .before .before .before .before .before .args in (
+    let call = put .before .before .before .before .before .before .before .before .before .before .before .before in
+    let a = call .before .before .before .before .before .before .before .before .before .before .before .before .before .before .before .before .args in (
       refl,
       λ b.
-          slot-written (a .fed .progress) b (book-of (a .slots .now) (a .rates .now)) (a .credits .now) (a .queues .now) (a .copy .now) (a .flight .now) (call .run-slot .result) _ _ _ _ _ _ _ (call .run-slot .ensures) (put .put-slot .ensures)
+          slot-written (a .fed .progress) b (book-of (a .slots .now) (a .rates .now)) (a .credits .now) (a .queues .now) (a .given .now) (a .copy .now) (a .flight .now) (call .run-slot .result) _ _ _ _ _ _ _ _ (call .run-slot .ensures) (put .put-slot .ensures)
           (c .before .slots-after .ensures) (c .moved .ensures),
     )
 
@@ -58,4 +61,5 @@ step-slot-spec =
     same-length-3
     same-length-4
     same-length-5
+    same-length-6
     returns)
