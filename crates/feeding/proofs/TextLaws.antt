@@ -36,12 +36,12 @@ module _ (text : List ℕ) (t : TextState) (within : t .taken ≤ length text) w
       omega (arith, fed-less (length (t .out)) block (t .state) work, ap (λ n. n * 10001) left, ap (λ n. n * 10001) long)
 
   -- the code's call is the definition's
-  pub call-is : (r : FeedResult) (out buffer slots rates credits queues copy flight : List ℕ)
-      → feed-effect-of r out buffer slots rates credits queues copy flight
+  pub call-is : (r : FeedResult) (out buffer slots rates credits queues given copy flight : List ℕ)
+      → feed-effect-of r out buffer slots rates credits queues given copy flight
       ≡ feed-effect (fed (length (t .out)) (take (length text - t .taken) block) (t .state)) (t .out)
-      → record { state = state-of (r .progress) buffer slots rates credits queues copy flight; taken = t .taken + r .taken; out = out } ≡ next-call text t
+      → record { state = state-of (r .progress) buffer slots rates credits queues given copy flight; taken = t .taken + r .taken; out = out } ≡ next-call text t
   unfolding next-call
-  call-is r out buffer slots rates credits queues copy flight e =
+  call-is r out buffer slots rates credits queues given copy flight e =
       let rest : take (length text - t .taken) block ≡ block = take-all (length text - t .taken) block (omega (arith, long)) in
       ap (λ (x : FeedEffect). record { state = x .state; taken = t .taken + x .taken; out = x .out })
       (e ∙ ap (λ b. feed-effect (fed (length (t .out)) b (t .state)) (t .out)) rest)

@@ -18,11 +18,11 @@ pub record TextState : Type 0 where
   pub out : List ℕ
 
 -- before the first call, and as the code has it
-abbrev pub text-begun : Progress → (out buffer slots rates credits queues copy flight : List ℕ) → TextState
-text-begun k out b s r c q p f = record { state = state-of k b s r c q p f; taken = 0; out = out }
+abbrev pub text-begun : Progress → (out buffer slots rates credits queues given copy flight : List ℕ) → TextState
+text-begun k out b s r c q g p f = record { state = state-of k b s r c q g p f; taken = 0; out = out }
 
-abbrev pub text-state-of : TextResult → (out buffer slots rates credits queues copy flight : List ℕ) → TextState
-text-state-of o out b s r c q p f = record { state = state-of (o .progress) b s r c q p f; taken = o .taken; out = out }
+abbrev pub text-state-of : TextResult → (out buffer slots rates credits queues given copy flight : List ℕ) → TextState
+text-state-of o out b s r c q g p f = record { state = state-of (o .progress) b s r c q g p f; taken = o .taken; out = out }
 
 module _ (text : List ℕ) where
   -- a call has something to do

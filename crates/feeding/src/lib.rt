@@ -60,15 +60,17 @@ fn feed_rest(
     rates: &mut [u32],
     credits: &mut [u32],
     queues: &mut [u32],
+    given: &mut [u32],
     copy: &mut [u32],
     flight: &mut [u32],
 ) -> TextResult
     requires taken { ⌜ fed .taken ≤ length (now text) ⌝ }
     ensures outcome { λ r. ⌜ text-state-of r (now (out .exit)) (now (buffer .exit))
-        (now (slots .exit)) (now (rates .exit)) (now (credits .exit)) (now (queues .exit)) (now (copy .exit)) (now (flight .exit))
+        (now (slots .exit)) (now (rates .exit)) (now (credits .exit)) (now (queues .exit))
+        (now (given .exit)) (now (copy .exit)) (now (flight .exit))
         ≡ next-call (now (text .entry)) (text-state-of fed (now (out .entry)) (now (buffer .entry))
         (now (slots .entry)) (now (rates .entry)) (now (credits .entry)) (now (queues .entry))
-        (now (copy .entry)) (now (flight .entry))) ⌝ }
+        (now (given .entry)) (now (copy .entry)) (now (flight .entry))) ⌝ }
 {
     let progress = fed.progress;
     let from = fed.taken;
@@ -81,6 +83,7 @@ fn feed_rest(
         rates,
         credits,
         queues,
+        given,
         copy,
         flight,
     );
@@ -102,13 +105,16 @@ pub fn feed_text(
     rates: &mut [u32],
     credits: &mut [u32],
     queues: &mut [u32],
+    given: &mut [u32],
     copy: &mut [u32],
     flight: &mut [u32],
 ) -> TextResult
     ensures outcome { λ r. ⌜ TextFed (now (text .entry)) (text-begun progress (now (out .entry)) (now (buffer .entry))
-        (now (slots .entry)) (now (rates .entry)) (now (credits .entry)) (now (queues .entry)) (now (copy .entry)) (now (flight .entry)))
+        (now (slots .entry)) (now (rates .entry)) (now (credits .entry)) (now (queues .entry))
+        (now (given .entry)) (now (copy .entry)) (now (flight .entry)))
         (text-state-of r (now (out .exit)) (now (buffer .exit))
-        (now (slots .exit)) (now (rates .exit)) (now (credits .exit)) (now (queues .exit)) (now (copy .exit)) (now (flight .exit)))
+        (now (slots .exit)) (now (rates .exit)) (now (credits .exit)) (now (queues .exit))
+        (now (given .exit)) (now (copy .exit)) (now (flight .exit)))
         (r .«is_written») ⌝ }
 {
     let mut fed = TextResult {
@@ -126,6 +132,7 @@ pub fn feed_text(
             rates,
             credits,
             queues,
+            given,
             copy,
             flight,
         );
@@ -142,15 +149,19 @@ pub fn feed_end(
     rates: &mut [u32],
     credits: &mut [u32],
     queues: &mut [u32],
+    given: &mut [u32],
     copy: &mut [u32],
     flight: &mut [u32],
 ) -> TextResult
     ensures outcome { λ r. ⌜ TextFed (ending (state-of progress (now (buffer .entry))
-        (now (slots .entry)) (now (rates .entry)) (now (credits .entry)) (now (queues .entry)) (now (copy .entry)) (now (flight .entry))))
+        (now (slots .entry)) (now (rates .entry)) (now (credits .entry)) (now (queues .entry))
+        (now (given .entry)) (now (copy .entry)) (now (flight .entry))))
         (text-begun progress (now (out .entry)) (now (buffer .entry))
-        (now (slots .entry)) (now (rates .entry)) (now (credits .entry)) (now (queues .entry)) (now (copy .entry)) (now (flight .entry)))
+        (now (slots .entry)) (now (rates .entry)) (now (credits .entry)) (now (queues .entry))
+        (now (given .entry)) (now (copy .entry)) (now (flight .entry)))
         (text-state-of r (now (out .exit)) (now (buffer .exit))
-        (now (slots .exit)) (now (rates .exit)) (now (credits .exit)) (now (queues .exit)) (now (copy .exit)) (now (flight .exit)))
+        (now (slots .exit)) (now (rates .exit)) (now (credits .exit)) (now (queues .exit))
+        (now (given .exit)) (now (copy .exit)) (now (flight .exit)))
         (r .«is_written») ⌝ }
 {
     if progress.count == 0 {
@@ -163,6 +174,7 @@ pub fn feed_end(
             rates,
             credits,
             queues,
+            given,
             copy,
             flight,
         );
@@ -176,6 +188,7 @@ pub fn feed_end(
         rates,
         credits,
         queues,
+        given,
         copy,
         flight,
     )

@@ -34,20 +34,20 @@ same-length-7 c = search needs
 same-length-8 : tie.Need-same-length-8
 same-length-8 c = search needs
 
+same-length-9 : tie.Need-same-length-9
+same-length-9 c = search needs
+
 returns : tie.Need-returns
 returns c =
-    let call = c .before .before .before .before .before .before .before .before .before .before .before .before .before .before .before .before in
-    let way = call .before .before .before .before .before .before .before .before .before .before in
-    rw (eq-eqb (way .before .before .before .before .before .before .before .before .before .before .args .progress .count) 0 (way .if1 .taken)) (call .feed-text .ensures)
+    let call = c .before .before .before .before .before .before .before .before .before .before .before .before .before .before .before .before .before .before in
+    let way = call .before .before .before .before .before .before .before .before .before .before .before in
+    rw (eq-eqb (way .before .before .before .before .before .before .before .before .before .before .before .args .progress .count) 0 (way .if1 .taken)) (call .feed-text .ensures)
 
 slice-aggregate-feed-text-2 : tie.Need-slice-aggregate-feed-text-2
 slice-aggregate-feed-text-2 c = search needs
 
 feed-text-requires-2 : tie.Need-feed-text-requires-2
 feed-text-requires-2 c κs = search needs
-
-same-length-9 : tie.Need-same-length-9
-same-length-9 c = search needs
 
 same-length-10 : tie.Need-same-length-10
 same-length-10 c = search needs
@@ -70,11 +70,17 @@ same-length-15 c = search needs
 same-length-16 : tie.Need-same-length-16
 same-length-16 c = search needs
 
+same-length-17 : tie.Need-same-length-17
+same-length-17 c = search needs
+
+same-length-18 : tie.Need-same-length-18
+same-length-18 c = search needs
+
 returns-2 : tie.Need-returns-2
 returns-2 c =
-    let call = c .before .before .before .before .before .before .before .before .before .before .before .before .before .before .before .before in
-    let way = call .before .before .before .before .before .before .before .before .before .before in
-    rw (ne-eqb (way .before .before .before .before .before .before .before .before .before .before .args .progress .count) 0 (way .if1 .left)) (call .feed-text2 .ensures)
+    let call = c .before .before .before .before .before .before .before .before .before .before .before .before .before .before .before .before .before .before in
+    let way = call .before .before .before .before .before .before .before .before .before .before .before in
+    rw (ne-eqb (way .before .before .before .before .before .before .before .before .before .before .before .args .progress .count) 0 (way .if1 .left)) (call .feed-text2 .ensures)
 
 pub feed-end-spec : {M : Type 1} → statement M
 feed-end-spec =
@@ -90,10 +96,10 @@ feed-end-spec =
     same-length-6
     same-length-7
     same-length-8
+    same-length-9
     returns
     slice-aggregate-feed-text-2
     feed-text-requires-2
-    same-length-9
     same-length-10
     same-length-11
     same-length-12
@@ -101,4 +107,6 @@ feed-end-spec =
     same-length-14
     same-length-15
     same-length-16
+    same-length-17
+    same-length-18
     returns-2)

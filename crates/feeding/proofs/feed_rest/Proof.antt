@@ -19,16 +19,16 @@ part-feed-end c = search needs
 feed-requires : tie.Need-feed-requires
 feed-requires c κs = search needs
 
-add-t16 : tie.Need-add-t16
-add-t16 c =
-    let call = c .before .before .before .before .before .before .before .before .before .before .before .before .before .before .before .before .before .before in
-    let start = call .before .before .before .before .before .before .before .before .before .before .before .before .before .before .before .before .before .before .before .before in
+add-t17 : tie.Need-add-t17
+add-t17 c =
+    let call = c .before .before .before .before .before .before .before .before .before .before .before .before .before .before .before .before .before .before .before .before in
+    let start = call .before .before .before .before .before .before .before .before .before .before .before .before .before .before .before .before .before .before .before .before .before .before in
     let a = start .args in
-    let t = text-state-of (a .fed) (a .out .now) (a .buffer .now) (a .slots .now) (a .rates .now) (a .credits .now) (a .queues .now) (a .copy .now) (a .flight .now) in
+    let t = text-state-of (a .fed) (a .out .now) (a .buffer .now) (a .slots .now) (a .rates .now) (a .credits .now) (a .queues .now) (a .given .now) (a .copy .now) (a .flight .now) in
     omega (
       arith,
       next-within (a .text .now) t (start .pre),
-      ap (λ (t : TextState). t .taken) (call-is (a .text .now) t (start .pre) (call .feed .result) _ _ _ _ _ _ _ _ (call .feed .ensures)),
+      ap (λ (t : TextState). t .taken) (call-is (a .text .now) t (start .pre) (call .feed .result) _ _ _ _ _ _ _ _ _ (call .feed .ensures)),
       start .good .1 .0 .0,
     )
 
@@ -59,12 +59,15 @@ same-length-7 c = search needs
 same-length-8 : tie.Need-same-length-8
 same-length-8 c = search needs
 
+same-length-9 : tie.Need-same-length-9
+same-length-9 c = search needs
+
 returns : tie.Need-returns
 returns c =
-    let call = c .before .before .before .before .before .before .before .before .before .before .before .before .before .before .before .before .before .before .before .before in
-    let start = call .before .before .before .before .before .before .before .before .before .before .before .before .before .before .before .before .before .before .before .before in
+    let call = c .before .before .before .before .before .before .before .before .before .before .before .before .before .before .before .before .before .before .before .before .before .before in
+    let start = call .before .before .before .before .before .before .before .before .before .before .before .before .before .before .before .before .before .before .before .before .before .before in
     let a = start .args in
-    call-is (a .text .now) (text-state-of (a .fed) (a .out .now) (a .buffer .now) (a .slots .now) (a .rates .now) (a .credits .now) (a .queues .now) (a .copy .now) (a .flight .now)) (start .pre) (call .feed .result) _ _ _ _ _ _ _ _ (call .feed .ensures)
+    call-is (a .text .now) (text-state-of (a .fed) (a .out .now) (a .buffer .now) (a .slots .now) (a .rates .now) (a .credits .now) (a .queues .now) (a .given .now) (a .copy .now) (a .flight .now)) (start .pre) (call .feed .result) _ _ _ _ _ _ _ _ _ (call .feed .ensures)
 
 pub feed-rest-spec : {M : Type 1} → statement M
 feed-rest-spec =
@@ -74,7 +77,7 @@ feed-rest-spec =
     part-feed-start
     part-feed-end
     feed-requires
-    add-t16
+    add-t17
     write-front-requires
     same-length
     same-length-2
@@ -84,4 +87,5 @@ feed-rest-spec =
     same-length-6
     same-length-7
     same-length-8
+    same-length-9
     returns)
