@@ -8,6 +8,7 @@ use feeding::write_heading;
 use libc::STDIN_FILENO;
 use machine::FLIGHT_WORDS;
 use machine::PAIR_WORDS;
+use machine::PORT_WORDS;
 
 // What reading a block leaves: what is kept, whether to read on, and whether the input has ended.
 struct ReadResult {
@@ -26,6 +27,7 @@ fn read_block(
     rates: &mut [u32],
     credits: &mut [u32],
     queues: &mut [u32],
+    given: &mut [u32],
     copy: &mut [u32],
     flight: &mut [u32],
 ) -> ReadResult {
@@ -47,6 +49,7 @@ fn read_block(
         rates,
         credits,
         queues,
+        given,
         copy,
         flight,
     );
@@ -68,6 +71,7 @@ fn read_input(
     rates: &mut [u32],
     credits: &mut [u32],
     queues: &mut [u32],
+    given: &mut [u32],
     copy: &mut [u32],
     flight: &mut [u32],
 ) -> ReadResult {
@@ -88,6 +92,7 @@ fn read_input(
             rates,
             credits,
             queues,
+            given,
             copy,
             flight,
         );
@@ -105,6 +110,7 @@ fn run(
     rates: &mut [u32],
     credits: &mut [u32],
     queues: &mut [u32],
+    given: &mut [u32],
     copy: &mut [u32],
     flight: &mut [u32],
 ) {
@@ -116,6 +122,7 @@ fn run(
         rates,
         credits,
         queues,
+        given,
         copy,
         flight,
     );
@@ -129,6 +136,7 @@ fn run(
             rates,
             credits,
             queues,
+            given,
             copy,
             flight,
         );
@@ -143,6 +151,7 @@ fn main() {
     let mut rates = [0u32; PAIR_WORDS];
     let mut credits = [0u32; PAIR_WORDS];
     let mut queues = [0u32; PAIR_WORDS];
+    let mut given = [0u32; PORT_WORDS];
     let mut copy = [0u32; PAIR_WORDS];
     let mut flight = [0u32; FLIGHT_WORDS];
     if !write_heading(&mut out) {
@@ -156,6 +165,7 @@ fn main() {
         &mut rates,
         &mut credits,
         &mut queues,
+        &mut given,
         &mut copy,
         &mut flight,
     );

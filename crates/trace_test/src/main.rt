@@ -10,6 +10,7 @@ use libc::STDIN_FILENO;
 use libc::STDOUT_FILENO;
 use machine::FLIGHT_WORDS;
 use machine::PAIR_WORDS;
+use machine::PORT_WORDS;
 ghost use Prim.Native.Nat.{_≤_, _<_};
 
 // The bytes of an output that holds the lines of a slot and little more.
@@ -37,6 +38,7 @@ fn feed_pieces(
     rates: &mut [u32],
     credits: &mut [u32],
     queues: &mut [u32],
+    given: &mut [u32],
     copy: &mut [u32],
     flight: &mut [u32],
 ) -> TextResult {
@@ -58,6 +60,7 @@ fn feed_pieces(
             rates,
             credits,
             queues,
+            given,
             copy,
             flight,
         );
@@ -75,6 +78,7 @@ fn run(
     rates: &mut [u32],
     credits: &mut [u32],
     queues: &mut [u32],
+    given: &mut [u32],
     copy: &mut [u32],
     flight: &mut [u32],
 ) {
@@ -86,6 +90,7 @@ fn run(
         rates,
         credits,
         queues,
+        given,
         copy,
         flight,
     );
@@ -99,6 +104,7 @@ fn run(
             rates,
             credits,
             queues,
+            given,
             copy,
             flight,
         );
@@ -113,6 +119,7 @@ fn run_input(input: &[u8]) {
     let mut rates = [0u32; PAIR_WORDS];
     let mut credits = [0u32; PAIR_WORDS];
     let mut queues = [0u32; PAIR_WORDS];
+    let mut given = [0u32; PORT_WORDS];
     let mut copy = [0u32; PAIR_WORDS];
     let mut flight = [0u32; FLIGHT_WORDS];
     if !write_heading(&mut out) {
@@ -126,6 +133,7 @@ fn run_input(input: &[u8]) {
         &mut rates,
         &mut credits,
         &mut queues,
+        &mut given,
         &mut copy,
         &mut flight,
     );

@@ -4,10 +4,10 @@ use Rattle.kivdrag.proofs.read_block.Statement.{statement}
 use Rattle.kivdrag.proofs.read_block.Tie as tie
 
 abbrev fed : tie.After-after → tie.After-feed-text
-fed c = c .before .before .before .before .before .before .before .before .before .before .before .before .before .before .before .before .before
+fed c = c .before .before .before .before .before .before .before .before .before .before .before .before .before .before .before .before .before .before .before
 
 abbrev got : tie.After-feed-text → tie.After-read
-got c = c .before .before .before .before .before .before .before .before .before .before .before .before .before .before .before
+got c = c .before .before .before .before .before .before .before .before .before .before .before .before .before .before .before .before
 
 read-requires : tie.Need-read-requires
 read-requires c κs = search needs
@@ -57,6 +57,9 @@ same-length-9 c = fed c .feed-text .kept .1 .1 .1 .1 .1 .1 .1 .1 .0
 same-length-10 : tie.Need-same-length-10
 same-length-10 c = fed c .feed-text .kept .1 .1 .1 .1 .1 .1 .1 .1 .1 .0
 
+same-length-11 : tie.Need-same-length-11
+same-length-11 c = fed c .feed-text .kept .1 .1 .1 .1 .1 .1 .1 .1 .1 .1 .0
+
 returns-2 : tie.Need-returns-2
 returns-2 c = search needs
 
@@ -80,4 +83,5 @@ read-block-spec =
     same-length-8
     same-length-9
     same-length-10
+    same-length-11
     returns-2)

@@ -4,14 +4,14 @@ use borrow.Author.Needs.{needs}
 use Rattle.kivdrag.proofs.run.Statement.{statement}
 use Rattle.kivdrag.proofs.run.Tie as tie
 
-abbrev end : tie.After-slice-known26 → tie.After-feed-end
-end c = c .before .before .before .before .before .before .before .before .before .before .before .before .before .before .before .before
+abbrev end : tie.After-slice-known29 → tie.After-feed-end
+end c = c .before .before .before .before .before .before .before .before .before .before .before .before .before .before .before .before .before .before
 
 abbrev read : tie.After-progress → tie.After-read-input
-read c = c .before .before .before .before .before .before .before .before .before .before .before .before .before .before .before .before .before .before .before
+read c = c .before .before .before .before .before .before .before .before .before .before .before .before .before .before .before .before .before .before .before .before .before
 
 abbrev read-before : tie.After-feed-end → tie.After-read-input
-read-before c = read (c .before .before .before .before .before .before .before .before .before .before)
+read-before c = read (c .before .before .before .before .before .before .before .before .before .before .before)
 
 read-input-requires : tie.Need-read-input-requires
 read-input-requires c κs = search needs
@@ -46,35 +46,41 @@ same-length-8 c = end c .feed-end .kept .1 .1 .1 .1 .1 .1 .1 .0 ∙ read-before 
 same-length-9 : tie.Need-same-length-9
 same-length-9 c = end c .feed-end .kept .1 .1 .1 .1 .1 .1 .1 .1 .0 ∙ read-before (end c) .read-input .kept .1 .1 .1 .1 .1 .1 .1 .1 .0
 
+same-length-10 : tie.Need-same-length-10
+same-length-10 c = end c .feed-end .kept .1 .1 .1 .1 .1 .1 .1 .1 .1 .0 ∙ read-before (end c) .read-input .kept .1 .1 .1 .1 .1 .1 .1 .1 .1 .0
+
 returns : tie.Need-returns
 returns c = search needs
 
-same-length-10 : tie.Need-same-length-10
-same-length-10 c = read (c .before) .read-input .kept .0
-
 same-length-11 : tie.Need-same-length-11
-same-length-11 c = read (c .before) .read-input .kept .1 .0
+same-length-11 c = read (c .before) .read-input .kept .0
 
 same-length-12 : tie.Need-same-length-12
-same-length-12 c = read (c .before) .read-input .kept .1 .1 .0
+same-length-12 c = read (c .before) .read-input .kept .1 .0
 
 same-length-13 : tie.Need-same-length-13
-same-length-13 c = read (c .before) .read-input .kept .1 .1 .1 .0
+same-length-13 c = read (c .before) .read-input .kept .1 .1 .0
 
 same-length-14 : tie.Need-same-length-14
-same-length-14 c = read (c .before) .read-input .kept .1 .1 .1 .1 .0
+same-length-14 c = read (c .before) .read-input .kept .1 .1 .1 .0
 
 same-length-15 : tie.Need-same-length-15
-same-length-15 c = read (c .before) .read-input .kept .1 .1 .1 .1 .1 .0
+same-length-15 c = read (c .before) .read-input .kept .1 .1 .1 .1 .0
 
 same-length-16 : tie.Need-same-length-16
-same-length-16 c = read (c .before) .read-input .kept .1 .1 .1 .1 .1 .1 .0
+same-length-16 c = read (c .before) .read-input .kept .1 .1 .1 .1 .1 .0
 
 same-length-17 : tie.Need-same-length-17
-same-length-17 c = read (c .before) .read-input .kept .1 .1 .1 .1 .1 .1 .1 .0
+same-length-17 c = read (c .before) .read-input .kept .1 .1 .1 .1 .1 .1 .0
 
 same-length-18 : tie.Need-same-length-18
-same-length-18 c = read (c .before) .read-input .kept .1 .1 .1 .1 .1 .1 .1 .1 .0
+same-length-18 c = read (c .before) .read-input .kept .1 .1 .1 .1 .1 .1 .1 .0
+
+same-length-19 : tie.Need-same-length-19
+same-length-19 c = read (c .before) .read-input .kept .1 .1 .1 .1 .1 .1 .1 .1 .0
+
+same-length-20 : tie.Need-same-length-20
+same-length-20 c = read (c .before) .read-input .kept .1 .1 .1 .1 .1 .1 .1 .1 .1 .0
 
 returns-2 : tie.Need-returns-2
 returns-2 c = search needs
@@ -94,8 +100,8 @@ run-spec =
     same-length-7
     same-length-8
     same-length-9
-    returns
     same-length-10
+    returns
     same-length-11
     same-length-12
     same-length-13
@@ -104,4 +110,6 @@ run-spec =
     same-length-16
     same-length-17
     same-length-18
+    same-length-19
+    same-length-20
     returns-2)

@@ -9,25 +9,26 @@ use Rattle.trace_test.proofs.feed_pieces.Statement.{statement}
 use Rattle.trace_test.proofs.feed_pieces.Tie as tie
 
 abbrev Inv-loop : tie.InvT-loop
-Inv-loop input buffer₀ out₀ slots₀ rates₀ credits₀ queues₀ copy₀ flight₀ fed₀ from₀ buffer out slots rates credits queues copy flight fed from =
+Inv-loop input buffer₀ out₀ slots₀ rates₀ credits₀ queues₀ given₀ copy₀ flight₀ fed₀ from₀ buffer out slots rates credits queues given copy flight fed from =
     (length buffer ≡ length buffer₀)
     × (length out ≡ length out₀)
     × (length slots ≡ length slots₀)
     × (length rates ≡ length rates₀)
     × (length credits ≡ length credits₀)
     × (length queues ≡ length queues₀)
+    × (length given ≡ length given₀)
     × (length copy ≡ length copy₀)
     × (length flight ≡ length flight₀)
 
 abbrev μ-loop : tie.MeasureT-loop
-μ-loop input buffer₀ out₀ slots₀ rates₀ credits₀ queues₀ copy₀ flight₀ fed₀ from₀ buffer out slots rates credits queues copy flight fed from =
+μ-loop input buffer₀ out₀ slots₀ rates₀ credits₀ queues₀ given₀ copy₀ flight₀ fed₀ from₀ buffer out slots rates credits queues given copy flight fed from =
     length input - from
 
 begin-requires : tie.Need-begin-requires Inv-loop μ-loop
 begin-requires c κs = search needs
 
 loop-holds : tie.Need-loop-holds Inv-loop μ-loop
-loop-holds c = (refl, refl, refl, refl, refl, refl, refl, refl)
+loop-holds c = (refl, refl, refl, refl, refl, refl, refl, refl, refl)
 
 piece-end-requires : tie.Need-piece-end-requires Inv-loop μ-loop
 piece-end-requires c κs = let way = c .before in ltb-true (way .before .before .loop .from) _ (way .if1 .taken)
@@ -45,12 +46,12 @@ feed-text-requires : tie.Need-feed-text-requires Inv-loop μ-loop
 feed-text-requires c κs = search needs
 
 loop-less : tie.Need-loop-less Inv-loop μ-loop
-loop-less c = let call = c .before .before .before .before .before .before .before .before .before .before .before .before .before .before .before .before in let e = call .before .before .before .before .before .before .before .before .before .before .piece-end .ensures in omega (arith, e .0, e .1)
+loop-less c = let call = c .before .before .before .before .before .before .before .before .before .before .before .before .before .before .before .before .before .before in let e = call .before .before .before .before .before .before .before .before .before .before .before .piece-end .ensures in omega (arith, e .0, e .1)
 
 loop-again : tie.Need-loop-again Inv-loop μ-loop
 loop-again c =
-    let call = c .before .before .before .before .before .before .before .before .before .before .before .before .before .before .before .before in
-    let h = call .before .before .before .before .before .before .before .before .before .before .before .before .before .before .loop .inv in (
+    let call = c .before .before .before .before .before .before .before .before .before .before .before .before .before .before .before .before .before .before in
+    let h = call .before .before .before .before .before .before .before .before .before .before .before .before .before .before .before .loop .inv in (
       call .feed-text .kept .1 .1 .0 ∙ h .0,
       call .feed-text .kept .1 .1 .1 .0 ∙ h .1,
       call .feed-text .kept .1 .1 .1 .1 .0 ∙ h .2,
@@ -59,6 +60,7 @@ loop-again c =
       call .feed-text .kept .1 .1 .1 .1 .1 .1 .1 .0 ∙ h .5,
       call .feed-text .kept .1 .1 .1 .1 .1 .1 .1 .1 .0 ∙ h .6,
       call .feed-text .kept .1 .1 .1 .1 .1 .1 .1 .1 .1 .0 ∙ h .7,
+      call .feed-text .kept .1 .1 .1 .1 .1 .1 .1 .1 .1 .1 .0 ∙ h .8,
     )
 
 same-length : tie.Need-same-length Inv-loop μ-loop
@@ -85,32 +87,38 @@ same-length-7 c = c .before .before .loop .inv .6
 same-length-8 : tie.Need-same-length-8 Inv-loop μ-loop
 same-length-8 c = c .before .before .loop .inv .7
 
+same-length-9 : tie.Need-same-length-9 Inv-loop μ-loop
+same-length-9 c = c .before .before .loop .inv .8
+
 returns : tie.Need-returns Inv-loop μ-loop
 returns c = search needs
 
-same-length-9 : tie.Need-same-length-9 Inv-loop μ-loop
-same-length-9 c = c .before .loop .inv .0
-
 same-length-10 : tie.Need-same-length-10 Inv-loop μ-loop
-same-length-10 c = c .before .loop .inv .1
+same-length-10 c = c .before .loop .inv .0
 
 same-length-11 : tie.Need-same-length-11 Inv-loop μ-loop
-same-length-11 c = c .before .loop .inv .2
+same-length-11 c = c .before .loop .inv .1
 
 same-length-12 : tie.Need-same-length-12 Inv-loop μ-loop
-same-length-12 c = c .before .loop .inv .3
+same-length-12 c = c .before .loop .inv .2
 
 same-length-13 : tie.Need-same-length-13 Inv-loop μ-loop
-same-length-13 c = c .before .loop .inv .4
+same-length-13 c = c .before .loop .inv .3
 
 same-length-14 : tie.Need-same-length-14 Inv-loop μ-loop
-same-length-14 c = c .before .loop .inv .5
+same-length-14 c = c .before .loop .inv .4
 
 same-length-15 : tie.Need-same-length-15 Inv-loop μ-loop
-same-length-15 c = c .before .loop .inv .6
+same-length-15 c = c .before .loop .inv .5
 
 same-length-16 : tie.Need-same-length-16 Inv-loop μ-loop
-same-length-16 c = c .before .loop .inv .7
+same-length-16 c = c .before .loop .inv .6
+
+same-length-17 : tie.Need-same-length-17 Inv-loop μ-loop
+same-length-17 c = c .before .loop .inv .7
+
+same-length-18 : tie.Need-same-length-18 Inv-loop μ-loop
+same-length-18 c = c .before .loop .inv .8
 
 returns-2 : tie.Need-returns-2 Inv-loop μ-loop
 returns-2 c = search needs
@@ -138,8 +146,8 @@ feed-pieces-spec =
     same-length-6
     same-length-7
     same-length-8
-    returns
     same-length-9
+    returns
     same-length-10
     same-length-11
     same-length-12
@@ -147,4 +155,6 @@ feed-pieces-spec =
     same-length-14
     same-length-15
     same-length-16
+    same-length-17
+    same-length-18
     returns-2)
