@@ -41,97 +41,97 @@ use Rattle.calls.specs.Says.{Says, switch-of, PreviewTold}
 module _ {M : Type 1} (𝓤 : URA M) (H : Heap 𝓤) (A : Atoms 𝓤) (mem : Memory → SProp 𝓤) (run : Routine → Fun 𝓤) where
   -- `starts::start_direct`, `starts::start_pipelined`: ports, frame, line, clock, and the runs
   pub start-direct : Says 𝓤 starts-direct.ended (starts-direct.clauses 𝓤 H A mem run) (λ κs a r e. (copy flight : List ℕ)
-      → let s = switch-of (a .1 .1 .1 .0) (a .1 .1 .1 .1 .0 .now) (a .1 .1 .1 .1 .1 .0 .now) (a .1 .1 .1 .1 .1 .1 .0 .now) (a .1 .1 .1 .1 .1 .1 .1 .0 .now) copy flight in
-      of-direct s (start-outcome (effect r (direct-runs-of (e .1 .1 .1 .1 .0 .now) (e .1 .1 .1 .1 .1 .0 .now) (e .1 .1 .1 .1 .1 .1 .0 .now) (e .1 .1 .1 .1 .1 .1 .1 .0 .now)))) ≡ apply (start direct (a .0) (a .1 .0) (a .1 .1 .0)) s)
+      → let s = switch-of (a .1 .1 .1 .0) (a .1 .1 .1 .1 .0 .now) (a .1 .1 .1 .1 .1 .0 .now) (a .1 .1 .1 .1 .1 .1 .0 .now) (a .1 .1 .1 .1 .1 .1 .1 .0 .now) (a .1 .1 .1 .1 .1 .1 .1 .1 .0 .now) copy flight in
+      of-direct s (start-outcome (effect r (direct-runs-of (e .1 .1 .1 .1 .0 .now) (e .1 .1 .1 .1 .1 .0 .now) (e .1 .1 .1 .1 .1 .1 .0 .now) (e .1 .1 .1 .1 .1 .1 .1 .0 .now) (e .1 .1 .1 .1 .1 .1 .1 .1 .0 .now)))) ≡ apply (start direct (a .0) (a .1 .0) (a .1 .1 .0)) s)
   start-direct κs a g r e = fact-mono 𝓤 _ _ (λ h copy flight. Calls.start-direct _ _ _ _ _ h)
 
   pub start-pipelined : Says 𝓤 starts-pipelined.ended (starts-pipelined.clauses 𝓤 H A mem run) (λ κs a r e.
-      let s = switch-of (a .1 .1 .1 .0) (a .1 .1 .1 .1 .0 .now) (a .1 .1 .1 .1 .1 .0 .now) (a .1 .1 .1 .1 .1 .1 .0 .now) (a .1 .1 .1 .1 .1 .1 .1 .0 .now) (a .1 .1 .1 .1 .1 .1 .1 .1 .0 .now) (a .1 .1 .1 .1 .1 .1 .1 .1 .1 .0 .now) in
-      of-pipelined (start-outcome (effect r (pipelined-runs-of (e .1 .1 .1 .1 .0 .now) (e .1 .1 .1 .1 .1 .0 .now) (e .1 .1 .1 .1 .1 .1 .0 .now) (e .1 .1 .1 .1 .1 .1 .1 .0 .now) (e .1 .1 .1 .1 .1 .1 .1 .1 .0 .now) (e .1 .1 .1 .1 .1 .1 .1 .1 .1 .0 .now)))) ≡ apply (start pipelined (a .0) (a .1 .0) (a .1 .1 .0)) s)
+      let s = switch-of (a .1 .1 .1 .0) (a .1 .1 .1 .1 .0 .now) (a .1 .1 .1 .1 .1 .0 .now) (a .1 .1 .1 .1 .1 .1 .0 .now) (a .1 .1 .1 .1 .1 .1 .1 .0 .now) (a .1 .1 .1 .1 .1 .1 .1 .1 .0 .now) (a .1 .1 .1 .1 .1 .1 .1 .1 .1 .0 .now) (a .1 .1 .1 .1 .1 .1 .1 .1 .1 .1 .0 .now) in
+      of-pipelined (start-outcome (effect r (pipelined-runs-of (e .1 .1 .1 .1 .0 .now) (e .1 .1 .1 .1 .1 .0 .now) (e .1 .1 .1 .1 .1 .1 .0 .now) (e .1 .1 .1 .1 .1 .1 .1 .0 .now) (e .1 .1 .1 .1 .1 .1 .1 .1 .0 .now) (e .1 .1 .1 .1 .1 .1 .1 .1 .1 .0 .now) (e .1 .1 .1 .1 .1 .1 .1 .1 .1 .1 .0 .now)))) ≡ apply (start pipelined (a .0) (a .1 .0) (a .1 .1 .0)) s)
   start-pipelined κs a g r e = fact-mono 𝓤 _ _ (λ h. Calls.start-pipelined _ _ _ _ _ h)
 
   -- `book::book`, `book::book_rate`, `book::release`, `book::release_rate`: clock, slots, rates, input, output, and the amount or rate
-  pub books : Says 𝓤 book-book.ended (book-book.clauses 𝓤 H A mem run) (λ κs a r e. (credits queues copy flight : List ℕ)
-      → let s = switch-of (a .0) (a .1 .0 .now) (a .1 .1 .0 .now) credits queues copy flight in
+  pub books : Says 𝓤 book-book.ended (book-book.clauses 𝓤 H A mem run) (λ κs a r e. (credits queues given copy flight : List ℕ)
+      → let s = switch-of (a .0) (a .1 .0 .now) (a .1 .1 .0 .now) credits queues given copy flight in
       of-book s (effect r (book-of (e .1 .0 .now) (a .1 .1 .0 .now))) ≡ apply (book (a .1 .1 .1 .0 .0) (a .1 .1 .1 .1 .0 .0) (a .1 .1 .1 .1 .1 .0 .0)) s)
-  books κs a g r e = fact-mono 𝓤 _ _ (λ h credits queues copy flight. Calls.books _ _ _ _ _ h)
+  books κs a g r e = fact-mono 𝓤 _ _ (λ h credits queues given copy flight. Calls.books _ _ _ _ _ h)
 
-  pub books-rate : Says 𝓤 book-rate-book.ended (book-rate-book.clauses 𝓤 H A mem run) (λ κs a r e. (credits queues copy flight : List ℕ)
-      → let s = switch-of (a .0) (a .1 .0 .now) (a .1 .1 .0 .now) credits queues copy flight in
+  pub books-rate : Says 𝓤 book-rate-book.ended (book-rate-book.clauses 𝓤 H A mem run) (λ κs a r e. (credits queues given copy flight : List ℕ)
+      → let s = switch-of (a .0) (a .1 .0 .now) (a .1 .1 .0 .now) credits queues given copy flight in
       of-book s (effect r (book-of (a .1 .0 .now) (e .1 .1 .0 .now))) ≡ apply (book-rate (a .1 .1 .1 .0 .0) (a .1 .1 .1 .1 .0 .0) (a .1 .1 .1 .1 .1 .0)) s)
-  books-rate κs a g r e = fact-mono 𝓤 _ _ (λ h credits queues copy flight. Calls.books-rate _ _ _ _ _ h)
+  books-rate κs a g r e = fact-mono 𝓤 _ _ (λ h credits queues given copy flight. Calls.books-rate _ _ _ _ _ h)
 
-  pub releases : Says 𝓤 book-release.ended (book-release.clauses 𝓤 H A mem run) (λ κs a r e. (credits queues copy flight : List ℕ)
-      → let s = switch-of (a .0) (a .1 .0 .now) (a .1 .1 .0 .now) credits queues copy flight in
+  pub releases : Says 𝓤 book-release.ended (book-release.clauses 𝓤 H A mem run) (λ κs a r e. (credits queues given copy flight : List ℕ)
+      → let s = switch-of (a .0) (a .1 .0 .now) (a .1 .1 .0 .now) credits queues given copy flight in
       of-book s (effect r (book-of (e .1 .0 .now) (a .1 .1 .0 .now))) ≡ apply (release (a .1 .1 .1 .0 .0) (a .1 .1 .1 .1 .0 .0) (a .1 .1 .1 .1 .1 .0 .0)) s)
-  releases κs a g r e = fact-mono 𝓤 _ _ (λ h credits queues copy flight. Calls.releases _ _ _ _ _ h)
+  releases κs a g r e = fact-mono 𝓤 _ _ (λ h credits queues given copy flight. Calls.releases _ _ _ _ _ h)
 
-  pub releases-rate : Says 𝓤 book-release-rate.ended (book-release-rate.clauses 𝓤 H A mem run) (λ κs a r e. (credits queues copy flight : List ℕ)
-      → let s = switch-of (a .0) (a .1 .0 .now) (a .1 .1 .0 .now) credits queues copy flight in
+  pub releases-rate : Says 𝓤 book-release-rate.ended (book-release-rate.clauses 𝓤 H A mem run) (λ κs a r e. (credits queues given copy flight : List ℕ)
+      → let s = switch-of (a .0) (a .1 .0 .now) (a .1 .1 .0 .now) credits queues given copy flight in
       of-book s (effect r (book-of (a .1 .0 .now) (e .1 .1 .0 .now))) ≡ apply (release-rate (a .1 .1 .1 .0 .0) (a .1 .1 .1 .1 .0 .0) (a .1 .1 .1 .1 .1 .0)) s)
-  releases-rate κs a g r e = fact-mono 𝓤 _ _ (λ h credits queues copy flight. Calls.releases-rate _ _ _ _ _ h)
+  releases-rate κs a g r e = fact-mono 𝓤 _ _ (λ h credits queues given copy flight. Calls.releases-rate _ _ _ _ _ h)
 
   -- `book::headroom`: clock, slots, rates, input, output; besides, its number is that of the switch
-  pub asks-headroom : Says 𝓤 book-headroom.ended (book-headroom.clauses 𝓤 H A mem run) (λ κs a r e. (credits queues copy flight : List ℕ)
-      → let s = switch-of (a .0) (a .1 .0 .now) (a .1 .1 .0 .now) credits queues copy flight in
+  pub asks-headroom : Says 𝓤 book-headroom.ended (book-headroom.clauses 𝓤 H A mem run) (λ κs a r e. (credits queues given copy flight : List ℕ)
+      → let s = switch-of (a .0) (a .1 .0 .now) (a .1 .1 .0 .now) credits queues given copy flight in
       (of-asking s (r .refusal) ≡ apply (headroom (a .1 .1 .1 .0 .0) (a .1 .1 .1 .1 .0 .0)) s)
       × (r .headroom ≡ headroom-result (s .clock) (s .book) (a .1 .1 .1 .0 .0) (a .1 .1 .1 .1 .0 .0) .headroom))
-  asks-headroom κs a g r e = fact-mono 𝓤 _ _ (λ h credits queues copy flight. (Calls.asks-headroom _ _ _ _ h, ap (λ x. x .headroom) h))
+  asks-headroom κs a g r e = fact-mono 𝓤 _ _ (λ h credits queues given copy flight. (Calls.asks-headroom _ _ _ _ h, ap (λ x. x .headroom) h))
 
   -- `book::preview_book`, `book::preview_book_rate`, `book::preview_release`, `book::preview_release_rate`: clock, slots, rates, input, output, and the
   -- amount or rate; besides, number and sums are those of the switch
-  pub previews-book : Says 𝓤 book-preview-book.ended (book-preview-book.clauses 𝓤 H A mem run) (λ κs a r e. (credits queues copy flight : List ℕ)
-      → PreviewTold (switch-of (a .0) (a .1 .0 .now) (a .1 .1 .0 .now) credits queues copy flight) slots-booking (a .1 .1 .1 .0 .0) (a .1 .1 .1 .1 .0 .0) (a .1 .1 .1 .1 .1 .0 .0) r)
-  previews-book κs a g r e = fact-mono 𝓤 _ _ (λ h credits queues copy flight. (Calls.asks-preview _ _ _ _ _ _ h, h))
+  pub previews-book : Says 𝓤 book-preview-book.ended (book-preview-book.clauses 𝓤 H A mem run) (λ κs a r e. (credits queues given copy flight : List ℕ)
+      → PreviewTold (switch-of (a .0) (a .1 .0 .now) (a .1 .1 .0 .now) credits queues given copy flight) slots-booking (a .1 .1 .1 .0 .0) (a .1 .1 .1 .1 .0 .0) (a .1 .1 .1 .1 .1 .0 .0) r)
+  previews-book κs a g r e = fact-mono 𝓤 _ _ (λ h credits queues given copy flight. (Calls.asks-preview _ _ _ _ _ _ h, h))
 
-  pub previews-book-rate : Says 𝓤 book-preview-book-rate.ended (book-preview-book-rate.clauses 𝓤 H A mem run) (λ κs a r e. (credits queues copy flight : List ℕ)
-      → PreviewTold (switch-of (a .0) (a .1 .0 .now) (a .1 .1 .0 .now) credits queues copy flight) rate-booking (a .1 .1 .1 .0 .0) (a .1 .1 .1 .1 .0 .0) (a .1 .1 .1 .1 .1 .0) r)
-  previews-book-rate κs a g r e = fact-mono 𝓤 _ _ (λ h credits queues copy flight. (Calls.asks-preview _ _ _ _ _ _ h, h))
+  pub previews-book-rate : Says 𝓤 book-preview-book-rate.ended (book-preview-book-rate.clauses 𝓤 H A mem run) (λ κs a r e. (credits queues given copy flight : List ℕ)
+      → PreviewTold (switch-of (a .0) (a .1 .0 .now) (a .1 .1 .0 .now) credits queues given copy flight) rate-booking (a .1 .1 .1 .0 .0) (a .1 .1 .1 .1 .0 .0) (a .1 .1 .1 .1 .1 .0) r)
+  previews-book-rate κs a g r e = fact-mono 𝓤 _ _ (λ h credits queues given copy flight. (Calls.asks-preview _ _ _ _ _ _ h, h))
 
-  pub previews-release : Says 𝓤 book-preview-release.ended (book-preview-release.clauses 𝓤 H A mem run) (λ κs a r e. (credits queues copy flight : List ℕ)
-      → PreviewTold (switch-of (a .0) (a .1 .0 .now) (a .1 .1 .0 .now) credits queues copy flight) slots-release (a .1 .1 .1 .0 .0) (a .1 .1 .1 .1 .0 .0) (a .1 .1 .1 .1 .1 .0 .0) r)
-  previews-release κs a g r e = fact-mono 𝓤 _ _ (λ h credits queues copy flight. (Calls.asks-preview _ _ _ _ _ _ h, h))
+  pub previews-release : Says 𝓤 book-preview-release.ended (book-preview-release.clauses 𝓤 H A mem run) (λ κs a r e. (credits queues given copy flight : List ℕ)
+      → PreviewTold (switch-of (a .0) (a .1 .0 .now) (a .1 .1 .0 .now) credits queues given copy flight) slots-release (a .1 .1 .1 .0 .0) (a .1 .1 .1 .1 .0 .0) (a .1 .1 .1 .1 .1 .0 .0) r)
+  previews-release κs a g r e = fact-mono 𝓤 _ _ (λ h credits queues given copy flight. (Calls.asks-preview _ _ _ _ _ _ h, h))
 
-  pub previews-release-rate : Says 𝓤 book-preview-release-rate.ended (book-preview-release-rate.clauses 𝓤 H A mem run) (λ κs a r e. (credits queues copy flight : List ℕ)
-      → PreviewTold (switch-of (a .0) (a .1 .0 .now) (a .1 .1 .0 .now) credits queues copy flight) rate-release (a .1 .1 .1 .0 .0) (a .1 .1 .1 .1 .0 .0) (a .1 .1 .1 .1 .1 .0) r)
-  previews-release-rate κs a g r e = fact-mono 𝓤 _ _ (λ h credits queues copy flight. (Calls.asks-preview _ _ _ _ _ _ h, h))
+  pub previews-release-rate : Says 𝓤 book-preview-release-rate.ended (book-preview-release-rate.clauses 𝓤 H A mem run) (λ κs a r e. (credits queues given copy flight : List ℕ)
+      → PreviewTold (switch-of (a .0) (a .1 .0 .now) (a .1 .1 .0 .now) credits queues given copy flight) rate-release (a .1 .1 .1 .0 .0) (a .1 .1 .1 .1 .0 .0) (a .1 .1 .1 .1 .1 .0) r)
+  previews-release-rate κs a g r e = fact-mono 𝓤 _ _ (λ h credits queues given copy flight. (Calls.asks-preview _ _ _ _ _ _ h, h))
 
   -- `book::arrive`: clock, queues, input, output, packets
-  pub arrives : Says 𝓤 book-arrive.ended (book-arrive.clauses 𝓤 H A mem run) (λ κs a r e. (slots rates credits copy flight : List ℕ)
-      → let s = switch-of (a .0) slots rates credits (a .1 .0 .now) copy flight in
+  pub arrives : Says 𝓤 book-arrive.ended (book-arrive.clauses 𝓤 H A mem run) (λ κs a r e. (slots rates credits given copy flight : List ℕ)
+      → let s = switch-of (a .0) slots rates credits (a .1 .0 .now) given copy flight in
       of-queues s (effect r (e .1 .0 .now)) ≡ apply (arrive (a .1 .1 .0 .0) (a .1 .1 .1 .0 .0) (a .1 .1 .1 .1 .0)) s)
-  arrives κs a g r e = fact-mono 𝓤 _ _ (λ h slots rates credits copy flight. Calls.arrives _ _ _ _ _ h)
+  arrives κs a g r e = fact-mono 𝓤 _ _ (λ h slots rates credits given copy flight. Calls.arrives _ _ _ _ _ h)
 
-  -- `direct::tick`: clock, slots, rates, credits, queues
+  -- `direct::tick`: clock, slots, rates, credits, queues, last given outputs
   pub tick-direct : Says 𝓤 direct-tick.ended (direct-tick.clauses 𝓤 H A mem run) (λ κs a r e. (copy flight : List ℕ)
-      → let s = switch-of (a .0) (a .1 .0 .now) (a .1 .1 .0 .now) (a .1 .1 .1 .0 .now) (a .1 .1 .1 .1 .0 .now) copy flight in
-      of-direct s (tick-outcome (effect r (direct-runs-of (a .1 .0 .now) (a .1 .1 .0 .now) (e .1 .1 .1 .0 .now) (e .1 .1 .1 .1 .0 .now)))) ≡ apply (tick direct) s)
+      → let s = switch-of (a .0) (a .1 .0 .now) (a .1 .1 .0 .now) (a .1 .1 .1 .0 .now) (a .1 .1 .1 .1 .0 .now) (a .1 .1 .1 .1 .1 .0 .now) copy flight in
+      of-direct s (tick-outcome (effect r (direct-runs-of (a .1 .0 .now) (a .1 .1 .0 .now) (e .1 .1 .1 .0 .now) (e .1 .1 .1 .1 .0 .now) (e .1 .1 .1 .1 .1 .0 .now)))) ≡ apply (tick direct) s)
   tick-direct κs a g r e = fact-mono 𝓤 _ _ (λ h copy flight. Calls.tick-direct _ _ h)
 
-  -- `pipelined::tick`: clock, slots, rates, credits, queues, frame copy, rows in flight
+  -- `pipelined::tick`: clock, slots, rates, credits, queues, last given outputs, frame copy, rows in flight
   pub tick-pipelined : Says 𝓤 pipelined-tick.ended (pipelined-tick.clauses 𝓤 H A mem run) (λ κs a r e.
-      let s = switch-of (a .0) (a .1 .0 .now) (a .1 .1 .0 .now) (a .1 .1 .1 .0 .now) (a .1 .1 .1 .1 .0 .now) (a .1 .1 .1 .1 .1 .0 .now) (a .1 .1 .1 .1 .1 .1 .0 .now) in
-      of-pipelined (tick-outcome (effect r (pipelined-runs-of (a .1 .0 .now) (a .1 .1 .0 .now) (e .1 .1 .1 .0 .now) (e .1 .1 .1 .1 .0 .now) (e .1 .1 .1 .1 .1 .0 .now) (e .1 .1 .1 .1 .1 .1 .0 .now)))) ≡ apply (tick pipelined) s)
+      let s = switch-of (a .0) (a .1 .0 .now) (a .1 .1 .0 .now) (a .1 .1 .1 .0 .now) (a .1 .1 .1 .1 .0 .now) (a .1 .1 .1 .1 .1 .0 .now) (a .1 .1 .1 .1 .1 .1 .0 .now) (a .1 .1 .1 .1 .1 .1 .1 .0 .now) in
+      of-pipelined (tick-outcome (effect r (pipelined-runs-of (a .1 .0 .now) (a .1 .1 .0 .now) (e .1 .1 .1 .0 .now) (e .1 .1 .1 .1 .0 .now) (e .1 .1 .1 .1 .1 .0 .now) (e .1 .1 .1 .1 .1 .1 .0 .now) (e .1 .1 .1 .1 .1 .1 .1 .0 .now)))) ≡ apply (tick pipelined) s)
   tick-pipelined κs a g r e = fact-mono 𝓤 _ _ (λ h. Calls.tick-pipelined _ _ h)
 
   -- `clock::step_direct`, `clock::step_pipelined`: the same
   pub step-direct : Says 𝓤 clock-step-direct.ended (clock-step-direct.clauses 𝓤 H A mem run) (λ κs a r e. (copy flight : List ℕ)
-      → let s = switch-of (a .0) (a .1 .0 .now) (a .1 .1 .0 .now) (a .1 .1 .1 .0 .now) (a .1 .1 .1 .1 .0 .now) copy flight in
-      of-direct s (tick-outcome (effect r (direct-runs-of (a .1 .0 .now) (a .1 .1 .0 .now) (e .1 .1 .1 .0 .now) (e .1 .1 .1 .1 .0 .now)))) ≡ apply (tick direct) s)
+      → let s = switch-of (a .0) (a .1 .0 .now) (a .1 .1 .0 .now) (a .1 .1 .1 .0 .now) (a .1 .1 .1 .1 .0 .now) (a .1 .1 .1 .1 .1 .0 .now) copy flight in
+      of-direct s (tick-outcome (effect r (direct-runs-of (a .1 .0 .now) (a .1 .1 .0 .now) (e .1 .1 .1 .0 .now) (e .1 .1 .1 .1 .0 .now) (e .1 .1 .1 .1 .1 .0 .now)))) ≡ apply (tick direct) s)
   step-direct κs a g r e = fact-mono 𝓤 _ _ (λ h copy flight. Calls.tick-direct _ _ h)
 
   pub step-pipelined : Says 𝓤 clock-step-pipelined.ended (clock-step-pipelined.clauses 𝓤 H A mem run) (λ κs a r e.
-      let s = switch-of (a .0) (a .1 .0 .now) (a .1 .1 .0 .now) (a .1 .1 .1 .0 .now) (a .1 .1 .1 .1 .0 .now) (a .1 .1 .1 .1 .1 .0 .now) (a .1 .1 .1 .1 .1 .1 .0 .now) in
-      of-pipelined (tick-outcome (effect r (pipelined-runs-of (a .1 .0 .now) (a .1 .1 .0 .now) (e .1 .1 .1 .0 .now) (e .1 .1 .1 .1 .0 .now) (e .1 .1 .1 .1 .1 .0 .now) (e .1 .1 .1 .1 .1 .1 .0 .now)))) ≡ apply (tick pipelined) s)
+      let s = switch-of (a .0) (a .1 .0 .now) (a .1 .1 .0 .now) (a .1 .1 .1 .0 .now) (a .1 .1 .1 .1 .0 .now) (a .1 .1 .1 .1 .1 .0 .now) (a .1 .1 .1 .1 .1 .1 .0 .now) (a .1 .1 .1 .1 .1 .1 .1 .0 .now) in
+      of-pipelined (tick-outcome (effect r (pipelined-runs-of (a .1 .0 .now) (a .1 .1 .0 .now) (e .1 .1 .1 .0 .now) (e .1 .1 .1 .1 .0 .now) (e .1 .1 .1 .1 .1 .0 .now) (e .1 .1 .1 .1 .1 .1 .0 .now) (e .1 .1 .1 .1 .1 .1 .1 .0 .now)))) ≡ apply (tick pipelined) s)
   step-pipelined κs a g r e = fact-mono 𝓤 _ _ (λ h. Calls.tick-pipelined _ _ h)
 
   -- `clock::tick_direct`, `clock::tick_pipelined`: the clock is lent, and seen at exit like the runs
   pub tick-direct-in-place : Says 𝓤 clock-tick-direct.ended (clock-tick-direct.clauses 𝓤 H A mem run) (λ κs a r e. (copy flight : List ℕ)
-      → let s = switch-of (a .0 .now) (a .1 .0 .now) (a .1 .1 .0 .now) (a .1 .1 .1 .0 .now) (a .1 .1 .1 .1 .0 .now) copy flight in
-      of-direct s (tick-outcome (effect (result-of (e .0 .now) r) (direct-runs-of (a .1 .0 .now) (a .1 .1 .0 .now) (e .1 .1 .1 .0 .now) (e .1 .1 .1 .1 .0 .now)))) ≡ apply (tick direct) s)
+      → let s = switch-of (a .0 .now) (a .1 .0 .now) (a .1 .1 .0 .now) (a .1 .1 .1 .0 .now) (a .1 .1 .1 .1 .0 .now) (a .1 .1 .1 .1 .1 .0 .now) copy flight in
+      of-direct s (tick-outcome (effect (result-of (e .0 .now) r) (direct-runs-of (a .1 .0 .now) (a .1 .1 .0 .now) (e .1 .1 .1 .0 .now) (e .1 .1 .1 .1 .0 .now) (e .1 .1 .1 .1 .1 .0 .now)))) ≡ apply (tick direct) s)
   tick-direct-in-place κs a g r e = fact-mono 𝓤 _ _ (λ h copy flight. Calls.tick-direct _ _ (ap by-value h))
 
   pub tick-pipelined-in-place : Says 𝓤 clock-tick-pipelined.ended (clock-tick-pipelined.clauses 𝓤 H A mem run) (λ κs a r e.
-      let s = switch-of (a .0 .now) (a .1 .0 .now) (a .1 .1 .0 .now) (a .1 .1 .1 .0 .now) (a .1 .1 .1 .1 .0 .now) (a .1 .1 .1 .1 .1 .0 .now) (a .1 .1 .1 .1 .1 .1 .0 .now) in
-      of-pipelined (tick-outcome (effect (result-of (e .0 .now) r) (pipelined-runs-of (a .1 .0 .now) (a .1 .1 .0 .now) (e .1 .1 .1 .0 .now) (e .1 .1 .1 .1 .0 .now) (e .1 .1 .1 .1 .1 .0 .now) (e .1 .1 .1 .1 .1 .1 .0 .now)))) ≡ apply (tick pipelined) s)
+      let s = switch-of (a .0 .now) (a .1 .0 .now) (a .1 .1 .0 .now) (a .1 .1 .1 .0 .now) (a .1 .1 .1 .1 .0 .now) (a .1 .1 .1 .1 .1 .0 .now) (a .1 .1 .1 .1 .1 .1 .0 .now) (a .1 .1 .1 .1 .1 .1 .1 .0 .now) in
+      of-pipelined (tick-outcome (effect (result-of (e .0 .now) r) (pipelined-runs-of (a .1 .0 .now) (a .1 .1 .0 .now) (e .1 .1 .1 .0 .now) (e .1 .1 .1 .1 .0 .now) (e .1 .1 .1 .1 .1 .0 .now) (e .1 .1 .1 .1 .1 .1 .0 .now) (e .1 .1 .1 .1 .1 .1 .1 .0 .now)))) ≡ apply (tick pipelined) s)
   tick-pipelined-in-place κs a g r e = fact-mono 𝓤 _ _ (λ h. Calls.tick-pipelined _ _ (ap by-value h))

@@ -29,8 +29,8 @@ Says 𝓤 T c φ =
     → ent 𝓤 (c κs a .ensures g r e) (fact 𝓤 (φ κs a r e))
 
 -- the switch that a clock and runs make
-abbrev pub switch-of : Clock → (slots rates credits queues copy flight : List ℕ) → Switch
-switch-of k s r c q p f = record { clock = k; book = book-of s r; credits = c; queues = q; copy = p; flight = f }
+abbrev pub switch-of : Clock → (slots rates credits queues given copy flight : List ℕ) → Switch
+switch-of k s r c q g p f = record { clock = k; book = book-of s r; credits = c; queues = q; given = g; copy = p; flight = f }
 
 -- what is told of a preview of the switch: that of the call, which changes nothing, and the sums besides
 abbrev pub PreviewTold : Switch → BookOperation → (input output amount : ℕ) → PreviewResult → Type 0

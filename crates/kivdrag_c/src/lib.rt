@@ -33,14 +33,15 @@ pub extern "C" fn kivdrag_start_direct(
     rates: &mut [u32],
     credits: &mut [u32],
     queues: &mut [u32],
+    given: &mut [u32],
 ) -> u32
     ensures outcome { λ r. ⌜ c-start r (now (clock .exit))
-        (direct-runs-of (now (slots .exit)) (now (rates .exit)) (now (credits .exit)) (now (queues .exit)))
+        (direct-runs-of (now (slots .exit)) (now (rates .exit)) (now (credits .exit)) (now (queues .exit)) (now (given .exit)))
         ≡ c-start-of (Direct.start ports frame line (clock-in-words (now (clock .entry)))
-        (direct-runs-of (now (slots .entry)) (now (rates .entry)) (now (credits .entry)) (now (queues .entry)))) ⌝ }
+        (direct-runs-of (now (slots .entry)) (now (rates .entry)) (now (credits .entry)) (now (queues .entry)) (now (given .entry)))) ⌝ }
 {
-    let before = clock_in(clock);
-    let result = starts::start_direct(ports, frame, line, before, slots, rates, credits, queues);
+    let at = clock_in(clock);
+    let result = starts::start_direct(ports, frame, line, at, slots, rates, credits, queues, given);
     put_clock(clock, result.clock);
     result.refusal
 }
@@ -56,15 +57,16 @@ pub extern "C" fn kivdrag_start_pipelined(
     rates: &mut [u32],
     credits: &mut [u32],
     queues: &mut [u32],
+    given: &mut [u32],
     copy: &mut [u32],
     flight: &mut [u32],
 ) -> u32
     ensures outcome { λ r. ⌜ c-start r (now (clock .exit))
         (pipelined-runs-of (now (slots .exit)) (now (rates .exit)) (now (credits .exit)) (now (queues .exit))
-        (now (copy .exit)) (now (flight .exit)))
+        (now (given .exit)) (now (copy .exit)) (now (flight .exit)))
         ≡ c-start-of (Pipelined.start ports frame line (clock-in-words (now (clock .entry)))
         (pipelined-runs-of (now (slots .entry)) (now (rates .entry)) (now (credits .entry)) (now (queues .entry))
-        (now (copy .entry)) (now (flight .entry)))) ⌝ }
+        (now (given .entry)) (now (copy .entry)) (now (flight .entry)))) ⌝ }
 {
     let before = clock_in(clock);
     let result = starts::start_pipelined(
@@ -76,6 +78,7 @@ pub extern "C" fn kivdrag_start_pipelined(
         rates,
         credits,
         queues,
+        given,
         copy,
         flight,
     );
@@ -288,16 +291,17 @@ pub extern "C" fn kivdrag_tick_direct(
     rates: &[u32],
     credits: &mut [u32],
     queues: &mut [u32],
+    given: &mut [u32],
     outputs: &mut [u8; 32],
     first_pass: &mut u32,
 ) -> u32
     ensures outcome { λ r. ⌜ c-tick r (now (clock .exit)) (now (outputs .exit)) (now («first_pass» .exit))
-        (direct-runs-of (now (slots .entry)) (now (rates .entry)) (now (credits .exit)) (now (queues .exit)))
+        (direct-runs-of (now (slots .entry)) (now (rates .entry)) (now (credits .exit)) (now (queues .exit)) (now (given .exit)))
         ≡ c-tick-of (Direct.tick (clock-in-words (now (clock .entry)))
-        (direct-runs-of (now (slots .entry)) (now (rates .entry)) (now (credits .entry)) (now (queues .entry)))) ⌝ }
+        (direct-runs-of (now (slots .entry)) (now (rates .entry)) (now (credits .entry)) (now (queues .entry)) (now (given .entry)))) ⌝ }
 {
     let before = clock_in(clock);
-    let result = clock::step_direct(before, slots, rates, credits, queues);
+    let result = clock::step_direct(before, slots, rates, credits, queues, given);
     put_result(result, clock, outputs, first_pass)
 }
 
@@ -309,6 +313,7 @@ pub extern "C" fn kivdrag_tick_pipelined(
     rates: &[u32],
     credits: &mut [u32],
     queues: &mut [u32],
+    given: &mut [u32],
     copy: &mut [u32],
     flight: &mut [u32],
     outputs: &mut [u8; 32],
@@ -316,12 +321,12 @@ pub extern "C" fn kivdrag_tick_pipelined(
 ) -> u32
     ensures outcome { λ r. ⌜ c-tick r (now (clock .exit)) (now (outputs .exit)) (now («first_pass» .exit))
         (pipelined-runs-of (now (slots .entry)) (now (rates .entry)) (now (credits .exit)) (now (queues .exit))
-        (now (copy .exit)) (now (flight .exit)))
+        (now (given .exit)) (now (copy .exit)) (now (flight .exit)))
         ≡ c-tick-of (Pipelined.tick (clock-in-words (now (clock .entry)))
         (pipelined-runs-of (now (slots .entry)) (now (rates .entry)) (now (credits .entry)) (now (queues .entry))
-        (now (copy .entry)) (now (flight .entry)))) ⌝ }
+        (now (given .entry)) (now (copy .entry)) (now (flight .entry)))) ⌝ }
 {
     let before = clock_in(clock);
-    let result = clock::step_pipelined(before, slots, rates, credits, queues, copy, flight);
+    let result = clock::step_pipelined(before, slots, rates, credits, queues, given, copy, flight);
     put_result(result, clock, outputs, first_pass)
 }

@@ -32,10 +32,13 @@ same-length-5 c = search needs
 same-length-6 : tie.Need-same-length-6
 same-length-6 c = search needs
 
+same-length-7 : tie.Need-same-length-7
+same-length-7 c = search needs
+
 returns : tie.Need-returns
 returns c =
-    let s = c .before .before .before .before .before .before .before .before .before .before .before .before .before .before in
-    let e = rw (s .before .before .before .before .before .before .before .clock-in .ensures) at (s .start-pipelined .ensures) in
+    let s = c .before .before .before .before .before .before .before .before .before .before .before .before .before .before .before .before in
+    let e = rw (s .before .before .before .before .before .before .before .before .clock-in .ensures) at (s .start-pipelined .ensures) in
     start-written e (c .put-clock .ensures)
 
 pub kivdrag-start-pipelined-spec : {M : Type 1} → statement M
@@ -51,4 +54,5 @@ kivdrag-start-pipelined-spec =
     same-length-4
     same-length-5
     same-length-6
+    same-length-7
     returns)

@@ -20,10 +20,13 @@ same-length c = search needs
 same-length-2 : tie.Need-same-length-2
 same-length-2 c = search needs
 
+same-length-3 : tie.Need-same-length-3
+same-length-3 c = search needs
+
 returns : tie.Need-returns
 returns c =
-    let s = c .before .before .before .before .before .before .before .before in
-    let e = rw (s .before .before .before .clock-in .ensures) at (s .step-direct .ensures) in
+    let s = c .before .before .before .before .before .before .before .before .before .before in
+    let e = rw (s .before .before .before .before .clock-in .ensures) at (s .step-direct .ensures) in
     tick-written e (c .put-result .ensures)
 
 pub kivdrag-tick-direct-spec : {M : Type 1} → statement M
@@ -35,4 +38,5 @@ kivdrag-tick-direct-spec =
     put-result-requires
     same-length
     same-length-2
+    same-length-3
     returns)
