@@ -69,7 +69,7 @@ note-given-requires : tie.Need-note-given-requires
 note-given-requires c κs =
     let t = c .before .before .before .before .before in
     let d = allowed (asked (t .before .before) .before) in
-    (d .port .low, (omega (arith, d .port .high), omega (arith, taken t .high, d .few)))
+    (omega (arith, d .port), (omega (arith, d .port), omega (arith, taken t .high, d .few)))
 
 same-length : tie.Need-same-length
 same-length c = search needs
