@@ -1,9 +1,7 @@
--- Laws of places, sums, differences, pairs in reach, headroom, amounts, previews and calls.
+-- Laws of places, sums, pairs in reach, amounts, calls, and what the book holds for a pair.
 pub mod Places
 pub mod Sums
-pub mod Differences
 pub mod Reach
-pub mod Headrooms
 pub mod Amounts
-pub mod Previews
 pub mod Calls
+pub mod PairSums

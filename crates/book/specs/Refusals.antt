@@ -1,14 +1,11 @@
 -- What the private functions of this crate answer, in the terms of the shared definitions, and what they require. Assumes nothing.
-use mathlib.Core.Bool.{Bool, true}
 use mathlib.Core.List.{List, [], _∷_}
 use Prim.Native.Nat.{ℕ, _*_, _≤_}
-use lib.Dec.{eqb}
 use lib.ListN.{length}
 use Rattle.wsgs.specs.declared.Clock.{Clock}
-use Rattle.wsgs.specs.Basics.{pick, Port}
+use Rattle.wsgs.specs.Basics.{Port}
 use Rattle.wsgs.specs.Bookings.{Book}
 use Rattle.wsgs.specs.Questions.{first-no, enough-held, queue-can-take, on-sums}
-use Rattle.wsgs.specs.Preview.{refused-by-sum}
 
 -- the last questions of a call: those of a booking that counts as d, 8 and 9; of a release from the run m, 10; of an arrival, 11
 unfoldable pub sums-refusal : Clock → Book → ℕ → ℕ → ℕ → ℕ
@@ -22,10 +19,6 @@ held-refusal n m i j d = first-no (enough-held n m i j d ∷ [])
 unfoldable pub queue-refusal : ℕ → List ℕ → ℕ → ℕ → ℕ → ℕ
 unfolding first-no
 queue-refusal n q i j d = first-no (queue-can-take n q i j d ∷ [])
-
--- a preview shows the sums where the operation is accepted, and where a sum did not fit
-unfoldable pub shows-sums : ℕ → Bool
-shows-sums r = pick (eqb r 0) true (refused-by-sum r)
 
 -- a run holds a matrix over the pairs of at most 32 ports
 pub record MatrixFits (n : ℕ) (m : List ℕ) : Type 0 where

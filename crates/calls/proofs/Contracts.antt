@@ -24,11 +24,11 @@ use Rattle.book.proofs.book as book-book
 use Rattle.book.proofs.book_rate as book-rate-book
 use Rattle.book.proofs.release as book-release
 use Rattle.book.proofs.release_rate as book-release-rate
-use Rattle.book.proofs.headroom as book-headroom
-use Rattle.book.proofs.preview_book as book-preview-book
-use Rattle.book.proofs.preview_book_rate as book-preview-book-rate
-use Rattle.book.proofs.preview_release as book-preview-release
-use Rattle.book.proofs.preview_release_rate as book-preview-release-rate
+use Rattle.previews.proofs.headroom as previews-headroom
+use Rattle.previews.proofs.preview_book as previews-preview-book
+use Rattle.previews.proofs.preview_book_rate as previews-preview-book-rate
+use Rattle.previews.proofs.preview_release as previews-preview-release
+use Rattle.previews.proofs.preview_release_rate as previews-preview-release-rate
 use Rattle.book.proofs.arrive as book-arrive
 use Rattle.direct.proofs.tick as direct-tick
 use Rattle.pipelined.proofs.tick as pipelined-tick
@@ -71,28 +71,28 @@ module _ {M : Type 1} (𝓤 : URA M) (H : Heap 𝓤) (A : Atoms 𝓤) (mem : Mem
       of-book s (effect r (book-of (a .1 .0 .now) (e .1 .1 .0 .now))) ≡ apply (release-rate (a .1 .1 .1 .0 .0) (a .1 .1 .1 .1 .0 .0) (a .1 .1 .1 .1 .1 .0)) s)
   releases-rate κs a g r e = fact-mono 𝓤 _ _ (λ h credits queues given copy flight. Calls.releases-rate _ _ _ _ _ h)
 
-  -- `book::headroom`: clock, slots, rates, input, output; besides, its number is that of the switch
-  pub asks-headroom : Says 𝓤 book-headroom.ended (book-headroom.clauses 𝓤 H A mem run) (λ κs a r e. (credits queues given copy flight : List ℕ)
+  -- `previews::headroom`: clock, slots, rates, input, output; besides, its number is that of the switch
+  pub asks-headroom : Says 𝓤 previews-headroom.ended (previews-headroom.clauses 𝓤 H A mem run) (λ κs a r e. (credits queues given copy flight : List ℕ)
       → let s = switch-of (a .0) (a .1 .0 .now) (a .1 .1 .0 .now) credits queues given copy flight in
       (of-asking s (r .refusal) ≡ apply (headroom (a .1 .1 .1 .0 .0) (a .1 .1 .1 .1 .0 .0)) s)
       × (r .headroom ≡ headroom-result (s .clock) (s .book) (a .1 .1 .1 .0 .0) (a .1 .1 .1 .1 .0 .0) .headroom))
   asks-headroom κs a g r e = fact-mono 𝓤 _ _ (λ h credits queues given copy flight. (Calls.asks-headroom _ _ _ _ h, ap (λ x. x .headroom) h))
 
-  -- `book::preview_book`, `book::preview_book_rate`, `book::preview_release`, `book::preview_release_rate`: clock, slots, rates, input, output, and the
-  -- amount or rate; besides, number and sums are those of the switch
-  pub previews-book : Says 𝓤 book-preview-book.ended (book-preview-book.clauses 𝓤 H A mem run) (λ κs a r e. (credits queues given copy flight : List ℕ)
+  -- `previews::preview_book`, `previews::preview_book_rate`, `previews::preview_release`, `previews::preview_release_rate`: clock, slots, rates, input,
+  -- output, and the amount or rate; besides, number and sums are those of the switch
+  pub previews-book : Says 𝓤 previews-preview-book.ended (previews-preview-book.clauses 𝓤 H A mem run) (λ κs a r e. (credits queues given copy flight : List ℕ)
       → PreviewTold (switch-of (a .0) (a .1 .0 .now) (a .1 .1 .0 .now) credits queues given copy flight) slots-booking (a .1 .1 .1 .0 .0) (a .1 .1 .1 .1 .0 .0) (a .1 .1 .1 .1 .1 .0 .0) r)
   previews-book κs a g r e = fact-mono 𝓤 _ _ (λ h credits queues given copy flight. (Calls.asks-preview _ _ _ _ _ _ h, h))
 
-  pub previews-book-rate : Says 𝓤 book-preview-book-rate.ended (book-preview-book-rate.clauses 𝓤 H A mem run) (λ κs a r e. (credits queues given copy flight : List ℕ)
+  pub previews-book-rate : Says 𝓤 previews-preview-book-rate.ended (previews-preview-book-rate.clauses 𝓤 H A mem run) (λ κs a r e. (credits queues given copy flight : List ℕ)
       → PreviewTold (switch-of (a .0) (a .1 .0 .now) (a .1 .1 .0 .now) credits queues given copy flight) rate-booking (a .1 .1 .1 .0 .0) (a .1 .1 .1 .1 .0 .0) (a .1 .1 .1 .1 .1 .0) r)
   previews-book-rate κs a g r e = fact-mono 𝓤 _ _ (λ h credits queues given copy flight. (Calls.asks-preview _ _ _ _ _ _ h, h))
 
-  pub previews-release : Says 𝓤 book-preview-release.ended (book-preview-release.clauses 𝓤 H A mem run) (λ κs a r e. (credits queues given copy flight : List ℕ)
+  pub previews-release : Says 𝓤 previews-preview-release.ended (previews-preview-release.clauses 𝓤 H A mem run) (λ κs a r e. (credits queues given copy flight : List ℕ)
       → PreviewTold (switch-of (a .0) (a .1 .0 .now) (a .1 .1 .0 .now) credits queues given copy flight) slots-release (a .1 .1 .1 .0 .0) (a .1 .1 .1 .1 .0 .0) (a .1 .1 .1 .1 .1 .0 .0) r)
   previews-release κs a g r e = fact-mono 𝓤 _ _ (λ h credits queues given copy flight. (Calls.asks-preview _ _ _ _ _ _ h, h))
 
-  pub previews-release-rate : Says 𝓤 book-preview-release-rate.ended (book-preview-release-rate.clauses 𝓤 H A mem run) (λ κs a r e. (credits queues given copy flight : List ℕ)
+  pub previews-release-rate : Says 𝓤 previews-preview-release-rate.ended (previews-preview-release-rate.clauses 𝓤 H A mem run) (λ κs a r e. (credits queues given copy flight : List ℕ)
       → PreviewTold (switch-of (a .0) (a .1 .0 .now) (a .1 .1 .0 .now) credits queues given copy flight) rate-release (a .1 .1 .1 .0 .0) (a .1 .1 .1 .1 .0 .0) (a .1 .1 .1 .1 .1 .0) r)
   previews-release-rate κs a g r e = fact-mono 𝓤 _ _ (λ h credits queues given copy flight. (Calls.asks-preview _ _ _ _ _ _ h, h))
 

@@ -16,6 +16,10 @@ mod results;
 
 use clocks::clock_in;
 use clocks::put_clock;
+use previews::preview_book;
+use previews::preview_book_rate;
+use previews::preview_release;
+use previews::preview_release_rate;
 use results::put_preview;
 use results::put_result;
 use wsgs::BookedSlots;
@@ -175,7 +179,7 @@ pub extern "C" fn kivdrag_headroom(
         (book-of (now (slots .entry)) (now (rates .entry))) input output ⌝ }
 {
     let clock = clock_in(clock);
-    let result = book::headroom(clock, slots, rates, Input(input), Output(output));
+    let result = previews::headroom(clock, slots, rates, Input(input), Output(output));
     let number = result.headroom;
     *headroom = number;
     result.refusal
@@ -199,7 +203,7 @@ pub extern "C" fn kivdrag_preview_book(
 {
     let clock = clock_in(clock);
     let amount = BookedSlots(amount);
-    let told = book::preview_book(clock, slots, rates, Input(input), Output(output), amount);
+    let told = preview_book(clock, slots, rates, Input(input), Output(output), amount);
     put_preview(told, row, column)
 }
 
@@ -220,7 +224,7 @@ pub extern "C" fn kivdrag_preview_book_rate(
         (book-of (now (slots .entry)) (now (rates .entry))) input output rate ⌝ }
 {
     let clock = clock_in(clock);
-    let told = book::preview_book_rate(clock, slots, rates, Input(input), Output(output), rate);
+    let told = preview_book_rate(clock, slots, rates, Input(input), Output(output), rate);
     put_preview(told, row, column)
 }
 
@@ -242,7 +246,7 @@ pub extern "C" fn kivdrag_preview_release(
 {
     let clock = clock_in(clock);
     let amount = BookedSlots(amount);
-    let told = book::preview_release(clock, slots, rates, Input(input), Output(output), amount);
+    let told = preview_release(clock, slots, rates, Input(input), Output(output), amount);
     put_preview(told, row, column)
 }
 
@@ -263,7 +267,7 @@ pub extern "C" fn kivdrag_preview_release_rate(
         (book-of (now (slots .entry)) (now (rates .entry))) input output rate ⌝ }
 {
     let clock = clock_in(clock);
-    let told = book::preview_release_rate(clock, slots, rates, Input(input), Output(output), rate);
+    let told = preview_release_rate(clock, slots, rates, Input(input), Output(output), rate);
     put_preview(told, row, column)
 }
 

@@ -185,7 +185,7 @@ module _ (s : Switch) where
   unfolding apply
   releases-rate i j r e h = ap (of-book s) h
 
-  -- `book::headroom`
+  -- `previews::headroom`
   pub asks-headroom : (i j : ℕ) (e : HeadroomResult) → e ≡ headroom-result (s .clock) (s .book) i j
       → of-asking s (e .refusal) ≡ apply (headroom i j) s
   unfolding apply headroom-result

@@ -1,5 +1,5 @@
--- `kivdrag_c::kivdrag_headroom` meets its contract: that of `book::headroom` at the clock that the words hold, with its number put into the lent
--- word. Assumes nothing.
+-- `kivdrag_c::kivdrag_headroom` meets its contract: that of `previews::headroom` at the clock that the words hold,
+-- with its number put into the lent word. Assumes nothing.
 use mathlib.Core.Path.{ap, _∙_}
 use mir.Syntax.{w64}
 use mir.ValLaws.{toZ-ofZ}
