@@ -61,40 +61,6 @@ fn turn_one(
     output
 }
 
-// An input's pass-two turn, likewise.
-fn turn_two(
-    asked: u32,
-    ports: usize,
-    row: usize,
-    input: Input,
-    queues: &mut [u32],
-    given: &mut [u32],
-    flight: &mut [u32],
-)
-    requires few_ports { ⌜ ports ≤ 32 ⌝ }
-    requires input { ⌜ Port ports (input .0) ⌝ }
-    requires queues_fit { ⌜ ports * ports ≤ length (now queues) ⌝ }
-    requires given_fits { ⌜ ports ≤ length (now given) ⌝ }
-    requires row_fits { ⌜ row + ports ≤ length (now flight) ⌝ }
-    requires asked { ⌜ asked ≡ ready-mask (now queues) (now queues) ((input .0 - 1) * ports) ports ⌝ }
-    ensures turn { λ _. ⌜ ((s : ℕ) → row ≡ s % (2 * ports) * ports → (c : List ℕ)
-        → turn-runs-of c (now (queues .exit)) (now (given .exit)) (now (flight .exit))
-        ≡ turn-two ports s (input .0) (turn-runs-of c (now (queues .entry)) (now (given .entry)) (now (flight .entry)))) ⌝ }
-{
-    if asked == 0 {
-        return;
-    }
-    let at = row + (input.0 - 1) as usize;
-    if output_of(ports, flight[at]).0 > 0 {
-        return;
-    }
-    let free = free_for(ports, row, flight);
-    let output = second_turn(free, asked, ports, input, queues, given);
-    if output.0 > 0 {
-        flight[at] = output.0 as u32;
-    }
-}
-
 // What an input asks for at its pass-two turn: what its sweep before pass one told, unless pass one has taken a packet since.
 fn asked_after(
     bits: &[u32; 32],
@@ -115,6 +81,45 @@ fn asked_after(
         return waiting;
     }
     second_requests(bits, ports, input, queues)
+}
+
+// An input's pass-two turn for the slot whose row begins at a place, if it has no output for it yet and asks for some: `waiting` is what it asked for by
+// its queues before pass one, and `taken` what pass one took since.
+fn turn_two(
+    bits: &[u32; 32],
+    ports: usize,
+    row: usize,
+    input: Input,
+    waiting: u32,
+    taken: Output,
+    queues: &mut [u32],
+    given: &mut [u32],
+    flight: &mut [u32],
+)
+    requires few_ports { ⌜ ports ≤ 32 ⌝ }
+    requires input { ⌜ Port ports (input .0) ⌝ }
+    requires queues_fit { ⌜ ports * ports ≤ length (now queues) ⌝ }
+    requires given_fits { ⌜ ports ≤ length (now given) ⌝ }
+    requires row_fits { ⌜ row + ports ≤ length (now flight) ⌝ }
+    requires bits { ⌜ now bits ≡ powers 0 32 ⌝ }
+    requires known { ⌜ (taken .0 ≡ 0 → waiting ≡ ready-mask (now queues) (now queues) ((input .0 - 1) * ports) ports) ⌝ }
+    ensures turn { λ _. ⌜ ((s : ℕ) → row ≡ s % (2 * ports) * ports → (c : List ℕ)
+        → turn-runs-of c (now (queues .exit)) (now (given .exit)) (now (flight .exit))
+        ≡ turn-two ports s (input .0) (turn-runs-of c (now (queues .entry)) (now (given .entry)) (now (flight .entry)))) ⌝ }
+{
+    let at = row + (input.0 - 1) as usize;
+    if output_of(ports, flight[at]).0 > 0 {
+        return;
+    }
+    let asked = asked_after(bits, ports, input, waiting, taken, queues);
+    if asked == 0 {
+        return;
+    }
+    let free = free_for(ports, row, flight);
+    let output = second_turn(free, asked, ports, input, queues, given);
+    if output.0 > 0 {
+        flight[at] = output.0 as u32;
+    }
 }
 
 // An input sets its row of credits from the frame copy where its slot of pass one is the first of a frame. `into` tells how many slots of its
@@ -198,8 +203,17 @@ fn turns_of(
             flight,
         );
         let two = row_before(ports, ahead.two, input);
-        let waiting = asked_after(bits, ports, input, asked.waiting, taken, queues);
-        turn_two(waiting, ports, two, input, queues, given, flight);
+        turn_two(
+            bits,
+            ports,
+            two,
+            input,
+            asked.waiting,
+            taken,
+            queues,
+            given,
+            flight,
+        );
     }
 }
 

@@ -147,23 +147,30 @@ module _ (n : ℕ) (few : n ≤ 32) (w : ℕ) where
   pub lowest-none : n ≤ low → 0 ≡ in-turn (in-mask w) n 0
   lowest-none h = sym (in-turn-nobody (in-mask w) n 0 (λ y p. unset y (p .low) (omega arith)))
 
--- of the outputs that two words have in common, the lowest above the last one, else the lowest, is the first in turn
-module _ (n : ℕ) (few : n ≤ 32) (free asked last higher : ℕ)
-    (above : (j : ℕ) → Port 32 j → in-mask higher j ≡ (ltb last j && in-mask (bitAnd free asked) j)) where
-  all-outputs : (from : ℕ) → in-turn (in-mask (bitAnd free asked)) n from ≡ common-in-turn free asked n from
-  all-outputs from = in-turn-ext _ _ n from from (λ y p. common-outputs free asked y (p .low)) refl
-
-  in-order : common-in-turn free asked n last ≡ later (in-turn (in-mask higher) n 0) (in-turn (in-mask (bitAnd free asked)) n 0)
+-- of the outputs of a word, the lowest above the last one, else the lowest, is the first in turn
+module _ (n : ℕ) (few : n ≤ 32) (w last higher : ℕ) (above : (j : ℕ) → Port 32 j → in-mask higher j ≡ (ltb last j && in-mask w j)) where
+  in-order : in-turn (in-mask w) n last ≡ later (in-turn (in-mask higher) n 0) (in-turn (in-mask w) n 0)
   in-order =
-      sym (all-outputs last) ∙ in-turn-above (in-mask (bitAnd free asked)) n last
-      ∙ ap (λ v. later v (in-turn (in-mask (bitAnd free asked)) n 0)) (in-turn-ext _ _ n 0 0 (λ y p. sym (above y (omega arith))) refl)
+      in-turn-above (in-mask w) n last
+      ∙ ap (λ v. later v (in-turn (in-mask w) n 0)) (in-turn-ext _ _ n 0 0 (λ y p. sym (above y (omega arith))) refl)
 
-  pub taken-above : (r : ℕ) → r ≡ in-turn (in-mask higher) n 0 → 1 ≤ r → r ≡ common-in-turn free asked n last
+  pub taken-above : (r : ℕ) → r ≡ in-turn (in-mask higher) n 0 → 1 ≤ r → r ≡ in-turn (in-mask w) n last
   taken-above r e h = sym (in-order ∙ rw (← e, lt-ltb 0 r h))
 
-  pub taken-below : (r s : ℕ) → r ≡ in-turn (in-mask higher) n 0 → r ≤ 0 → s ≡ in-turn (in-mask (bitAnd free asked)) n 0
-      → s ≡ common-in-turn free asked n last
+  pub taken-below : (r s : ℕ) → r ≡ in-turn (in-mask higher) n 0 → r ≤ 0 → s ≡ in-turn (in-mask w) n 0 → s ≡ in-turn (in-mask w) n last
   taken-below r s e h d = sym (in-order ∙ rw (← e, ← d, le-ltb 0 r h))
+
+-- the outputs that two words have in common, in turn, and none where they have no bit in common
+module _ (n free asked last : ℕ) where
+  pub common-turn : in-turn (in-mask (bitAnd free asked)) n last ≡ common-in-turn free asked n last
+  common-turn = in-turn-ext _ _ n last last (λ y p. common-outputs free asked y (p .low)) refl
+
+  pub none-common : bitAnd free asked ≡ 0 → 0 ≡ common-in-turn free asked n last
+  none-common e = sym (sym common-turn ∙ in-turn-nobody _ n last (λ y p. rw e (unset-in-0 y (p .low))))
+    where
+      unset-in-0 : (y : ℕ) → 1 ≤ y → T (not (in-mask 0 y))
+      unset-in-0 zero h = absurd (omega arith)
+      unset-in-0 (suc k) h = rw (mask-bit 0 k, no-bits k) tt
 
 -- where the second word has the ready columns of input i, what they have in common is open to it
 module _ (n free : ℕ) (one two : List ℕ) (i w : ℕ) (is : w ≡ ready-mask one two ((i - 1) * n) n) where

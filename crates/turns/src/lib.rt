@@ -24,8 +24,8 @@ use credits::load_first;
 use credits::load_first_bookings;
 use given::last_given;
 use given::note_given;
+use search::first_in_turn;
 use search::has_turn;
-use search::open_in_turn;
 use search::requests_of;
 use search::waiting_outputs;
 use words::places::row_of;
@@ -190,8 +190,12 @@ pub fn second_turn(
     if given.len() < ports {
         return Output(0);
     }
+    let open = free & asked;
+    if open == 0 {
+        return Output(0);
+    }
     let last = last_given(given, input);
-    let output = open_in_turn(free, asked, ports, last);
+    let output = first_in_turn(open, ports, last);
     if output.0 > 0 {
         take_packet(queues, ports, input, output);
         note_given(given, input, output);

@@ -6,7 +6,7 @@ ghost use lib.Dec.{ltb};
 ghost use lib.ListN.{length};
 ghost use Rattle.wsgs.specs.Basics.{pick, Port, in-turn};
 ghost use Rattle.turns.specs.Masks.{in-mask};
-ghost use Rattle.turns.specs.Requests.{has-turn, both-above, gathered, common-in-turn};
+ghost use Rattle.turns.specs.Requests.{has-turn, both-above, gathered};
 use super::Requests;
 use super::credits::credits_at;
 use words::places::is_port;
@@ -94,16 +94,16 @@ fn lowest_of(set: u32, ports: usize) -> Output
     Output(0)
 }
 
-// Of the outputs that are free and asked for, the first from one past the last given one, wrapping from the last port to the first: the lowest above
-// that one, else the lowest; or output 0.
-pub fn open_in_turn(free: u32, asked: u32, ports: usize, last: u32) -> Output
+// Of a set of outputs the first from one past the last given one, wrapping from the last port to the first: the lowest above that one, else the lowest;
+// or output 0. Both are found before the choice, so that the compiler makes no branch of it, which would be a guess at every turn.
+pub fn first_in_turn(set: u32, ports: usize, last: u32) -> Output
     requires ports { ⌜ ports ≤ 32 ⌝ }
-    ensures first { λ r. ⌜ r .0 ≡ common-in-turn free asked ports last ⌝ }
+    ensures first { λ r. ⌜ r .0 ≡ in-turn (in-mask set) ports last ⌝ }
 {
-    let open = free & asked;
-    let higher = lowest_of(above(open, last), ports);
+    let lowest = lowest_of(set, ports);
+    let higher = lowest_of(above(set, last), ports);
     if higher.0 > 0 {
         return higher;
     }
-    lowest_of(open, ports)
+    lowest
 }

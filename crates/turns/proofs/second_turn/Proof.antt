@@ -12,6 +12,7 @@ use Rattle.wsgs.specs.Words.{port-word}
 use Rattle.wsgs.proofs.Laws.InTurn.{in-turn-some}
 use Rattle.turns.specs.Requests.{has-turn, Turn, common-in-turn, second-output}
 use Rattle.turns.proofs.Choice.{charged-some, charged-none, noted-some, noted-none}
+use Rattle.turns.proofs.Ready.{common-turn, none-common}
 use Rattle.turns.proofs.TurnLaws.{due, is-due, not-due, with-turn, without-turn, both-yes, first-no, second-no, second-takes}
 use Rattle.turns.proofs.second_turn.Statement.{statement}
 use Rattle.turns.proofs.second_turn.Tie as tie
@@ -24,20 +25,21 @@ allowed : (c : tie.Else1) → let a = start (c .before) .args in Turn (a .ports)
 allowed c = due _ _ _ (c .before .has-turn .ensures) (c .if1 .left)
 
 -- the search, and from there the questions
-abbrev asked : tie.After-open-in-turn → tie.Else2
-asked o = o .before .before .before
+abbrev asked : tie.After-first-in-turn → tie.Else2
+asked o = o .before .before .before .before
 
 -- the output that is found, and that it is a port where it is taken
-found : (o : tie.After-open-in-turn) → let a = start (asked o .before .before) .args in
-    o .open-in-turn .result .0 ≡ second-output (a .free) (a .asked) (a .ports) (a .input .0) (a .queues .now) (a .given .now)
+found : (o : tie.After-first-in-turn) → let a = start (asked o .before .before) .args in
+    o .first-in-turn .result .0 ≡ second-output (a .free) (a .asked) (a .ports) (a .input .0) (a .queues .now) (a .given .now)
 found o =
     let e = asked o in
     let a = start (e .before .before) .args in
     with-turn (both-yes (is-due _ _ _ (allowed (e .before))) (le-leb (a .ports) (length (a .given .now)) (omega arith)))
-    (o .open-in-turn .ensures ∙ ap (common-in-turn (a .free) (a .asked) (a .ports)) (o .before .last-given .ensures))
+    (o .first-in-turn .ensures ∙ common-turn (a .ports) (a .free) (a .asked) _
+    ∙ ap (common-in-turn (a .free) (a .asked) (a .ports)) (o .before .last-given .ensures))
 
-taken : (c : tie.Then3) → let o = c .before .before in Port (start (asked o .before .before) .args .ports) (o .open-in-turn .result .0)
-taken c = in-turn-some _ _ _ _ (c .before .before .open-in-turn .ensures) (c .if3 .taken) .0
+taken : (c : tie.Then4) → let o = c .before .before in Port (start (asked o .before .before) .args .ports) (o .first-in-turn .result .0)
+taken c = in-turn-some _ _ _ _ (c .before .before .first-in-turn .ensures) (c .if4 .taken) .0
 
 has-turn-requires : tie.Need-has-turn-requires
 has-turn-requires c κs = search needs
@@ -53,11 +55,19 @@ returns-2 c =
     let e = without-turn _ (second-no (has-turn (a .ports) (a .input .0) (length (a .queues .now))) (lt-leb (a .ports) (length (a .given .now)) (c .if2 .taken))) in
     (e, (sym (charged-none _ _ _ _ (omega arith)), (sym (noted-none _ _ _ (omega arith)), λ is sent known. second-takes _ _ _ _ sent known _ _ is _ _ e)))
 
-last-given-requires : tie.Need-last-given-requires
-last-given-requires c κs = let d = allowed (c .before .before) in (d .port .low, omega (arith, d .port .high))
+-- nothing is open
+returns-3 : tie.Need-returns-3
+returns-3 c =
+    let a = start (c .before .before .before) .args in
+    let due = both-yes (is-due _ _ _ (allowed (c .before .before))) (le-leb (a .ports) (length (a .given .now)) (omega arith)) in
+    let e = with-turn due (none-common (a .ports) (a .free) (a .asked) (port-word (a .given .now) (a .input .0)) (c .if3 .taken)) in
+    (e, (sym (charged-none _ _ _ _ (omega arith)), (sym (noted-none _ _ _ (omega arith)), λ is sent known. second-takes _ _ _ _ sent known _ _ is _ _ e)))
 
-open-in-turn-requires : tie.Need-open-in-turn-requires
-open-in-turn-requires c κs = allowed (c .before .before .before) .few
+last-given-requires : tie.Need-last-given-requires
+last-given-requires c κs = let d = allowed (c .before .before .before) in (d .port .low, omega (arith, d .port .high))
+
+first-in-turn-requires : tie.Need-first-in-turn-requires
+first-in-turn-requires c κs = allowed (c .before .before .before .before) .few
 
 take-packet-requires : tie.Need-take-packet-requires
 take-packet-requires c κs =
@@ -77,29 +87,29 @@ same-length c = search needs
 same-length-2 : tie.Need-same-length-2
 same-length-2 c = search needs
 
-returns-3 : tie.Need-returns-3
-returns-3 c =
+returns-4 : tie.Need-returns-4
+returns-4 c =
     let g = c .before .before in
     let p = g .before .before .before .before in
     let t = p .before .before in
     let o = t .before .before in (
       found o,
       (
-        p .take-packet .ensures ∙ sym (charged-some _ _ _ _ (t .if3 .taken)),
-        (g .note-given .ensures ∙ sym (noted-some _ _ _ (t .if3 .taken)), λ is sent known. second-takes _ _ _ _ sent known _ _ is _ _ (found o)),
+        p .take-packet .ensures ∙ sym (charged-some _ _ _ _ (t .if4 .taken)),
+        (g .note-given .ensures ∙ sym (noted-some _ _ _ (t .if4 .taken)), λ is sent known. second-takes _ _ _ _ sent known _ _ is _ _ (found o)),
       ),
     )
 
 same-length-3 : tie.Need-same-length-3
 same-length-3 c = search needs
 
-returns-4 : tie.Need-returns-4
-returns-4 c =
+returns-5 : tie.Need-returns-5
+returns-5 c =
     let o = c .before .before in (
       found o,
       (
-        sym (charged-none _ _ _ _ (c .if3 .left)),
-        (sym (noted-none _ _ _ (c .if3 .left)), λ is sent known. second-takes _ _ _ _ sent known _ _ is _ _ (found o)),
+        sym (charged-none _ _ _ _ (c .if4 .left)),
+        (sym (noted-none _ _ _ (c .if4 .left)), λ is sent known. second-takes _ _ _ _ sent known _ _ is _ _ (found o)),
       ),
     )
 
@@ -110,12 +120,13 @@ second-turn-spec =
     has-turn-requires
     returns
     returns-2
+    returns-3
     last-given-requires
-    open-in-turn-requires
+    first-in-turn-requires
     take-packet-requires
     note-given-requires
     same-length
     same-length-2
-    returns-3
+    returns-4
     same-length-3
-    returns-4)
+    returns-5)

@@ -11,11 +11,8 @@ use Rattle.pipelined.proofs.pipeline_turns.turns_of.Statement.{statemen
 use Rattle.pipelined.proofs.pipeline_turns.turns_of.Tie as tie
 
 -- the calls, from the last on, and the entry
-abbrev again : tie.After-turn-two → tie.After-asked-after
-again c = c .before .before .before .before
-
-abbrev second : tie.After-asked-after → tie.After-row-before2
-second c = c .before .before
+abbrev second : tie.After-turn-two → tie.After-row-before2
+second c = c .before .before .before .before
 
 abbrev turned : tie.After-row-before2 → tie.After-turn-one
 turned c = c .before .before .before .before .before .before .before .before .before
@@ -54,35 +51,37 @@ row-before-requires-2 c κs =
     let p = start (first (asked (c .before .before .before .before .before .before .before .before))) .pre in
     (p .0 .ports, (p .1 .1 .1 .0, p .1 .1 .0))
 
-asked-after-requires : tie.Need-asked-after-requires
-asked-after-requires c κs =
-    let o = turned (c .before) in
+turn-two-requires : tie.Need-turn-two-requires
+turn-two-requires c κs =
+    let v = c .before .before .before in
+    let o = turned v in
     let q = asked o in
+    let kept = o .turn-one .kept .1 .1 .1 .1 .1 in
     let a = start (first q) .args in
     let p = start (first q) .pre in (
       p .0 .ports,
       (
         p .1 .1 .1 .0,
         (
-          omega (arith, o .turn-one .kept .1 .1 .1 .1 .1 .0, p .0 .queues),
+          omega (arith, kept .0, p .0 .queues),
           (
-            p .1 .1 .1 .1,
-            λ z. requests q .packets ∙ ap (λ m. ready-mask m m ((a .input .0 - 1) * a .ports) (a .ports)) (sym (o .turn-one .ensures .1 z)),
+            omega (arith, kept .1 .0, p .0 .given),
+            (
+              omega (arith, v .row-before2 .ensures .1, kept .1 .1 .0, p .0 .flight),
+              (
+                p .1 .1 .1 .1,
+                λ z. requests q .packets ∙ ap (λ m. ready-mask m m ((a .input .0 - 1) * a .ports) (a .ports)) (sym (o .turn-one .ensures .1 z)),
+              ),
+            ),
           ),
         ),
       ),
     )
 
-turn-two-requires : tie.Need-turn-two-requires
-turn-two-requires c κs =
-    let w = c .before .before .before in
-    let p = start (first (asked (turned (second w)))) .pre in
-    (p .0 .ports, (p .1 .1 .1 .0, (search needs, (search needs, (search needs, w .asked-after .ensures)))))
-
 -- the credits change at the reload and at the pass-one turn
 same-length : tie.Need-same-length
 same-length c =
-    let o = turned (second (again (c .before .before .before .before .before .before))) in
+    let o = turned (second (c .before .before .before .before .before .before)) in
     let r = first (asked o) .before .before .before in
     o .turn-one .kept .1 .1 .1 .1 .0 ∙ r .reload-row .kept .1 .1 .1 .1 .0
 
@@ -98,7 +97,7 @@ same-length-4 c = search needs
 returns : tie.Need-returns
 returns c = λ frame a.
     let t = c .before .before .before .before .before .before in
-    let v = second (again t) in
+    let v = second t in
     let o = turned v in
     let w = first (asked o) in
     let r = w .before .before .before in
@@ -119,7 +118,6 @@ turns-of-spec =
     first-requests-requires
     turn-one-requires
     row-before-requires-2
-    asked-after-requires
     turn-two-requires
     same-length
     same-length-2
