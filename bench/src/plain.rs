@@ -1,6 +1,6 @@
 //! A plain Rust scheduler of the same rules on the same words, written for speed as one would by hand: masks of free outputs, rows as
-//! slices swept once for words above 0, and not at all where they cannot matter, no loop over outputs, no check twice, no division for a pair
-//! without a rate. It answers what the proved library answers; main.rs compares them before it measures.
+//! slices swept once for words above 0, no loop over outputs, no row in flight read where nothing is asked for, no check twice, no division for a
+//! pair without a rate. It answers what the proved library answers; main.rs compares them before it measures.
 
 pub struct Answer {
     pub refusal: u32,
@@ -72,20 +72,13 @@ const BITS: [u32; 32] = {
     bits
 };
 
-/// The columns in which the row is above 0; the compiler makes vector instructions of it.
+/// The columns in which both rows are above 0, and those in which the row of packets is; the compiler makes vector instructions of it.
 #[inline(always)]
-fn above_zero(row: &[u32]) -> u32 {
-    row.iter().zip(&BITS).fold(0, |mask, (&word, &bit)| mask | (word > 0) as u32 * bit)
-}
-
-/// Of these columns those in which the row of credits is above 0; it is not read where there are none.
-#[inline(always)]
-fn with_credit(columns: u32, credits: &[u32]) -> u32 {
-    if columns == 0 {
-        0
-    } else {
-        columns & above_zero(credits)
-    }
+fn swept(credits: &[u32], packets: &[u32]) -> (u32, u32) {
+    credits.iter().zip(packets).zip(&BITS).fold((0, 0), |(ready, waiting), ((&c, &q), &bit)| {
+        let packet = (q > 0) as u32 * bit;
+        (ready | packet & ((c > 0) as u32 * bit), waiting | packet)
+    })
 }
 
 /// The column of the first open output in turn: of those past the output last given where there are any, else of all. Any word that is no output
@@ -118,8 +111,8 @@ pub fn tick_direct(clock: &mut Clock, slots: &[u32], rates: &[u32], credits: &mu
     // what pass two can give an input that pass one gave nothing, and whose row is therefore as it was
     let mut left_over = [0; 32];
     for (i, (c, q)) in credits.chunks_exact_mut(n).zip(queues.chunks_exact_mut(n)).enumerate() {
-        let waiting = above_zero(q);
-        if let Some(j) = in_turn(with_credit(free & waiting, c), given[i]) {
+        let (ready, waiting) = swept(c, q);
+        if let Some(j) = in_turn(free & ready, given[i]) {
             c[j] -= 1;
             q[j] -= 1;
             free &= !(1 << j);
@@ -196,14 +189,14 @@ pub fn tick_pipelined(
     for i in 0..n {
         let own = i * n..(i + 1) * n;
         let (c, q) = (&mut credits[own.clone()], &mut queues[own.clone()]);
-        let mut waiting = above_zero(q);
         let s = k + 2 * n - i;
+        if s > 2 * n && (s - 1) % f as usize == 0 {
+            c.copy_from_slice(&copy[own.clone()]);
+        }
+        let (ready, mut waiting) = swept(c, q);
         if s > 2 * n {
-            if (s - 1) % f as usize == 0 {
-                c.copy_from_slice(&copy[own.clone()]);
-            }
             let row = &mut flight[s % (2 * n) * n..][..n];
-            if let Some(j) = taken_in(n, row, i, with_credit(waiting, c), given[i]) {
+            if let Some(j) = taken_in(n, row, i, ready, given[i]) {
                 c[j] -= 1;
                 q[j] -= 1;
                 waiting &= !(((q[j] == 0) as u32) << j);

@@ -86,13 +86,12 @@ pub fn pass_two(
     let mut free = passed.free;
     let mut outputs = passed.outputs;
     let first_pass = passed.first_pass;
-    let waiting = passed.waiting;
     for row in 0..ports {
         if (first_pass >> row) & 1 == 1 {
             continue;
         }
         let input = Input(row as u64 + 1);
-        let output = second_turn(free, waiting[row], ports, input, queues, given);
+        let output = second_turn(free, passed.waiting[row], ports, input, queues, given);
         if output.0 == 0 {
             continue;
         }
@@ -103,6 +102,6 @@ pub fn pass_two(
         free,
         outputs,
         first_pass,
-        waiting,
+        waiting: passed.waiting,
     }
 }

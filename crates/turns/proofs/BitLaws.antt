@@ -80,8 +80,11 @@ bits-from w m k = elim (decLe m k) [ yes h ↦ high h | no h ↦ low (omega arit
         rw (even, lt-leb m k h)
 
 -- nothing is lost on the way back
+pub shifted-within : (w m : ℕ) → w / 2 ^ m * 2 ^ m ≤ w
+shifted-within w m = rw (mul-comm (w / 2 ^ m) (2 ^ m)) (mul-div-le w (2 ^ m))
+
 pub shifted-back : (w m : ℕ) → w < 2 ^ 32 → (w / 2 ^ m * 2 ^ m) % 2 ^ 32 ≡ w / 2 ^ m * 2 ^ m
-shifted-back w m h = mod-eq-of-lt (lt-of-le-of-lt (rw (mul-comm (w / 2 ^ m) (2 ^ m)) (mul-div-le w (2 ^ m))) h)
+shifted-back w m h = mod-eq-of-lt (lt-of-le-of-lt (shifted-within w m) h)
 
 -- so the outputs above m are left
 pub outputs-above : (w m j : ℕ) → 1 ≤ j → in-mask (w / 2 ^ m * 2 ^ m) j ≡ (ltb m j && in-mask w j)

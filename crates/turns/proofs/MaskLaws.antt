@@ -4,13 +4,13 @@ use mathlib.Core.Path.{_≡_, refl, sym, _∙_, ap}
 use mathlib.Core.Bool.{Bool, true, false, not, _&&_, and-true, and-false}
 use mathlib.Core.Logic.{_⊎_, inl, inr, _≢_}
 use Prim.Native.Nat.{ℕ, zero, suc, _-_, _*_, _/_, _%_, _^_, _≤_, _<_}
-use native.Mathlib.Nat.{min-eq-left, min-eq-right}
+use native.Mathlib.Nat.{min-eq-left, min-eq-right, div-eq-of-lt, lt-of-lt-of-le}
 use native.Mathlib.Decide.{ℕ-discrete, decLe}
 use native.Mathlib.Omega.{arith}
 use borrow.Author.Tests.{ne-eqb, eqb-true, lt-leb}
 use lib.Bits.{bitAnd, bitXor, and-mask, xor-add-and}
 use lib.Dec.{eqb, leb, eqb·suc-suc}
-use lib.Pow.{pow-lt}
+use lib.Pow.{pow-lt, pow-mono, ones-lt}
 use Rattle.wsgs.specs.Basics.{pick, between, Port}
 use Rattle.wsgs.proofs.Laws.Tests.{range-in}
 use Rattle.turns.specs.Masks.{in-mask, all-free, is-free, without}
@@ -32,6 +32,13 @@ mask-full n zero p = absurd (omega arith)
 mask-full n (suc k) p = mask-bit (2 ^ n - 1) k ∙ low-set n k (omega arith)
 
 -- at first each output of at most 32 ports is free
+-- no output past the ports
+pub past-unset : (n w : ℕ) → n ≤ 32 → w ≡ all-free n → (k : ℕ) → n < k → in-mask w k ≡ false
+unfolding all-free in-mask
+past-unset n w few e k h =
+    let low : n ≤ k - 1 = omega arith in
+    ap (λ v. in-mask v k) e ∙ rw (min-eq-left few, div-eq-of-lt (lt-of-lt-of-le (ones-lt n) (pow-mono low)))
+
 pub free-first : (n w : ℕ) → n ≤ 32 → w ≡ all-free n → (k : ℕ) → Port n k → in-mask w k ≡ true
 unfolding all-free
 free-first n w few e k p = ap (λ v. in-mask v k) e ∙ rw (min-eq-left few) (mask-full n k p)

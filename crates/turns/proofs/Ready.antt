@@ -1,27 +1,31 @@
 -- What an input asks for, gathered one column after the other; by the table of all bits it is the word of its ready columns, and the lowest bit
 -- that such a word has in common with the free outputs, above the last given one or else of all, is the first open output in turn. Assumes nothing.
 use mathlib.Core.Path.{_≡_, refl, sym, _∙_, ap}
-use mathlib.Core.Bool.{Bool, true, false, not, _&&_}
+use mathlib.Core.Bool.{Bool, true, false, not, _&&_, and-true}
+use mathlib.Core.Logic.{_≢_}
 use mathlib.Core.List.{List}
 use Prim.Native.Nat.{ℕ, zero, suc, _+_, _-_, _*_, _/_, _%_, _^_, _≤_, _<_}
-use borrow.Author.Tests.{lt-ltb, le-ltb}
-use native.Mathlib.Nat.{zero-div}
+use native.Mathlib.Decide.{decLt, decLe}
+use borrow.Author.Tests.{ne-eqb, lt-ltb}
+use native.Mathlib.Nat.{zero-div, lt-of-le-of-lt}
 use native.Mathlib.Numerals.{add-one}
 use native.Mathlib.Omega.{arith}
-use lib.Bits.{bitAnd, bitOr, and-shr, and-mod, and-self, and-zero-l, and-zero-r, or-shifted-r}
+use lib.Bits.{bitAnd, bitOr, and-le-l, and-shr, and-mod, and-self, and-zero-l, and-zero-r, or-shifted-r}
 use lib.Count.{trailingZeros}
-use lib.Dec.{T, eqb, ltb}
+use lib.Dec.{T, eqb, ltb, T-not}
 use lib.ListN.{getD}
 use mir.Val.{boolByte}
 use Rattle.wsgs.specs.Basics.{pick, bit, Port, in-turn, later}
 use Rattle.wsgs.specs.Words.{place, word}
 use Rattle.wsgs.specs.Steps.{marked}
-use Rattle.wsgs.proofs.Laws.InTurn.{in-turn-ext, in-turn-lowest, in-turn-nobody, in-turn-above}
+use Rattle.wsgs.proofs.Laws.Tests.{both}
+use Rattle.wsgs.proofs.Laws.InTurn.{in-turn-ext, in-turn-some, in-turn-none, in-turn-lowest, in-turn-nobody, in-turn-above, in-turn-wide}
 use Rattle.wsgs.proofs.Laws.Marked.{marked-suc, marked-lt, marked-bit}
-use Rattle.turns.specs.Masks.{in-mask, powers, is-open, ready-mask}
+use Rattle.turns.specs.Masks.{in-mask, all-free, powers, is-open, ready-mask}
 use Rattle.turns.specs.Requests.{both-above, gathered, requested, common-in-turn}
 use Rattle.turns.proofs.BitLaws.{bits, mask-bit}
-use Rattle.turns.proofs.TrailingLaws.{below-unset, lowest-set}
+use Rattle.turns.proofs.MaskLaws.{free-first, past-unset}
+use Rattle.turns.proofs.TrailingLaws.{below-unset, lowest-set, lowest-within}
 
 -- no column has been looked at
 pub gathered-start : (table : List ℕ) (test : ℕ → Bool) → 0 ≡ gathered table test 0
@@ -128,49 +132,78 @@ pub common-outputs : (free asked j : ℕ) → 1 ≤ j → in-mask (bitAnd free a
 common-outputs free asked zero h = absurd (omega arith)
 common-outputs free asked (suc k) h = rw (mask-bit free k, mask-bit asked k, mask-bit (bitAnd free asked) k) (common-bit free asked k)
 
--- the lowest output of a word is that of its lowest bit
-module _ (n : ℕ) (few : n ≤ 32) (w : ℕ) where
-  abbrev low : ℕ
-  low = trailingZeros 32 w
+-- the lowest output of a word that is not 0 is that of its lowest bit
+pub lowest-is : (w : ℕ) → 1 ≤ w → w < 2 ^ 32 → in-turn (in-mask w) 32 0 ≡ suc (trailingZeros 32 w)
+lowest-is w h fits =
+    let low = lowest-within 32 w fits h in
+    in-turn-lowest (in-mask w) 32 (suc (trailingZeros 32 w)) (omega (arith, low)) (rw (mask-bit w (trailingZeros 32 w), lowest-set 32 w low) tt) below
+  where
+    below : (y : ℕ) → Port 32 y → y < suc (trailingZeros 32 w) → T (not (in-mask w y))
+    below zero p l = absurd (omega arith)
+    below (suc k) p l = rw (mask-bit w k, below-unset 32 w k (omega arith)) tt
 
-  -- nothing below it
-  unset : (y : ℕ) → 1 ≤ y → y < suc low → T (not (in-mask w y))
-  unset zero u l = absurd (omega arith)
-  unset (suc k) u l = rw (mask-bit w k, below-unset 32 w k (omega arith)) tt
+-- 0 has no output
+unset-in-0 : (y : ℕ) → 1 ≤ y → T (not (in-mask 0 y))
+unset-in-0 zero h = absurd (omega arith)
+unset-in-0 (suc k) h = rw (mask-bit 0 k, no-bits k) tt
 
-  -- it is a column
-  pub lowest-found : low < n → suc low ≡ in-turn (in-mask w) n 0
-  lowest-found h =
-      sym (in-turn-lowest (in-mask w) n (suc low) (omega arith) (rw (mask-bit w low, lowest-set 32 w (omega arith)) tt) (λ y p l. unset y (p .low) l))
+-- of the outputs of a word that is not 0, the lowest above the last one, else the lowest, is the first in turn
+pub first-of-pool : (w last higher pool : ℕ) → 1 ≤ w → w < 2 ^ 32 → ((j : ℕ) → Port 32 j → in-mask higher j ≡ (ltb last j && in-mask w j)) → higher ≤ w
+    → pool ≡ pick (eqb higher 0) w higher → suc (trailingZeros 32 pool) ≡ in-turn (in-mask w) 32 last
+first-of-pool w last higher pool h fits above within e = ap (λ v. suc (trailingZeros 32 v)) e ∙ go (decLt 0 higher) ∙ sym in-order
+  where
+    in-order : in-turn (in-mask w) 32 last ≡ later (in-turn (in-mask higher) 32 0) (in-turn (in-mask w) 32 0)
+    in-order =
+        in-turn-above (in-mask w) 32 last
+        ∙ ap (λ v. later v (in-turn (in-mask w) 32 0)) (in-turn-ext _ _ 32 0 0 (λ y p. sym (above y p)) refl)
 
-  -- there is none
-  pub lowest-none : n ≤ low → 0 ≡ in-turn (in-mask w) n 0
-  lowest-none h = sym (in-turn-nobody (in-mask w) n 0 (λ y p. unset y (p .low) (omega arith)))
+    go : Dec (0 < higher)
+        → suc (trailingZeros 32 (pick (eqb higher 0) w higher)) ≡ later (in-turn (in-mask higher) 32 0) (in-turn (in-mask w) 32 0)
+    go (yes s) = rw (ne-eqb higher 0 (λ z. absurd (omega arith)), lowest-is higher s (omega arith), lt-ltb 0 (suc (trailingZeros 32 higher)) (omega arith))
+    go (no s) =
+        let z : higher ≡ 0 = omega arith in
+        rw (z, in-turn-nobody (in-mask 0) 32 0 (λ y p. unset-in-0 y (p .low)), lowest-is w h fits)
 
--- of the outputs of a word, the lowest above the last one, else the lowest, is the first in turn
-module _ (n : ℕ) (few : n ≤ 32) (w last higher : ℕ) (above : (j : ℕ) → Port 32 j → in-mask higher j ≡ (ltb last j && in-mask w j)) where
-  in-order : in-turn (in-mask w) n last ≡ later (in-turn (in-mask higher) n 0) (in-turn (in-mask w) n 0)
-  in-order =
-      in-turn-above (in-mask w) n last
-      ∙ ap (λ v. later v (in-turn (in-mask w) n 0)) (in-turn-ext _ _ n 0 0 (λ y p. sym (above y (omega arith))) refl)
+-- what two words have in common fits where the first does
+pub open-fits : (a b : ℕ) → a < 2 ^ 32 → bitAnd a b < 2 ^ 32
+open-fits a b h = lt-of-le-of-lt (and-le-l a b) h
 
-  pub taken-above : (r : ℕ) → r ≡ in-turn (in-mask higher) n 0 → 1 ≤ r → r ≡ in-turn (in-mask w) n last
-  taken-above r e h = sym (in-order ∙ rw (← e, lt-ltb 0 r h))
+-- the outputs of n ports that two words have in common, in turn
+module _ (n : ℕ) (few : n ≤ 32) (free asked last all : ℕ) (full : all ≡ all-free n) where
+  abbrev open-word : ℕ
+  open-word = bitAnd free (bitAnd asked all)
 
-  pub taken-below : (r s : ℕ) → r ≡ in-turn (in-mask higher) n 0 → r ≤ 0 → s ≡ in-turn (in-mask w) n 0 → s ≡ in-turn (in-mask w) n last
-  taken-below r s e h d = sym (in-order ∙ rw (← e, ← d, le-ltb 0 r h))
+  three : (j : ℕ) → 1 ≤ j → in-mask open-word j ≡ (in-mask free j && (in-mask asked j && in-mask all j))
+  three j h = common-outputs free (bitAnd asked all) j h ∙ ap (λ b. in-mask free j && b) (common-outputs asked all j h)
 
--- the outputs that two words have in common, in turn, and none where they have no bit in common
-module _ (n free asked last : ℕ) where
-  pub common-turn : in-turn (in-mask (bitAnd free asked)) n last ≡ common-in-turn free asked n last
-  common-turn = in-turn-ext _ _ n last last (λ y p. common-outputs free asked y (p .low)) refl
-
-  pub none-common : bitAnd free asked ≡ 0 → 0 ≡ common-in-turn free asked n last
-  none-common e = sym (sym common-turn ∙ in-turn-nobody _ n last (λ y p. rw e (unset-in-0 y (p .low))))
+  pub open-turn : in-turn (in-mask open-word) 32 last ≡ common-in-turn free asked n last
+  open-turn =
+      in-turn-wide n 32 few (in-mask open-word) last
+      (λ y p t. inside y p (both (in-mask asked y) _ (both (in-mask free y) _ (rw (three y (p .low)) at t) .1) .1))
+      ∙ in-turn-ext _ _ n last last (λ y p. three y (p .low) ∙ rw (free-first n all few full y p, and-true (in-mask asked y))) refl
     where
-      unset-in-0 : (y : ℕ) → 1 ≤ y → T (not (in-mask 0 y))
-      unset-in-0 zero h = absurd (omega arith)
-      unset-in-0 (suc k) h = rw (mask-bit 0 k, no-bits k) tt
+      inside : (y : ℕ) → Port 32 y → T (in-mask all y) → y ≤ n
+      inside y p t = go (decLe y n)
+        where
+          go : Dec (y ≤ n) → y ≤ n
+          go (yes h) = h
+          go (no h) = absurd (rw (past-unset n all few full y (omega arith)) at t)
+
+  -- none where they have none
+  pub none-open : open-word ≡ 0 → 0 ≡ common-in-turn free asked n last
+  none-open e = sym (sym open-turn ∙ in-turn-nobody _ 32 last (λ y p. rw e (unset-in-0 y (p .low))))
+
+  -- and else one
+  pub some-open : (r : ℕ) → open-word ≢ 0 → open-word < 2 ^ 32 → r ≡ in-turn (in-mask open-word) 32 last → Port n r
+  some-open r h fits e = in-turn-some _ n last r (e ∙ open-turn) (go (decLt 0 r)) .0
+    where
+      go : Dec (0 < r) → 1 ≤ r
+      go (yes s) = s
+      go (no s) =
+          let low = lowest-within 32 open-word fits (omega (arith, h)) in
+          absurd (T-not (in-mask open-word (suc (trailingZeros 32 open-word)))
+          (in-turn-none _ 32 last r (suc (trailingZeros 32 open-word)) e (omega arith) (omega (arith, low)))
+          (rw (mask-bit open-word (trailingZeros 32 open-word), lowest-set 32 open-word low) tt))
 
 -- where the second word has the ready columns of input i, what they have in common is open to it
 module _ (n free : ℕ) (one two : List ℕ) (i w : ℕ) (is : w ≡ ready-mask one two ((i - 1) * n) n) where

@@ -1,8 +1,8 @@
 -- The lowest set bit of a word. They hold by halving the word. Assumes nothing.
 use mathlib.Core.Path.{_≡_, refl}
 use mathlib.Core.Bool.{true, false}
-use Prim.Native.Nat.{ℕ, zero, suc, _/_, _%_, _<_}
-use native.Mathlib.Nat.{div-one, le-of-suc-le-suc, not-suc-le-zero}
+use Prim.Native.Nat.{ℕ, zero, suc, _/_, _%_, _^_, _≤_, _<_}
+use native.Mathlib.Nat.{pow-suc, div-one, le-of-suc-le-suc, not-suc-le-zero}
 use native.Mathlib.Numerals.{one-add}
 use native.Mathlib.Omega.{arith}
 use borrow.Author.Tests.{eq-eqb}
@@ -44,3 +44,13 @@ lowest-set (suc d) w h = go (w % 2) refl h (lowest-set d (w / 2))
         → bits w (under b (trailingZeros d (w / 2))) ≡ true
     go zero e l ih = rw (bits-suc w (trailingZeros d (w / 2))) (ih (le-of-suc-le-suc l))
     go (suc b) e l ih = rw (bits-zero w) (eq-eqb (w % 2) 1 (omega arith))
+
+-- a word that is not 0 has one
+pub lowest-within : (d w : ℕ) → w < 2 ^ d → 1 ≤ w → trailingZeros d w < d
+unfolding trailingZeros
+lowest-within zero w l h = absurd (omega arith)
+lowest-within (suc d) w l h = go (w % 2) refl (lowest-within d (w / 2))
+  where
+    go : (b : ℕ) → w % 2 ≡ b → (w / 2 < 2 ^ d → 1 ≤ w / 2 → trailingZeros d (w / 2) < d) → under b (trailingZeros d (w / 2)) < suc d
+    go zero e ih = let s = ih (omega (arith, pow-suc 2 d)) (omega arith) in omega arith
+    go (suc b) e ih = omega arith

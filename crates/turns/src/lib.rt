@@ -24,6 +24,7 @@ use credits::load_first;
 use credits::load_first_bookings;
 use given::last_given;
 use given::note_given;
+use masks::all_free;
 use search::first_in_turn;
 use search::has_turn;
 use search::requests_of;
@@ -190,16 +191,15 @@ pub fn second_turn(
     if given.len() < ports {
         return Output(0);
     }
-    let open = free & asked;
+    let mine = asked & all_free(ports);
+    let open = free & mine;
     if open == 0 {
         return Output(0);
     }
     let last = last_given(given, input);
-    let output = first_in_turn(open, ports, last);
-    if output.0 > 0 {
-        take_packet(queues, ports, input, output);
-        note_given(given, input, output);
-    }
+    let output = first_in_turn(open, last);
+    take_packet(queues, ports, input, output);
+    note_given(given, input, output);
     output
 }
 

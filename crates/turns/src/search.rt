@@ -2,7 +2,7 @@
 ghost use mathlib.Core.Path.{_≡_};
 ghost use mathlib.Core.Bool.{_&&_};
 ghost use Prim.Native.Nat.{ℕ, _+_, _≤_};
-ghost use lib.Dec.{ltb};
+ghost use lib.Dec.{eqb, ltb};
 ghost use lib.ListN.{length};
 ghost use Rattle.wsgs.specs.Basics.{pick, Port, in-turn};
 ghost use Rattle.turns.specs.Masks.{in-mask};
@@ -75,6 +75,7 @@ pub fn waiting_outputs(bits: &[u32; 32], ports: usize, row: usize, queues: &[u32
 // The outputs of a set above a number, 0 for none.
 fn above(set: u32, number: u32) -> u32
     ensures higher { λ r. ⌜ ((j : ℕ) → Port 32 j → in-mask r j ≡ (ltb number j && in-mask set j)) ⌝ }
+    ensures within { λ r. ⌜ r ≤ set ⌝ }
 {
     if number >= 32 {
         return 0;
@@ -82,28 +83,21 @@ fn above(set: u32, number: u32) -> u32
     (set >> number) << number
 }
 
-// The lowest output of a set, or output 0.
-fn lowest_of(set: u32, ports: usize) -> Output
-    requires ports { ⌜ ports ≤ 32 ⌝ }
-    ensures lowest { λ r. ⌜ r .0 ≡ in-turn (in-mask set) ports 0 ⌝ }
+// A set, or another one where it is empty.
+fn or_else(set: u32, other: u32) -> u32
+    ensures set { λ r. ⌜ r ≡ pick (eqb set 0) other set ⌝ }
 {
-    let column = u32::trailing_zeros(set) as usize;
-    if column < ports {
-        return Output(column as u64 + 1);
+    if set == 0 {
+        return other;
     }
-    Output(0)
+    set
 }
 
-// Of a set of outputs the first from one past the last given one, wrapping from the last port to the first: the lowest above that one, else the lowest;
-// or output 0. Both are found before the choice, so that the compiler makes no branch of it, which would be a guess at every turn.
-pub fn first_in_turn(set: u32, ports: usize, last: u32) -> Output
-    requires ports { ⌜ ports ≤ 32 ⌝ }
-    ensures first { λ r. ⌜ r .0 ≡ in-turn (in-mask set) ports last ⌝ }
+// Of a set of outputs the first from one past the last given one, wrapping from 32 to 1: the lowest above that one, else the lowest.
+pub fn first_in_turn(set: u32, last: u32) -> Output
+    requires some { ⌜ 1 ≤ set ⌝ }
+    ensures first { λ r. ⌜ r .0 ≡ in-turn (in-mask set) 32 last ⌝ }
 {
-    let lowest = lowest_of(set, ports);
-    let higher = lowest_of(above(set, last), ports);
-    if higher.0 > 0 {
-        return higher;
-    }
-    lowest
+    let pool = or_else(above(set, last), set);
+    Output(u32::trailing_zeros(pool) as u64 + 1)
 }

@@ -9,10 +9,9 @@ use lib.ListN.{length}
 use borrow.Author.Tests.{le-leb, lt-leb}
 use Rattle.wsgs.specs.Basics.{Port}
 use Rattle.wsgs.specs.Words.{port-word}
-use Rattle.wsgs.proofs.Laws.InTurn.{in-turn-some}
 use Rattle.turns.specs.Requests.{has-turn, Turn, common-in-turn, second-output}
 use Rattle.turns.proofs.Choice.{charged-some, charged-none, noted-some, noted-none}
-use Rattle.turns.proofs.Ready.{common-turn, none-common}
+use Rattle.turns.proofs.Ready.{open-fits, open-turn, none-open, some-open}
 use Rattle.turns.proofs.TurnLaws.{due, is-due, not-due, with-turn, without-turn, both-yes, first-no, second-no, second-takes}
 use Rattle.turns.proofs.second_turn.Statement.{statement}
 use Rattle.turns.proofs.second_turn.Tie as tie
@@ -24,22 +23,34 @@ start c = c .before .before .before
 allowed : (c : tie.Else1) → let a = start (c .before) .args in Turn (a .ports) (a .input .0) (a .queues .now)
 allowed c = due _ _ _ (c .before .has-turn .ensures) (c .if1 .left)
 
--- the search, and from there the questions
-abbrev asked : tie.After-first-in-turn → tie.Else2
-asked o = o .before .before .before .before
+-- the search, and from there the outputs that are open, and the questions
+abbrev opened : tie.After-first-in-turn → tie.Else3
+opened o = o .before .before .before
 
--- the output that is found, and that it is a port where it is taken
-found : (o : tie.After-first-in-turn) → let a = start (asked o .before .before) .args in
+abbrev asked : tie.Else3 → tie.Else2
+asked e = e .before .before
+
+abbrev asked-none : tie.Then3 → tie.Else2
+asked-none e = e .before .before
+
+-- the output that is found is a port, and the one of the definition
+taken : (o : tie.After-first-in-turn) → Port (start (asked (opened o) .before .before) .args .ports) (o .first-in-turn .result .0)
+taken o =
+    let e = opened o in
+    let k = asked e in
+    let a = start (k .before .before) .args in
+    some-open (a .ports) (allowed (k .before) .few) (a .free) (a .asked) (o .before .last-given .result) _ (e .before .all-free .ensures) _ (e .if3 .left)
+    (open-fits (a .free) _ (start (k .before .before) .fits .free .fits)) (o .first-in-turn .ensures)
+
+found : (o : tie.After-first-in-turn) → let a = start (asked (opened o) .before .before) .args in
     o .first-in-turn .result .0 ≡ second-output (a .free) (a .asked) (a .ports) (a .input .0) (a .queues .now) (a .given .now)
 found o =
-    let e = asked o in
-    let a = start (e .before .before) .args in
-    with-turn (both-yes (is-due _ _ _ (allowed (e .before))) (le-leb (a .ports) (length (a .given .now)) (omega arith)))
-    (o .first-in-turn .ensures ∙ common-turn (a .ports) (a .free) (a .asked) _
+    let e = opened o in
+    let k = asked e in
+    let a = start (k .before .before) .args in
+    with-turn (both-yes (is-due _ _ _ (allowed (k .before))) (le-leb (a .ports) (length (a .given .now)) (omega arith)))
+    (o .first-in-turn .ensures ∙ open-turn (a .ports) (allowed (k .before) .few) (a .free) (a .asked) _ _ (e .before .all-free .ensures)
     ∙ ap (common-in-turn (a .free) (a .asked) (a .ports)) (o .before .last-given .ensures))
-
-taken : (c : tie.Then4) → let o = c .before .before in Port (start (asked o .before .before) .args .ports) (o .first-in-turn .result .0)
-taken c = in-turn-some _ _ _ _ (c .before .before .first-in-turn .ensures) (c .if4 .taken) .0
 
 has-turn-requires : tie.Need-has-turn-requires
 has-turn-requires c κs = search needs
@@ -55,31 +66,37 @@ returns-2 c =
     let e = without-turn _ (second-no (has-turn (a .ports) (a .input .0) (length (a .queues .now))) (lt-leb (a .ports) (length (a .given .now)) (c .if2 .taken))) in
     (e, (sym (charged-none _ _ _ _ (omega arith)), (sym (noted-none _ _ _ (omega arith)), λ is sent known. second-takes _ _ _ _ sent known _ _ is _ _ e)))
 
+all-free-requires : tie.Need-all-free-requires
+all-free-requires c κs = search needs
+
 -- nothing is open
 returns-3 : tie.Need-returns-3
 returns-3 c =
-    let a = start (c .before .before .before) .args in
-    let due = both-yes (is-due _ _ _ (allowed (c .before .before))) (le-leb (a .ports) (length (a .given .now)) (omega arith)) in
-    let e = with-turn due (none-common (a .ports) (a .free) (a .asked) (port-word (a .given .now) (a .input .0)) (c .if3 .taken)) in
+    let k = asked-none c in
+    let a = start (k .before .before) .args in
+    let due = both-yes (is-due _ _ _ (allowed (k .before))) (le-leb (a .ports) (length (a .given .now)) (omega arith)) in
+    let none = none-open (a .ports) (allowed (k .before) .few) (a .free) (a .asked) (port-word (a .given .now) (a .input .0)) _
+    (c .before .all-free .ensures) (c .if3 .taken) in
+    let e = with-turn due none in
     (e, (sym (charged-none _ _ _ _ (omega arith)), (sym (noted-none _ _ _ (omega arith)), λ is sent known. second-takes _ _ _ _ sent known _ _ is _ _ e)))
 
 last-given-requires : tie.Need-last-given-requires
-last-given-requires c κs = let d = allowed (c .before .before .before) in (d .port .low, omega (arith, d .port .high))
+last-given-requires c κs = let d = allowed (asked (c .before) .before) in (d .port .low, omega (arith, d .port .high))
 
 first-in-turn-requires : tie.Need-first-in-turn-requires
-first-in-turn-requires c κs = allowed (c .before .before .before .before) .few
+first-in-turn-requires c κs = omega (arith, c .before .before .if3 .left)
 
 take-packet-requires : tie.Need-take-packet-requires
 take-packet-requires c κs =
-    let t = c .before in
-    let d = allowed (asked (t .before .before) .before) in
-    (d .few, (d .port, (taken t, d .long)))
+    let o = c .before in
+    let d = allowed (asked (opened o) .before) in
+    (d .few, (d .port, (taken o, d .long)))
 
 note-given-requires : tie.Need-note-given-requires
 note-given-requires c κs =
-    let t = c .before .before .before .before .before in
-    let d = allowed (asked (t .before .before) .before) in
-    (omega (arith, d .port), (omega (arith, d .port), omega (arith, taken t .high, d .few)))
+    let o = c .before .before .before .before .before in
+    let d = allowed (asked (opened o) .before) in
+    (omega (arith, d .port), (omega (arith, d .port), omega (arith, taken o .high, d .few)))
 
 same-length : tie.Need-same-length
 same-length c = search needs
@@ -91,25 +108,11 @@ returns-4 : tie.Need-returns-4
 returns-4 c =
     let g = c .before .before in
     let p = g .before .before .before .before in
-    let t = p .before .before in
-    let o = t .before .before in (
+    let o = p .before .before in (
       found o,
       (
-        p .take-packet .ensures ∙ sym (charged-some _ _ _ _ (t .if4 .taken)),
-        (g .note-given .ensures ∙ sym (noted-some _ _ _ (t .if4 .taken)), λ is sent known. second-takes _ _ _ _ sent known _ _ is _ _ (found o)),
-      ),
-    )
-
-same-length-3 : tie.Need-same-length-3
-same-length-3 c = search needs
-
-returns-5 : tie.Need-returns-5
-returns-5 c =
-    let o = c .before .before in (
-      found o,
-      (
-        sym (charged-none _ _ _ _ (c .if4 .left)),
-        (sym (noted-none _ _ _ (c .if4 .left)), λ is sent known. second-takes _ _ _ _ sent known _ _ is _ _ (found o)),
+        p .take-packet .ensures ∙ sym (charged-some _ _ _ _ (taken o .low)),
+        (g .note-given .ensures ∙ sym (noted-some _ _ _ (taken o .low)), λ is sent known. second-takes _ _ _ _ sent known _ _ is _ _ (found o)),
       ),
     )
 
@@ -120,6 +123,7 @@ second-turn-spec =
     has-turn-requires
     returns
     returns-2
+    all-free-requires
     returns-3
     last-given-requires
     first-in-turn-requires
@@ -127,6 +131,4 @@ second-turn-spec =
     note-given-requires
     same-length
     same-length-2
-    returns-4
-    same-length-3
-    returns-5)
+    returns-4)

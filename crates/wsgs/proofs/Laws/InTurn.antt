@@ -314,3 +314,26 @@ module _ (p : ℕ → Bool) (n last : ℕ) where
 
   pub in-turn-above : in-turn p n last ≡ later (in-turn above n 0) (in-turn p n 0)
   in-turn-above = from-above (in-turn above n 0) (in-turn-is above n 0)
+
+-- where nobody past n passes, the order may as well wrap at a larger m
+module _ (n m : ℕ) (few : n ≤ m) where
+  -- from 1 on
+  low-wide : (q : ℕ → Bool) → ((y : ℕ) → Port m y → T (q y) → y ≤ n) → in-turn q m 0 ≡ in-turn q n 0
+  low-wide q h = go (in-turn q n 0) (in-turn-is q n 0)
+    where
+      unless : (b : Bool) → (T b → ⊥) → T (not b)
+      unless true f = absurd (f tt)
+      unless false f = tt
+
+      go : (v : ℕ) → InTurn q n 0 v → in-turn q m 0 ≡ v
+      go v (inl r) =
+          in-turn-nobody q m 0 (λ y py. unless (q y) (λ t. T-not (q y) (r .1 y (omega (arith, h y py t))) t)) ∙ sym (r .0)
+      go v (inr r) =
+          in-turn-lowest q m v (omega arith) (r .1)
+          (λ y py l. r .2 y (omega arith) (rw (next-below n 0 (omega arith)) (omega (arith, ahead-from n 1 y (py .low), ahead-from n 1 v (r .0 .low)))))
+
+  pub in-turn-wide : (p : ℕ → Bool) (last : ℕ) → ((y : ℕ) → Port m y → T (p y) → y ≤ n) → in-turn p m last ≡ in-turn p n last
+  in-turn-wide p last h =
+      in-turn-above p m last
+      ∙ ap₂ later (low-wide (above p m last) (λ y py t. h y py (both (ltb last y) (p y) t .1))) (low-wide p h)
+      ∙ sym (in-turn-above p n last)

@@ -1,34 +1,34 @@
 -- `search::first_in_turn` meets its contract: the first in turn is the lowest above the last given one, else the lowest. Assumes nothing.
+use mathlib.Core.Path.{_∙_}
+use native.Mathlib.Nat.{lt-of-le-of-lt}
+use native.Mathlib.Numerals.{add-one}
 use native.Mathlib.Omega.{arith}
 use borrow.Author.Needs.{needs}
-use Rattle.turns.proofs.Ready.{taken-above, taken-below}
+use lib.Count.{trailing-le}
+use lib.Dec.{lit<}
+use Rattle.turns.proofs.Ready.{first-of-pool}
 use Rattle.turns.proofs.search.first_in_turn.Statement.{statement}
 use Rattle.turns.proofs.search.first_in_turn.Tie as tie
-
-lowest-of-requires : tie.Need-lowest-of-requires
-lowest-of-requires c κs = search needs
 
 above-requires : tie.Need-above-requires
 above-requires c κs = search needs
 
-lowest-of-requires-2 : tie.Need-lowest-of-requires-2
-lowest-of-requires-2 c κs = search needs
+or-else-requires : tie.Need-or-else-requires
+or-else-requires c κs = search needs
+
+cast-t5 : tie.Need-cast-t5
+cast-t5 c = record { fits = lt-of-le-of-lt (trailing-le 32 _) (lit< tt) }
+
+add-t6 : tie.Need-add-t6
+add-t6 c = omega (arith, trailing-le 32 (c .or-else .result))
 
 returns : tie.Need-returns
 returns c =
-    let o = c .before .before in
-    let h = o .before in
-    let a = h .before .before .args in
-    taken-above (a .ports) (omega arith) (a .set) (a .last) _ (h .above .ensures) _ (o .lowest-of2 .ensures) (c .if1 .taken)
-
-returns-2 : tie.Need-returns-2
-returns-2 c =
-    let o = c .before .before in
-    let h = o .before in
-    let l = h .before in
-    let a = l .before .args in
-    taken-below (a .ports) (omega arith) (a .set) (a .last) _ (h .above .ensures) _ _ (o .lowest-of2 .ensures) (c .if1 .left) (l .lowest-of .ensures)
+    let h = c .before in
+    let s = h .before in
+    let a = s .args in
+    add-one _
+    ∙ first-of-pool (a .set) (a .last) _ _ (omega arith) (s .fits .set .fits) (h .above .ensures .0) (h .above .ensures .1) (c .or-else .ensures)
 
 pub first-in-turn-spec : {M : Type 1} → statement M
-first-in-turn-spec =
-    tie.close (tie.spec lowest-of-requires above-requires lowest-of-requires-2 returns returns-2)
+first-in-turn-spec = tie.close (tie.spec above-requires or-else-requires cast-t5 add-t6 returns)
