@@ -12,7 +12,7 @@ ghost use Rattle.wsgs.specs.Questions.{effect};
 ghost use Rattle.wsgs.specs.Answers.{direct-runs-of, tick-effect};
 ghost use Rattle.wsgs.specs.Direct;
 ghost use Rattle.direct.specs.Passes.{SlotRun};
-use passes::PassResult;
+use passes::SlotPairs;
 use passes::pass_one;
 use passes::pass_two;
 use questions::direct_tick_refusal;
@@ -47,7 +47,7 @@ fn run_slot(
     credits: &mut [u32],
     queues: &mut [u32],
     given: &mut [u32],
-) -> PassResult
+) -> SlotPairs
     requires ports { ⌜ clock .ports ≤ 32 ⌝ }
     requires frame { ⌜ 1 ≤ clock .frame ⌝ }
     requires slot { ⌜ 1 ≤ clock .slot ⌝ }

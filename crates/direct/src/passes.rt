@@ -14,13 +14,20 @@ use turns::masks::take;
 use turns::second_turn;
 use wsgs::Input;
 
-// What the passes hand on: the outputs that are free; the output of each input from 1 on, 0 for none; a word whose bit i - 1 tells that pass
+// What pass one hands on: the outputs that are free; the output of each input from 1 on, 0 for none; a word whose bit i - 1 tells that pass
 // one served input i; and of each input the outputs for which it had a packet at its turn of pass one.
 pub struct PassResult {
     pub free: u32,
     pub outputs: [u8; 32],
     pub first_pass: u32,
     pub waiting: [u32; 32],
+}
+
+// What pass two leaves: the outputs that are still free, the output of each input, and the word of those that pass one served.
+pub struct SlotPairs {
+    pub free: u32,
+    pub outputs: [u8; 32],
+    pub first_pass: u32,
 }
 
 // Pass one: the inputs in turn, each with the first in its order of the free outputs for which it has a credit and a packet.
@@ -74,7 +81,7 @@ pub fn pass_two(
     ports: usize,
     queues: &mut [u32],
     given: &mut [u32],
-) -> PassResult
+) -> SlotPairs
     requires ports { ⌜ ports ≤ 32 ⌝ }
     requires queues_fit { ⌜ ports * ports ≤ length (now queues) ⌝ }
     requires given_fits { ⌜ ports ≤ length (now given) ⌝ }
@@ -86,22 +93,22 @@ pub fn pass_two(
     let mut free = passed.free;
     let mut outputs = passed.outputs;
     let first_pass = passed.first_pass;
+    let waiting = passed.waiting;
     for row in 0..ports {
         if (first_pass >> row) & 1 == 1 {
             continue;
         }
         let input = Input(row as u64 + 1);
-        let output = second_turn(free, passed.waiting[row], ports, input, queues, given);
+        let output = second_turn(free, waiting[row], ports, input, queues, given);
         if output.0 == 0 {
             continue;
         }
         free = take(free, output);
         outputs[row] = output.0 as u8;
     }
-    PassResult {
+    SlotPairs {
         free,
         outputs,
         first_pass,
-        waiting: passed.waiting,
     }
 }
