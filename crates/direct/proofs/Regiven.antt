@@ -8,7 +8,6 @@ use native.Mathlib.Decide.{ℕ-discrete}
 use native.Mathlib.Omega.{arith}
 use borrow.Author.Tests.{lt-ltb}
 use lib.Dec.{ltb}
-use lib.ListN.{length, length-set}
 use lib.Seq.{set-comm, getD-set-other}
 use Rattle.wsgs.specs.Basics.{pick, Port, updated}
 use Rattle.wsgs.specs.Words.{port-word, put-port}

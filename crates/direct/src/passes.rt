@@ -85,8 +85,10 @@ pub fn pass_two(
     requires ports { ⌜ ports ≤ 32 ⌝ }
     requires queues_fit { ⌜ ports * ports ≤ length (now queues) ⌝ }
     requires given_fits { ⌜ ports ≤ length (now given) ⌝ }
-    requires pass_one { ⌜ AfterPassOne ports (passed .«first_pass») (passed .free) (passed .outputs) (passed .waiting) (now queues) (now given) ⌝ }
-    ensures pass_two { λ r. ⌜ PassTwo ports (passed .«first_pass») (passed .free) (passed .outputs) (now (queues .entry)) (now (given .entry))
+    requires pass_one { ⌜ AfterPassOne ports (passed .«first_pass») (passed .free) (passed .outputs) (passed .waiting)
+        (now queues) (now given) ⌝ }
+    ensures pass_two { λ r. ⌜ PassTwo ports (passed .«first_pass») (passed .free) (passed .outputs)
+        (now (queues .entry)) (now (given .entry))
         (r .free) (r .outputs) (now (queues .exit)) (now (given .exit)) ⌝ }
     ensures first_pass { λ r. ⌜ r .«first_pass» ≡ passed .«first_pass» ⌝ }
 {

@@ -1,5 +1,5 @@
 -- What both forms show of a whole list of calls of one form that opens with an accepted start: that its answers follow the nine steps, and
--- so give no output twice and are maximal. Each list has a trace, which each form reads in its own way. Assumes nothing.
+-- so give no output twice and are maximal; that packets are conserved; and that an input finds the output that it was last given, and starves none. Each list has a trace, which each form reads in its own way. Assumes nothing.
 use mathlib.Core.Path.{sym, _∙_}
 use mathlib.Core.Bool.{Bool, true, false}
 use mathlib.Core.List.{List}
@@ -11,7 +11,7 @@ use lib.Dec.{T, leb}
 use Rattle.wsgs.specs.Basics.{pick, Port}
 use Rattle.wsgs.specs.Steps.{Matching, empty-matching, nine-steps}
 use Rattle.wsgs.specs.Switch.{Switch, Form, direct, pipelined, Call, final}
-use Rattle.wsgs.specs.Ledger.{Ledger, ledger-of, answered, has-turns, tick-two}
+use Rattle.wsgs.specs.Ledger.{Ledger, ledger-of, answered, has-turns}
 use Rattle.wsgs.specs.Seen.{Seen, seen, second-view, steps-answer, early-answer}
 use Rattle.wsgs.specs.Claims.{all-of-form, opens, Same, PipelinedBegins, NoOutputTwice, MatchingMaximal, PacketsConserved, QueuesSeen, LastGivenFound, NoOutputStarves}
 use Rattle.wsgs.proofs.Steps.{once, maximal}

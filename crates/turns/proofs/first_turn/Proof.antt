@@ -2,8 +2,6 @@
 use mathlib.Core.Path.{_≡_, sym, _∙_}
 use native.Mathlib.Omega.{arith}
 use borrow.Author.Needs.{needs}
-use lib.ListN.{length}
-use Rattle.wsgs.specs.Basics.{Port}
 use Rattle.turns.specs.Requests.{has-turn, Turn, first-output}
 use Rattle.turns.proofs.Choice.{charged-some, charged-none, noted-none}
 use Rattle.turns.proofs.TurnLaws.{due, is-due, not-due, with-turn, without-turn, second-port, first-takes}

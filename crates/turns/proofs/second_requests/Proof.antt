@@ -1,8 +1,7 @@
 -- `turns::second_requests` meets its contract: where the input has a turn, the sweep gives the outputs by which it goes. Assumes nothing.
-use mathlib.Core.Path.{_≡_}
 use native.Mathlib.Omega.{arith}
 use borrow.Author.Needs.{needs}
-use Rattle.turns.specs.Requests.{Turn, second-waiting}
+use Rattle.turns.specs.Requests.{Turn}
 use Rattle.turns.proofs.TurnLaws.{due, is-due, not-due, row-there, with-turn, without-turn, requested-at, second-tells}
 use Rattle.turns.proofs.second_requests.Statement.{statement}
 use Rattle.turns.proofs.second_requests.Tie as tie

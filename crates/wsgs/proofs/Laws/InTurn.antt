@@ -1,6 +1,6 @@
 -- Laws of `in-turn`: what it gives passes the test; it gives one where one passes; it looks in its order, so that nobody before the one that it gives
 -- passes; and tests that agree on 1..n are given the same. Assumes nothing.
-use mathlib.Core.Path.{_≡_, refl, sym, _∙_, ap, ap₂}
+use mathlib.Core.Path.{_≡_, refl, sym, _∙_, ap₂}
 use mathlib.Core.Bool.{Bool, true, false, not, _&&_}
 use mathlib.Core.Logic.{_⊎_, inl, inr, _≢_}
 use Prim.Native.Nat.{ℕ, zero, suc, _+_, _-_, _≤_, _<_}

@@ -1,6 +1,6 @@
 -- `pipeline_turns::turns_of` meets its contract: the input's turns are due or not, its rows are those of its slots, and what it asks for at its pass-two
 -- turn is what its queues hold then. Assumes nothing.
-use mathlib.Core.Path.{_≡_, sym, _∙_, ap}
+use mathlib.Core.Path.{sym, _∙_, ap}
 use Prim.Native.Nat.{_-_, _*_}
 use native.Mathlib.Omega.{arith}
 use borrow.Author.Needs.{needs}
