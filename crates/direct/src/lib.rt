@@ -12,7 +12,7 @@ ghost use Rattle.wsgs.specs.Questions.{effect};
 ghost use Rattle.wsgs.specs.Answers.{direct-runs-of, tick-effect};
 ghost use Rattle.wsgs.specs.Direct;
 ghost use Rattle.direct.specs.Passes.{SlotRun};
-use passes::SlotPairs;
+use passes::PassResult;
 use passes::pass_one;
 use passes::pass_two;
 use questions::direct_tick_refusal;
@@ -47,7 +47,7 @@ fn run_slot(
     credits: &mut [u32],
     queues: &mut [u32],
     given: &mut [u32],
-) -> SlotPairs
+) -> PassResult
     requires ports { ⌜ clock .ports ≤ 32 ⌝ }
     requires frame { ⌜ 1 ≤ clock .frame ⌝ }
     requires slot { ⌜ 1 ≤ clock .slot ⌝ }
@@ -62,8 +62,9 @@ fn run_slot(
 {
     let ports = clock.ports as usize;
     reload(clock, slots, rates, credits);
-    let passed = pass_one(ports, credits, queues, given);
-    pass_two(passed, ports, queues, given)
+    let mut left_over = [0; 32];
+    let passed = pass_one(ports, credits, queues, given, &mut left_over);
+    pass_two(passed, &left_over, ports, queues, given)
 }
 
 // A tick: the questions, then the slot. The clock goes in and comes back whole.

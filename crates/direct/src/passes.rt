@@ -5,7 +5,7 @@ ghost use lib.Dec.{ltb};
 ghost use lib.ListN.{length};
 ghost use Rattle.wsgs.specs.Steps.{marked};
 ghost use Rattle.wsgs.specs.Direct.{spent};
-ghost use Rattle.direct.specs.Passes.{PassState, ones, WaitingWords, AfterPassOne, PassTwo};
+ghost use Rattle.direct.specs.Passes.{PassState, ones, LeftOver, PassTwo};
 use turns::BITS;
 use turns::first_requests;
 use turns::first_turn;
@@ -14,33 +14,28 @@ use turns::masks::take;
 use turns::second_turn;
 use wsgs::Input;
 
-// What pass one hands on: the outputs that are free; the output of each input from 1 on, 0 for none; a word whose bit i - 1 tells that pass
-// one served input i; and of each input the outputs for which it had a packet at its turn of pass one.
+// What a pass leaves: the outputs that are free; the output of each input from 1 on, 0 for none; and a word whose bit i - 1 tells that pass one
+// served input i.
 pub struct PassResult {
     pub free: u32,
     pub outputs: [u8; 32],
     pub first_pass: u32,
-    pub waiting: [u32; 32],
 }
 
-// What pass two leaves: the outputs that are still free, the output of each input, and the word of those that pass one served.
-pub struct SlotPairs {
-    pub free: u32,
-    pub outputs: [u8; 32],
-    pub first_pass: u32,
-}
-
-// Pass one: the inputs in turn, each with the first in its order of the free outputs for which it has a credit and a packet.
+// Pass one: the inputs in turn, each with the first in its order of the free outputs for which it has a credit and a packet. For pass two it writes
+// down the outputs for which an input has a packet, and none where it has served the input.
 pub fn pass_one(
     ports: usize,
     credits: &mut [u32],
     queues: &mut [u32],
     given: &mut [u32],
+    left_over: &mut [u32; 32],
 ) -> PassResult
     requires ports { ⌜ ports ≤ 32 ⌝ }
     requires credits_fit { ⌜ ports * ports ≤ length (now credits) ⌝ }
     requires queues_fit { ⌜ ports * ports ≤ length (now queues) ⌝ }
     requires given_fits { ⌜ ports ≤ length (now given) ⌝ }
+    requires left_over_fits { ⌜ ports ≤ length (now «left_over») ⌝ }
     ensures state { λ r. ⌜ PassState ports (now (queues .entry)) (now (given .entry))
         (ones ports (now (credits .entry)) (now (queues .entry)) (now (given .entry)))
         (r .free) (r .outputs) (now (queues .exit)) (now (given .exit)) ⌝ }
@@ -48,21 +43,23 @@ pub fn pass_one(
         ≡ marked 32 (λ i. ltb 0 (ones ports (now (credits .entry)) (now (queues .entry)) (now (given .entry)) i)) ⌝ }
     ensures credits_exit { λ r. ⌜ now (credits .exit)
         ≡ spent ports (now (credits .entry)) (ones ports (now (credits .entry)) (now (queues .entry)) (now (given .entry))) ports ⌝ }
-    ensures waiting { λ r. ⌜ WaitingWords ports ports (now (queues .entry)) (r .waiting) ⌝ }
+    ensures left_over_exit { λ r. ⌜ LeftOver ports ports
+        (ones ports (now (credits .entry)) (now (queues .entry)) (now (given .entry)))
+        (now (queues .entry)) (now («left_over» .exit)) ⌝ }
 {
     let mut free = all_free(ports);
     let mut outputs = [0u8; 32];
     let mut first_pass = 0u32;
-    let mut waiting = [0u32; 32];
     let bits = BITS;
     for row in 0..ports {
         let input = Input(row as u64 + 1);
         let asked = first_requests(&bits, ports, input, credits, queues);
-        waiting[row] = asked.waiting;
         let output = first_turn(free, asked.ready, ports, input, credits, queues, given);
         if output.0 == 0 {
+            left_over[row] = asked.waiting;
             continue;
         }
+        left_over[row] = 0;
         free = take(free, output);
         outputs[row] = output.0 as u8;
         first_pass |= 1 << row;
@@ -71,46 +68,39 @@ pub fn pass_one(
         free,
         outputs,
         first_pass,
-        waiting,
     }
 }
 
-// Pass two: the inputs in turn that pass one did not serve, each with the first in its order of the free outputs for which it has a packet.
+// Pass two: the inputs in turn, each with the first in its order of the free outputs that pass one left over for it.
 pub fn pass_two(
     passed: PassResult,
+    left_over: &[u32; 32],
     ports: usize,
     queues: &mut [u32],
     given: &mut [u32],
-) -> SlotPairs
+) -> PassResult
     requires ports { ⌜ ports ≤ 32 ⌝ }
     requires queues_fit { ⌜ ports * ports ≤ length (now queues) ⌝ }
     requires given_fits { ⌜ ports ≤ length (now given) ⌝ }
-    requires pass_one { ⌜ AfterPassOne ports (passed .«first_pass») (passed .free) (passed .outputs) (passed .waiting)
-        (now queues) (now given) ⌝ }
-    ensures pass_two { λ r. ⌜ PassTwo ports (passed .«first_pass») (passed .free) (passed .outputs)
+    ensures pass_two { λ r. ⌜ PassTwo ports (now («left_over» .entry)) (passed .free) (passed .outputs)
         (now (queues .entry)) (now (given .entry))
         (r .free) (r .outputs) (now (queues .exit)) (now (given .exit)) ⌝ }
     ensures first_pass { λ r. ⌜ r .«first_pass» ≡ passed .«first_pass» ⌝ }
 {
     let mut free = passed.free;
     let mut outputs = passed.outputs;
-    let first_pass = passed.first_pass;
-    let waiting = passed.waiting;
     for row in 0..ports {
-        if (first_pass >> row) & 1 == 1 {
-            continue;
-        }
         let input = Input(row as u64 + 1);
-        let output = second_turn(free, waiting[row], ports, input, queues, given);
+        let output = second_turn(free, left_over[row], ports, input, queues, given);
         if output.0 == 0 {
             continue;
         }
         free = take(free, output);
         outputs[row] = output.0 as u8;
     }
-    SlotPairs {
+    PassResult {
         free,
         outputs,
-        first_pass,
+        first_pass: passed.first_pass,
     }
 }

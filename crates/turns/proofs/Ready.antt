@@ -143,7 +143,7 @@ lowest-is w h fits =
     below (suc k) p l = rw (mask-bit w k, below-unset 32 w k (omega arith)) tt
 
 -- 0 has no output
-unset-in-0 : (y : ℕ) → 1 ≤ y → T (not (in-mask 0 y))
+pub unset-in-0 : (y : ℕ) → 1 ≤ y → T (not (in-mask 0 y))
 unset-in-0 zero h = absurd (omega arith)
 unset-in-0 (suc k) h = rw (mask-bit 0 k, no-bits k) tt
 

@@ -6,17 +6,17 @@ use mathlib.Core.List.{List}
 use Prim.Native.Nat.{ℕ, _-_, _*_, _≤_}
 use native.Mathlib.Omega.{arith}
 use borrow.Author.Tests.{le-leb, not-true, not-false}
-use lib.Dec.{leb, leb→le}
+use lib.Dec.{T, leb, leb→le}
 use lib.ListN.{length}
 use Rattle.wsgs.specs.Basics.{pick, Port, in-turn}
 use Rattle.wsgs.specs.Words.{port-word}
 use Rattle.wsgs.proofs.Laws.Tests.{both, holds}
-use Rattle.wsgs.proofs.Laws.InTurn.{in-turn-some}
+use Rattle.wsgs.proofs.Laws.InTurn.{in-turn-some, in-turn-nobody}
 use Rattle.words.specs.Places.{is-port, row-of}
 use Rattle.words.proofs.PlaceLaws.{known, port-passes, row-is}
-use Rattle.turns.specs.Masks.{powers, is-open, ready-mask}
+use Rattle.turns.specs.Masks.{in-mask, powers, is-open, ready-mask}
 use Rattle.turns.specs.Requests.{has-turn, Turn, Asked, both-above, gathered, requested, first-ready, first-waiting, second-waiting, common-in-turn, first-output, second-output}
-use Rattle.turns.proofs.Ready.{requested-ready, requested-in-turn}
+use Rattle.turns.proofs.Ready.{unset-in-0, requested-ready, requested-in-turn}
 
 -- THE QUESTION for a turn of input i of n ports, on a run of so many words
 module _ (n i words : ℕ) where
@@ -112,3 +112,15 @@ second-port free asked n i queues given r e h = go (has-turn n i (length queues)
     go : (b : Bool) → r ≡ pick b (common-in-turn free asked n (port-word given i)) 0 → Port n r
     go true d = in-turn-some _ n (port-word given i) r d h .0
     go false d = absurd (omega arith)
+
+-- one that asks for nothing takes none
+pub second-nothing : (free n i : ℕ) (queues given : List ℕ) → second-output free 0 n i queues given ≡ 0
+second-nothing free n i queues given = go (has-turn n i (length queues) && leb n (length given))
+  where
+    none : (j : ℕ) (b : Bool) → T (not (in-mask 0 j)) → T (not (b && in-mask 0 j))
+    none j true h = h
+    none j false h = tt
+
+    go : (b : Bool) → pick b (common-in-turn free 0 n (port-word given i)) 0 ≡ 0
+    go true = in-turn-nobody _ n (port-word given i) (λ j p. none j (in-mask free j) (unset-in-0 j (p .low)))
+    go false = refl

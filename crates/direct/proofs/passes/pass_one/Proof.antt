@@ -1,38 +1,39 @@
 -- `passes::pass_one` meets its contract. The loop's invariant is `PassOneState`: the outputs that the inputs hold are the definition's for the inputs so
--- far, and mask, list, words and mark are as these say; besides, the outputs for which those inputs had packets are known, and the table has the
+-- far, and mask, list, words and mark are as these say; besides, what is left over of those inputs for pass two is known, and the table has the
 -- bits of a word. The measure is the inputs left. Assumes nothing.
 use Prim.Native.Nat.{_+_, _-_, _*_, _≤_, _<_}
 use mathlib.Core.Path.{_≡_, refl, _∙_}
 use native.Mathlib.Numerals.{add-one}
 use native.Mathlib.Omega.{arith}
 use borrow.Author.Needs.{needs}
-use lib.ListN.{length, set}
+use lib.ListN.{length, length-set}
 use Rattle.wsgs.specs.Basics.{Port, in-turn}
 use Rattle.wsgs.specs.Words.{word, port-word}
 use Rattle.wsgs.specs.Steps.{pass-one}
 use Rattle.wsgs.proofs.Laws.InTurn.{in-turn-some}
 use Rattle.turns.specs.Masks.{powers, is-open}
 use Rattle.turns.specs.Requests.{Asked}
-use Rattle.direct.specs.Passes.{WaitingWords}
+use Rattle.direct.specs.Passes.{LeftOver}
 use Rattle.turns.proofs.BitLaws.{one-shl}
 use Rattle.turns.proofs.MaskLaws.{free-first}
-use Rattle.direct.proofs.PassLaws.{PassOneState, one-start, one-waiting, waiting-next, one-none, one-some}
+use Rattle.direct.proofs.PassLaws.{PassOneState, one-start, one-left, none-left, one-none, one-some}
 use Rattle.direct.proofs.passes.pass_one.Statement.{statement}
 use Rattle.direct.proofs.passes.pass_one.Tie as tie
 
 abbrev Inv-loop : tie.InvT-loop
-Inv-loop ports credits₀ queues₀ given₀ free₀ outputs₀ first-pass₀ waiting₀ bits row₀ credits queues given free outputs first-pass waiting row =
+Inv-loop ports credits₀ queues₀ given₀ left-over₀ free₀ outputs₀ first-pass₀ bits row₀ credits queues given left-over free outputs first-pass row =
     (row ≤ ports)
     × (length credits ≡ length credits₀)
     × (length queues ≡ length queues₀)
     × (length given ≡ length given₀)
     × PassOneState ports credits₀ queues₀ given₀ (pass-one ports (word ports credits₀) (word ports queues₀) (port-word given₀) row) free first-pass
     outputs credits queues given
-    × ((length waiting ≡ 32) × WaitingWords ports row queues₀ waiting)
+    × (length left-over ≡ length left-over₀)
+    × LeftOver ports row (pass-one ports (word ports credits₀) (word ports queues₀) (port-word given₀) row) queues₀ left-over
     × (bits ≡ powers 0 32)
 
 abbrev μ-loop : tie.MeasureT-loop
-μ-loop ports credits₀ queues₀ given₀ free₀ outputs₀ first-pass₀ waiting₀ bits row₀ credits queues given free outputs first-pass waiting row =
+μ-loop ports credits₀ queues₀ given₀ left-over₀ free₀ outputs₀ first-pass₀ bits row₀ credits queues given left-over free outputs first-pass row =
     ports - row
 
 -- from the test of a turn's output back to the turn, and from there to the loop's head and the entry
@@ -50,13 +51,13 @@ start c = c .before .before .before .before .before
 
 -- the input is one of the ports, which are few, and its runs are long enough
 within : (t : tie.After-first-turn Inv-loop μ-loop) → let l = head t in let n = start l .args .ports in
-    (l .loop .row < n) × (n ≤ 32) × (n * n ≤ length (l .loop .credits)) × (n * n ≤ length (l .loop .queues))
-within t = (omega arith, omega arith, omega arith, omega arith)
+    (l .loop .row < n) × (n ≤ 32) × (n * n ≤ length (l .loop .credits)) × (n * n ≤ length (l .loop .queues)) × (l .loop .row < length (l .loop .left-over))
+within t = (omega arith, omega arith, omega arith, omega arith, omega (arith, head t .loop .inv .5))
 
 -- what the input asks for
 requests : (t : tie.After-first-turn Inv-loop μ-loop) → let l = head t in let o = asked t .first-requests .result in
     Asked (start l .args .ports) (l .loop .row + 1) (l .loop .credits) (l .loop .queues) (o .ready) (o .waiting)
-requests t = asked t .first-requests .ensures .1 .1 (head t .loop .inv .6) (search needs) (search needs)
+requests t = asked t .first-requests .ensures .1 .1 (head t .loop .inv .7) (search needs) (search needs)
 
 -- the output that a turn finds
 found : (t : tie.After-first-turn Inv-loop μ-loop) → let l = head t in let n = start l .args .ports in
@@ -68,20 +69,12 @@ found t = t .first-turn .ensures .1 .1 .1 .1 (requests t .both) (search needs) (
 taken : (c : tie.Else1 Inv-loop μ-loop) → let t = turn (c .before) in Port (start (head t) .args .ports) (t .first-turn .result .0)
 taken c = in-turn-some _ _ _ _ (found (turn (c .before))) (omega (arith, c .if1 .left)) .0
 
--- the outputs for which the input had packets
-known : (t : tie.After-first-turn Inv-loop μ-loop) → let l = head t in let waiting = set (l .loop .waiting) (l .loop .row) (asked t .first-requests .result .waiting) in
-    (length waiting ≡ 32) × WaitingWords (start l .args .ports) (l .loop .row + 1) (start l .args .queues .now) waiting
-known t =
-    let l = head t in
-    waiting-next _ _ (l .loop .waiting) (l .loop .row) _ (omega arith) (l .loop .inv .5)
-    (one-waiting _ (omega arith) _ _ _ _ _ _ _ _ _ (omega arith) (l .loop .row) _ (add-one _) (omega arith) (l .loop .inv .4) _ (requests t .packets))
-
 all-free-requires : tie.Need-all-free-requires Inv-loop μ-loop
 all-free-requires c κs = search needs
 
 loop-holds : tie.Need-loop-holds Inv-loop μ-loop
 unfolding powers
-loop-holds c = (search needs, refl, refl, refl, one-start _ (omega arith) _ _ _ _ (free-first _ _ (omega arith) (c .all-free .ensures)), (refl, λ k l. absurd (omega arith)), refl)
+loop-holds c = (search needs, refl, refl, refl, one-start _ (omega arith) _ _ _ _ (free-first _ _ (omega arith) (c .all-free .ensures)), refl, (λ k l. absurd (omega arith)), refl)
 
 add-t17 : tie.Need-add-t17 Inv-loop μ-loop
 add-t17 c = search needs
@@ -92,11 +85,11 @@ first-requests-requires c κs = search needs
 first-turn-requires : tie.Need-first-turn-requires Inv-loop μ-loop
 first-turn-requires c κs = search needs
 
-mul-waiting : tie.Need-mul-waiting Inv-loop μ-loop
-mul-waiting c = search needs
+mul-left-over : tie.Need-mul-left-over Inv-loop μ-loop
+mul-left-over c = search needs
 
-array-write-waiting : tie.Need-array-write-waiting Inv-loop μ-loop
-array-write-waiting c = search needs
+element-write-left-over : tie.Need-element-write-left-over Inv-loop μ-loop
+element-write-left-over c = search needs
 
 add-row : tie.Need-add-row Inv-loop μ-loop
 add-row c = search needs
@@ -114,9 +107,17 @@ loop-again c =
       t .first-turn .kept .1 .1 .1 .1 .1 .1 .0 ∙ l .loop .inv .3,
       one-none _ (omega arith) _ _ _ _ _ _ _ _ _ (omega arith) (omega arith) (l .loop .row) _ (add-one _) (omega arith) (l .loop .inv .4) _
           (found t) (c .if1 .taken) _ _ _ (t .first-turn .ensures .1 .0) (t .first-turn .ensures .1 .1 .0) (t .first-turn .ensures .1 .1 .1 .0),
-      known t,
-      l .loop .inv .6,
+      length-set (l .loop .left-over) _ _ ∙ l .loop .inv .5,
+      one-left _ (omega arith) _ _ _ _ _ _ _ _ _ (omega arith) (omega arith) (l .loop .row) _ (add-one _) (omega arith) (l .loop .inv .4) _
+          (found t) (c .if1 .taken) (l .loop .left-over) (omega (arith, l .loop .inv .5)) (l .loop .inv .6) _ (requests t .packets),
+      l .loop .inv .7,
     )
+
+mul-left-over-2 : tie.Need-mul-left-over-2 Inv-loop μ-loop
+mul-left-over-2 c = search needs
+
+element-write-left-over-2 : tie.Need-element-write-left-over-2 Inv-loop μ-loop
+element-write-left-over-2 c = search needs
 
 take-requires : tie.Need-take-requires Inv-loop μ-loop
 take-requires c κs = search needs
@@ -152,8 +153,10 @@ loop-again-2 c =
       one-some _ (i .1) _ _ _ _ _ _ _ _ _ (i .2) (i .3) (l .loop .row) _ (add-one _) (i .0) (l .loop .inv .4) _
           (found t) (taken (w .before) .low) _ (w .take .ensures) _ (one-shl 32 (l .loop .row) (omega (arith, i .0, i .1))) _ _ _
           (t .first-turn .ensures .1 .0) (t .first-turn .ensures .1 .1 .0) (t .first-turn .ensures .1 .1 .1 .0),
-      known t,
-      l .loop .inv .6,
+      length-set (l .loop .left-over) _ _ ∙ l .loop .inv .5,
+      none-left _ (i .1) _ _ _ _ _ _ _ _ _ (i .2) (i .3) (l .loop .row) _ (add-one _) (i .0) (l .loop .inv .4) _
+          (found t) (taken (w .before) .low) (l .loop .left-over) (i .4) (l .loop .inv .6),
+      l .loop .inv .7,
     )
 
 same-length : tie.Need-same-length Inv-loop μ-loop
@@ -170,7 +173,7 @@ returns c =
     let l = c .before in
     let e : l .loop .row ≡ start l .args .ports = omega arith in
     let o = rw e at (l .loop .inv .4) in
-    (o .held, (o .mark, (o .cost, rw e at (l .loop .inv .5 .1))))
+    (o .held, (o .mark, (o .cost, rw e at (l .loop .inv .6))))
 
 pub pass-one-spec : {M : Type 1} → statement M
 pass-one-spec =
@@ -182,12 +185,14 @@ pass-one-spec =
     loop-holds
     add-t17
     first-requests-requires
-    mul-waiting
-    array-write-waiting
     first-turn-requires
+    mul-left-over
+    element-write-left-over
     add-row
     loop-less
     loop-again
+    mul-left-over-2
+    element-write-left-over-2
     take-requires
     cast-outputs
     array-write-outputs
