@@ -25,13 +25,19 @@ module _ (m t d : ℕ) (some : 1 ≤ m) where
       let e : t - d + m ≡ m * (t / m) + (t % m + m - d) = omega (arith, div-add-mod t m) in
       sym (add-mod-right (t - d) m) ∙ ap (λ z. z % m) e ∙ mul-add-mod-self-left m (t / m) (t % m + m - d) ∙ mod-eq-of-lt (omega arith)
 
--- THE ROW d before that of slot s
+-- THE ROW d before that of slot s: its number, and where it begins
 module _ (n d row : ℕ) (some : 1 ≤ n) (s : ℕ) (e : row ≡ s % (2 * n)) where
+  number-less : d ≤ row → row - d ≡ (s - d) % (2 * n)
+  number-less h = rw (less (2 * n) s d (omega arith) (omega arith)) (omega arith)
+
+  number-around : row < d → d ≤ n → d ≤ s → row + 2 * n - d ≡ (s - d) % (2 * n)
+  number-around h low there = rw (around (2 * n) s d (omega arith) (omega arith) (omega arith) there) (omega arith)
+
   pub row-less : d ≤ row → (row - d) * n ≡ (s - d) % (2 * n) * n
-  row-less h = ap (λ z. z * n) (rw (less (2 * n) s d (omega arith) (omega arith)) (omega arith))
+  row-less h = ap (λ z. z * n) (number-less h)
 
   pub row-around : row < d → d ≤ n → d ≤ s → (row + 2 * n - d) * n ≡ (s - d) % (2 * n) * n
-  row-around h low there = ap (λ z. z * n) (rw (around (2 * n) s d (omega arith) (omega arith) (omega arith) there) (omega arith))
+  row-around h low there = ap (λ z. z * n) (number-around h low there)
 
 -- THE SLOT of input i at time k, where u slots of its frame come before slot k + 2n
 module _ (n f k i u : ℕ) (port : Port n i) (covers : n ≤ f) (place : u ≡ into-frame f (k + 2 * n)) where
@@ -52,14 +58,27 @@ module _ (n f k i u : ℕ) (port : Port n i) (covers : n ≤ f) (place : u ≡ i
       go e (no l) = omega (arith, around f (k + 2 * n - 1) (i - 1) (omega arith) (omega arith) (omega arith) (omega arith))
 
 -- WHAT A TICK KNOWS of the slots ahead
-pub foreseen : (n f k : ℕ) → 1 ≤ n → n ≤ f → Lookahead n f k ((k + 1) % (2 * n)) ((k + n + 1) % (2 * n)) ((k + 2 * n - 1) % f)
-unfolding into-frame
-foreseen n f k some covers =
-    record {
-      covers = covers;
-      row-one = sym (add-mod-right (k + 1) (2 * n)) ∙ ap (λ z. z % (2 * n)) (omega arith);
-      row-two = omega arith;
-      place = omega arith;
-      one-within = mod-lt (k + 1) (omega arith);
-      two-within = mod-lt (k + n + 1) (omega arith);
-    }
+module _ (n k : ℕ) (some : 1 ≤ n) where
+  -- the row of slot k + 2n + 1
+  row-one : (k + 1) % (2 * n) ≡ (k + 2 * n + 1) % (2 * n)
+  row-one = sym (add-mod-right (k + 1) (2 * n)) ∙ ap (λ z. z % (2 * n)) (omega arith)
+
+  -- and half way around from it that of slot k + n + 1
+  pub half-less : n ≤ (k + 1) % (2 * n) → (k + 1) % (2 * n) - n ≡ (k + n + 1) % (2 * n)
+  half-less h = number-less n n _ some (k + 2 * n + 1) row-one h ∙ ap (λ z. z % (2 * n)) (omega arith)
+
+  pub half-more : (k + 1) % (2 * n) < n → (k + 1) % (2 * n) + n ≡ (k + n + 1) % (2 * n)
+  half-more h =
+      omega arith ∙ number-around n n _ some (k + 2 * n + 1) row-one h (omega arith) (omega arith) ∙ ap (λ z. z % (2 * n)) (omega arith)
+
+  pub foreseen : (f two : ℕ) → n ≤ f → two ≡ (k + n + 1) % (2 * n) → Lookahead n f k ((k + 1) % (2 * n)) two ((k + 2 * n - 1) % f)
+  unfolding into-frame
+  foreseen f two covers e =
+      record {
+        covers = covers;
+        row-one = row-one;
+        row-two = e;
+        place = omega arith;
+        one-within = mod-lt (k + 1) (omega arith);
+        two-within = rw e (mod-lt (k + n + 1) (omega arith));
+      }

@@ -157,9 +157,14 @@ pub fn look_ahead(ports: usize, frame: u64, time: u64) -> SlotsAhead
     ensures ahead { λ r. ⌜ Lookahead ports frame time (r .one) (r .two) (r .into) ⌝ }
 {
     let rows = 2 * ports as u64;
+    let one = ((time + 1) % rows) as usize;
+    let mut two = one + ports;
+    if one >= ports {
+        two = one - ports;
+    }
     SlotsAhead {
-        one: ((time + 1) % rows) as usize,
-        two: ((time + ports as u64 + 1) % rows) as usize,
+        one,
+        two,
         into: (time + rows - 1) % frame,
     }
 }

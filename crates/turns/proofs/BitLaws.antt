@@ -4,13 +4,14 @@ use mathlib.Core.Path.{_≡_, refl, sym, ap, _∙_}
 use mathlib.Core.Bool.{Bool, true, not, _&&_, and-true}
 use mathlib.Core.Logic.{_≢_}
 use Prim.Native.Nat.{ℕ, zero, suc, _+_, _-_, _*_, _/_, _%_, _^_, _≤_, _<_, min}
-use native.Mathlib.Nat.{div-self, div-eq-of-lt, one-mul, pow-suc, mul-mod-left, mul-assoc, mul-comm, mul-div-le, mod-eq-of-lt, lt-of-le-of-lt, zero-div}
+use native.Mathlib.Nat.{div-self, div-eq-of-lt, one-mul, pow-suc, mul-mod-left, mul-assoc}
 use native.Mathlib.Decide.{ℕ-discrete, decLt, decLe}
 use native.Mathlib.Omega.{arith}
 use borrow.Author.Tests.{eq-eqb, ne-eqb, eqb-true, le-leb, lt-leb, lt-ltb, le-ltb}
 use lib.Bits.{bitAnd, bitXor, and-step, and-zero-l, and-high, xor-shr, xor-mod, xor-zero-r}
 use lib.Dec.{eqb, leb, ltb}
 use lib.Pow.{pow-pos, pow-lt, pow-add, shl-exact, shl-shr, shr-shr, ones-lt, ones-split, high}
+use Rattle.wsgs.specs.Basics.{Port}
 use Rattle.turns.specs.Masks.{in-mask}
 
 -- bit k of w is set
@@ -58,7 +59,7 @@ bit-cleared w j e k = elim (ℕ-discrete k j) [ yes q ↦ here q | no ne ↦ oth
     other ne = rw (xor-bit w (2 ^ j) k, pow-other j k ne, xor-zero-r, ne-eqb k j ne) (sym (and-true (eqb (w / 2 ^ k % 2) 1)))
 
 -- the bits from m on, where those below are shifted out and back
-pub bits-from : (w m k : ℕ) → bits (w / 2 ^ m * 2 ^ m) k ≡ (leb m k && bits w k)
+bits-from : (w m k : ℕ) → bits (w / 2 ^ m * 2 ^ m) k ≡ (leb m k && bits w k)
 unfolding bits
 bits-from w m k = elim (decLe m k) [ yes h ↦ high h | no h ↦ low (omega arith) ]
   where
@@ -79,27 +80,15 @@ bits-from w m k = elim (decLe m k) [ yes h ↦ high h | no h ↦ low (omega arit
         (mul-mod-left _ 2) in
         rw (even, lt-leb m k h)
 
--- nothing is lost on the way back
-pub shifted-within : (w m : ℕ) → w / 2 ^ m * 2 ^ m ≤ w
-shifted-within w m = rw (mul-comm (w / 2 ^ m) (2 ^ m)) (mul-div-le w (2 ^ m))
-
-pub shifted-back : (w m : ℕ) → w < 2 ^ 32 → (w / 2 ^ m * 2 ^ m) % 2 ^ 32 ≡ w / 2 ^ m * 2 ^ m
-shifted-back w m h = mod-eq-of-lt (lt-of-le-of-lt (shifted-within w m) h)
-
--- so the outputs above m are left
-pub outputs-above : (w m j : ℕ) → 1 ≤ j → in-mask (w / 2 ^ m * 2 ^ m) j ≡ (ltb m j && in-mask w j)
-outputs-above w m zero h = absurd (omega arith)
-outputs-above w m (suc k) h =
-    rw (mask-bit (w / 2 ^ m * 2 ^ m) k, mask-bit w k) (bits-from w m k ∙ ap (λ b. b && bits w k) (same (decLe m k)))
+-- so the outputs above m are left, none where m is past all of them
+pub outputs-above : (w m j : ℕ) → Port 32 j → in-mask (w / 2 ^ min m 32 * 2 ^ min m 32) j ≡ (ltb m j && in-mask w j)
+outputs-above w m zero p = absurd (omega arith)
+outputs-above w m (suc k) p =
+    rw (mask-bit (w / 2 ^ min m 32 * 2 ^ min m 32) k, mask-bit w k) (bits-from w (min m 32) k ∙ ap (λ b. b && bits w k) (same (decLe m k)))
   where
-    same : Dec (m ≤ k) → leb m k ≡ ltb m (suc k)
-    same (yes l) = le-leb m k l ∙ sym (lt-ltb m (suc k) (omega arith))
-    same (no l) = lt-leb m k (omega arith) ∙ sym (le-ltb m (suc k) (omega arith))
-
--- and none where m is past all of them
-pub none-above : (w m j : ℕ) → 32 ≤ m → j ≤ 32 → in-mask 0 j ≡ (ltb m j && in-mask w j)
-unfolding in-mask
-none-above w m j h l = rw (le-ltb m j (omega arith), zero-div (2 ^ (j - 1)))
+    same : Dec (m ≤ k) → leb (min m 32) k ≡ ltb m (suc k)
+    same (yes l) = le-leb (min m 32) k (omega arith) ∙ sym (lt-ltb m (suc k) (omega arith))
+    same (no l) = lt-leb (min m 32) k (omega arith) ∙ sym (le-ltb m (suc k) (omega arith))
 
 -- the n lowest bits
 pub low-set : (n k : ℕ) → k < n → bits (2 ^ n - 1) k ≡ true

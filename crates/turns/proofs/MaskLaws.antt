@@ -1,20 +1,20 @@
--- The set of free outputs as a word: that of all outputs, which has each of them; an output that is tested; and one that is taken, which clears
--- its bit and leaves the others. They hold bit by bit. Assumes nothing.
+-- The set of free outputs as a word: that of all outputs, which has each of them; an output that is tested; one that is taken, which clears
+-- its bit and leaves the others; and the outputs above a number. They hold bit by bit. Assumes nothing.
 use mathlib.Core.Path.{_≡_, refl, sym, _∙_, ap}
 use mathlib.Core.Bool.{Bool, true, false, not, _&&_, and-true, and-false}
 use mathlib.Core.Logic.{_⊎_, inl, inr, _≢_}
-use Prim.Native.Nat.{ℕ, zero, suc, _-_, _*_, _/_, _%_, _^_, _≤_, _<_}
-use native.Mathlib.Nat.{min-eq-left, min-eq-right, div-eq-of-lt, lt-of-lt-of-le}
+use Prim.Native.Nat.{ℕ, zero, suc, _-_, _*_, _/_, _%_, _^_, _≤_, _<_, min}
+use native.Mathlib.Nat.{min-eq-left, min-eq-right, div-eq-of-lt, div-add-mod, lt-of-lt-of-le}
 use native.Mathlib.Decide.{ℕ-discrete, decLe}
 use native.Mathlib.Omega.{arith}
 use borrow.Author.Tests.{ne-eqb, eqb-true, lt-leb}
 use lib.Bits.{bitAnd, bitXor, and-mask, xor-add-and}
-use lib.Dec.{eqb, leb, eqb·suc-suc}
+use lib.Dec.{eqb, leb, ltb, eqb·suc-suc}
 use lib.Pow.{pow-lt, pow-mono, ones-lt}
 use Rattle.wsgs.specs.Basics.{pick, between, Port}
 use Rattle.wsgs.proofs.Laws.Tests.{range-in}
 use Rattle.turns.specs.Masks.{in-mask, all-free, is-free, without}
-use Rattle.turns.proofs.BitLaws.{bits, mask-bit, low-set, one-shl, alone, and-others, bit-cleared}
+use Rattle.turns.proofs.BitLaws.{bits, mask-bit, low-set, outputs-above, one-shl, alone, and-others, bit-cleared}
 
 -- all bits of a word
 pub all-set : (n : ℕ) → 32 ≤ n → 4294967295 ≡ all-free n
@@ -134,3 +134,15 @@ in-without w j (suc k) p = go j (decLe 1 j) (decLe j 32)
     go zero (yes l) (yes h) = absurd (omega arith)
     go (suc j) (yes l) (yes h) =
         rw (mask-bit (without w (suc j)) k, mask-bit w k, eqb·suc-suc k j) (taken-bit w j (omega arith) k)
+
+-- THE OUTPUTS of the set w above m: an and with all bits but the m lowest leaves what shifting these out and back leaves
+module _ (w m low : ℕ) (fits : w < 2 ^ 32) (e : low ≡ all-free m) where
+  low-cleared : bitAnd w (2 ^ 32 - 1 - low) ≡ w / 2 ^ min m 32 * 2 ^ min m 32
+  unfolding all-free
+  low-cleared =
+      let k = min m 32 in
+      let few : k ≤ 32 = omega arith in
+      rw e (omega (arith, and-others 32 w (2 ^ k - 1) fits (lt-of-lt-of-le (ones-lt k) (pow-mono few)), and-mask w k, div-add-mod w (2 ^ k)))
+
+  pub left-above : (j : ℕ) → Port 32 j → in-mask (bitAnd w (2 ^ 32 - 1 - low)) j ≡ (ltb m j && in-mask w j)
+  left-above j p = ap (λ v. in-mask v j) low-cleared ∙ outputs-above w m j p

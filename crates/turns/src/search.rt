@@ -9,6 +9,7 @@ ghost use Rattle.turns.specs.Masks.{in-mask};
 ghost use Rattle.turns.specs.Requests.{has-turn, both-above, gathered};
 use super::Requests;
 use super::credits::credits_at;
+use super::masks::all_free;
 use words::places::is_port;
 use wsgs::Input;
 use wsgs::Output;
@@ -77,10 +78,7 @@ fn above(set: u32, number: u32) -> u32
     ensures higher { λ r. ⌜ ((j : ℕ) → Port 32 j → in-mask r j ≡ (ltb number j && in-mask set j)) ⌝ }
     ensures within { λ r. ⌜ r ≤ set ⌝ }
 {
-    if number >= 32 {
-        return 0;
-    }
-    (set >> number) << number
+    set & !all_free(number as usize)
 }
 
 // A set, or another one where it is empty.
