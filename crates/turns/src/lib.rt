@@ -191,7 +191,11 @@ pub fn second_turn(
     if given.len() < ports {
         return Output(0);
     }
+    // tested apart from what is open, so that nothing but the search waits for the outputs that the turn before left free
     let mine = asked & all_free(ports);
+    if mine == 0 {
+        return Output(0);
+    }
     let open = free & mine;
     if open == 0 {
         return Output(0);
