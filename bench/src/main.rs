@@ -52,11 +52,17 @@ fn warm_up() {
 
 type Work<'a> = Box<dyn FnMut() + 'a>;
 
-/// Nanoseconds of each of several works, done in turn so that all meet the same machine: the least of many rounds.
-fn nanoseconds(times: u32, mut works: Vec<Work>) -> Vec<f64> {
-    let mut least = vec![f64::MAX; works.len()];
-    for _ in 0..15 {
-        for (work, best) in works.iter_mut().zip(&mut least) {
+const ROUNDS: usize = 30;
+const COPIES: usize = 5;
+
+/// Nanoseconds of each of several works, done in turn so that all meet the same machine: the least of many rounds. The rounds go through copies of the
+/// works, whose words lie elsewhere in memory, so that no work has the luck of its place. Where all works of a table are given at once, the rounds of
+/// each lie far apart, and what disturbs the machine for some seconds spoils few of them.
+fn nanoseconds(times: u32, mut copies: Vec<Vec<Work>>) -> Vec<f64> {
+    let mut least = vec![f64::MAX; copies[0].len()];
+    for round in 0..ROUNDS {
+        let works = round % copies.len();
+        for (work, best) in copies[works].iter_mut().zip(&mut least) {
             let begun = Instant::now();
             for _ in 0..times {
                 work();
@@ -89,27 +95,33 @@ fn ticks() -> Table {
         "| form | N | load | proved, ns | plain Rust, ns | ratio | second program, ns | ratio | matrices read once, ns | ratio |",
         "form,ports,load,proved_ns,plain_ns,second_ns,read_ns",
     );
-    for pipelined in FORMS {
-        for n in PORTS {
-            for (load, percent) in LOADS {
-                let s = loaded(n, percent);
-                agree(pipelined, &s, |_| ());
-                tick_row(&mut table, pipelined, n, load, &s);
-            }
-        }
+    let rows: Vec<_> = FORMS
+        .into_iter()
+        .flat_map(|pipelined| PORTS.map(|n| LOADS.map(|(load, percent)| (pipelined, n, load, percent))))
+        .flatten()
+        .collect();
+    let works = || rows.iter().flat_map(|&(pipelined, n, _, percent)| ticks_under(pipelined, n, percent)).collect();
+    let t = nanoseconds(20_000, (0..COPIES).map(|_| works()).collect());
+    for (&(pipelined, n, load, _), t) in rows.iter().zip(t.chunks_exact(4)) {
+        tick_row(&mut table, name(pipelined), n, load, t);
     }
     table
 }
 
-fn tick_row(table: &mut Table, pipelined: bool, n: usize, load: &str, s: &Switch) {
-    let (form, mut a, mut b, c, mut d) = (name(pipelined), s.clone(), s.clone(), s.clone(), of_second(s));
-    let works: Vec<Work> = vec![
-        Box::new(|| _ = black_box(proved(pipelined, black_box(&mut a)).first)),
-        Box::new(|| _ = black_box(by_hand(pipelined, black_box(&mut b)).first)),
-        Box::new(|| _ = black_box(by_second(pipelined, black_box(&mut d)).first)),
-        Box::new(|| _ = black_box(read_once(black_box(&c)))),
-    ];
-    let t = nanoseconds(20_000, works);
+/// The works of a row: proved, plain, second, and the matrices read once.
+fn ticks_under(pipelined: bool, n: usize, percent: u64) -> [Work<'static>; 4] {
+    let s = loaded(n, percent);
+    agree(pipelined, &s, |_| ());
+    let (mut a, mut b, mut d) = (s.clone(), s.clone(), of_second(&s));
+    [
+        Box::new(move || _ = black_box(proved(pipelined, black_box(&mut a)).first)),
+        Box::new(move || _ = black_box(by_hand(pipelined, black_box(&mut b)).first)),
+        Box::new(move || _ = black_box(by_second(pipelined, black_box(&mut d)).first)),
+        Box::new(move || _ = black_box(read_once(black_box(&s)))),
+    ]
+}
+
+fn tick_row(table: &mut Table, form: &str, n: usize, load: &str, t: &[f64]) {
     writeln!(
         table.markdown,
         "| {form} | {n} | {load} | {:.0} | {:.0} | {:.2} | {:.0} | {:.2} | {:.0} | {:.1} |",
@@ -126,17 +138,16 @@ fn frames() -> Table {
          | rates on all pairs: proved, ns | plain Rust, ns | ratio |",
         "form,ports,within_proved_ns,within_plain_ns,slots_proved_ns,slots_plain_ns,rates_proved_ns,rates_plain_ns",
     );
-    for pipelined in FORMS {
-        for n in PORTS {
-            let kinds = [(false, true), (true, false), (true, true)];
-            let works = kinds.into_iter().flat_map(|(reads, rates)| frame_ticks(pipelined, n, reads, rates));
-            let t = nanoseconds(5_000, works.collect());
-            write!(table.markdown, "| {} | {n} |", name(pipelined)).unwrap();
-            t.chunks_exact(2).for_each(|t| write!(table.markdown, " {:.0} | {:.0} | {:.2} |", t[0], t[1], t[0] / t[1]).unwrap());
-            table.markdown.push('\n');
-            let values: Vec<String> = t.iter().map(|ns| format!("{ns:.1}")).collect();
-            writeln!(table.values, "{},{n},{}", name(pipelined), values.join(",")).unwrap();
-        }
+    let kinds = [(false, true), (true, false), (true, true)];
+    let rows: Vec<_> = FORMS.into_iter().flat_map(|pipelined| PORTS.map(|n| (pipelined, n))).collect();
+    let row = |&(pipelined, n): &(bool, usize)| kinds.into_iter().flat_map(move |(reads, rates)| frame_ticks(pipelined, n, reads, rates));
+    let t = nanoseconds(5_000, (0..COPIES).map(|_| rows.iter().flat_map(row).collect()).collect());
+    for (&(pipelined, n), t) in rows.iter().zip(t.chunks_exact(2 * kinds.len())) {
+        write!(table.markdown, "| {} | {n} |", name(pipelined)).unwrap();
+        t.chunks_exact(2).for_each(|t| write!(table.markdown, " {:.0} | {:.0} | {:.2} |", t[0], t[1], t[0] / t[1]).unwrap());
+        table.markdown.push('\n');
+        let values: Vec<String> = t.iter().map(|ns| format!("{ns:.1}")).collect();
+        writeln!(table.values, "{},{n},{}", name(pipelined), values.join(",")).unwrap();
     }
     table
 }
@@ -236,7 +247,7 @@ fn calls_on_sums(n: usize, call: OnSums, held: u32) -> Vec<f64> {
         OnSums::Preview => (0, 0, held, 0, [n as u64 * booked + 9; 2]),
     };
     assert_eq!((by_library(), by_hand()), (expected, expected));
-    nanoseconds(20_000, vec![Box::new(|| _ = by_library()), Box::new(|| _ = by_hand())])
+    nanoseconds(20_000, vec![vec![Box::new(|| _ = by_library()), Box::new(|| _ = by_hand())]])
 }
 
 fn main() {
