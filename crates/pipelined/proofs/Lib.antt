@@ -1,4 +1,5 @@
 -- Laws that the functions' proofs cite.
+pub mod AskedAfter
 pub mod FlightLaws
 pub mod FlightMasks
 pub mod FlightPairs

@@ -7,7 +7,8 @@ ghost use Rattle.wsgs.specs.Basics.{Port};
 ghost use Rattle.wsgs.specs.Frames.{into-frame};
 ghost use Rattle.wsgs.specs.Pipelined.{slot-one, turn-one, turn-two, reloaded, turns-of, turns};
 ghost use Rattle.turns.specs.Masks.{powers, ready-mask};
-ghost use Rattle.pipelined.specs.Turnings.{turn-runs-of, RunsFit, Lookahead};
+ghost use Rattle.turns.specs.Charges.{charged};
+ghost use Rattle.pipelined.specs.Turnings.{turn-runs-of, RunsFit, AskedBefore, Lookahead};
 use super::flight::free_for;
 use super::flight::output_of;
 use super::flight::row_before;
@@ -15,8 +16,9 @@ use turns::BITS;
 use turns::first_requests;
 use turns::first_turn;
 use turns::load_credits;
-use turns::second_requests;
+use turns::masks::take;
 use turns::second_turn;
+use words::places::place_of;
 use words::places::row_of;
 use wsgs::Input;
 use wsgs::Output;
@@ -44,7 +46,8 @@ fn turn_one(
         → turn-runs-of (now (credits .exit)) (now (queues .exit)) (now (given .exit)) (now (flight .exit))
         ≡ turn-one ports s (input .0)
         (turn-runs-of (now (credits .entry)) (now (queues .entry)) (now (given .entry)) (now (flight .entry)))) ⌝ }
-    ensures idle { λ r. ⌜ (r .0 ≡ 0 → now (queues .exit) ≡ now (queues .entry)) ⌝ }
+    ensures output { λ r. ⌜ r .0 ≤ ports ⌝ }
+    ensures queues_exit { λ r. ⌜ now (queues .exit) ≡ charged ports (now (queues .entry)) (input .0) (r .0) ⌝ }
 {
     if asked == 0 {
         return Output(0);
@@ -61,32 +64,28 @@ fn turn_one(
     output
 }
 
-// What an input asks for at its pass-two turn: what its sweep before pass one told, unless pass one has taken a packet since.
-fn asked_after(
-    bits: &[u32; 32],
-    ports: usize,
-    input: Input,
-    waiting: u32,
-    taken: Output,
-    queues: &[u32],
-) -> u32
+// What an input asks for at its pass-two turn: `waiting` is what it asked for by its queues before its pass-one turn, which took an output or none.
+// An output for which no packet is left is no longer asked for.
+fn asked_after(ports: usize, input: Input, waiting: u32, taken: Output, queues: &[u32]) -> u32
     requires few_ports { ⌜ ports ≤ 32 ⌝ }
     requires input { ⌜ Port ports (input .0) ⌝ }
+    requires taken { ⌜ taken .0 ≤ ports ⌝ }
     requires queues_fit { ⌜ ports * ports ≤ length (now queues) ⌝ }
-    requires bits { ⌜ now bits ≡ powers 0 32 ⌝ }
-    requires known { ⌜ (taken .0 ≡ 0 → waiting ≡ ready-mask (now queues) (now queues) ((input .0 - 1) * ports) ports) ⌝ }
+    requires known { ⌜ AskedBefore ports (input .0) (taken .0) (now queues) waiting ⌝ }
     ensures asked { λ r. ⌜ r ≡ ready-mask (now (queues .entry)) (now (queues .entry)) ((input .0 - 1) * ports) ports ⌝ }
 {
     if taken.0 == 0 {
         return waiting;
     }
-    second_requests(bits, ports, input, queues)
+    if queues[place_of(ports, input, taken)] > 0 {
+        return waiting;
+    }
+    take(waiting, taken)
 }
 
-// An input's pass-two turn for the slot whose row begins at a place, if it has no output for it yet and asks for some: `waiting` is what it asked for by
-// its queues before pass one, and `taken` what pass one took since.
+// An input's pass-two turn for the slot whose row begins at a place, if it asks for some outputs and has none for the slot yet. Where it asks for none the
+// row is not read.
 fn turn_two(
-    bits: &[u32; 32],
     ports: usize,
     row: usize,
     input: Input,
@@ -98,21 +97,21 @@ fn turn_two(
 )
     requires few_ports { ⌜ ports ≤ 32 ⌝ }
     requires input { ⌜ Port ports (input .0) ⌝ }
+    requires taken { ⌜ taken .0 ≤ ports ⌝ }
     requires queues_fit { ⌜ ports * ports ≤ length (now queues) ⌝ }
     requires given_fits { ⌜ ports ≤ length (now given) ⌝ }
     requires row_fits { ⌜ row + ports ≤ length (now flight) ⌝ }
-    requires bits { ⌜ now bits ≡ powers 0 32 ⌝ }
-    requires known { ⌜ (taken .0 ≡ 0 → waiting ≡ ready-mask (now queues) (now queues) ((input .0 - 1) * ports) ports) ⌝ }
+    requires known { ⌜ AskedBefore ports (input .0) (taken .0) (now queues) waiting ⌝ }
     ensures turn { λ _. ⌜ ((s : ℕ) → row ≡ s % (2 * ports) * ports → (c : List ℕ)
         → turn-runs-of c (now (queues .exit)) (now (given .exit)) (now (flight .exit))
         ≡ turn-two ports s (input .0) (turn-runs-of c (now (queues .entry)) (now (given .entry)) (now (flight .entry)))) ⌝ }
 {
-    let at = row + (input.0 - 1) as usize;
-    if output_of(ports, flight[at]).0 > 0 {
+    let asked = asked_after(ports, input, waiting, taken, queues);
+    if asked == 0 {
         return;
     }
-    let asked = asked_after(bits, ports, input, waiting, taken, queues);
-    if asked == 0 {
+    let at = row + (input.0 - 1) as usize;
+    if output_of(ports, flight[at]).0 > 0 {
         return;
     }
     let free = free_for(ports, row, flight);
@@ -209,7 +208,6 @@ fn turns_of(
         );
         let two = row_before(ports, ahead.two, input);
         turn_two(
-            bits,
             ports,
             two,
             input,

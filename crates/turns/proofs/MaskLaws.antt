@@ -3,12 +3,12 @@
 use mathlib.Core.Path.{_≡_, refl, sym, _∙_, ap}
 use mathlib.Core.Bool.{Bool, true, false, not, _&&_, and-true, and-false}
 use mathlib.Core.Logic.{_⊎_, inl, inr, _≢_}
-use Prim.Native.Nat.{ℕ, zero, suc, _-_, _*_, _/_, _%_, _^_, _≤_, _<_, min}
+use Prim.Native.Nat.{ℕ, zero, suc, _+_, _-_, _*_, _/_, _%_, _^_, _≤_, _<_, min}
 use native.Mathlib.Nat.{min-eq-left, min-eq-right, div-eq-of-lt, div-add-mod, lt-of-lt-of-le}
 use native.Mathlib.Decide.{ℕ-discrete, decLe}
 use native.Mathlib.Omega.{arith}
 use borrow.Author.Tests.{ne-eqb, eqb-true, lt-leb}
-use lib.Bits.{bitAnd, bitXor, and-mask, xor-add-and}
+use lib.Bits.{bitAnd, bitXor, and-le-l, and-mask, xor-add-and}
 use lib.Dec.{eqb, leb, ltb, eqb·suc-suc}
 use lib.Pow.{pow-lt, pow-mono, ones-lt}
 use Rattle.wsgs.specs.Basics.{pick, between, Port}
@@ -72,6 +72,19 @@ module _ (w k : ℕ) (small : k < 32) where
   tests : is-free w (suc k) ≡ bits w k
   unfolding is-free
   tests = rw (has-bit, mask-bit w k)
+
+  -- where it is not, nothing is taken out, and else its power of 2
+  pub none-out : bits w k ≡ false → without w (suc k) ≡ w
+  unfolding without
+  none-out h = rw (tests, h)
+
+  pub one-out : bits w k ≡ true → without w (suc k) + 2 ^ k ≡ w
+  unfolding without
+  one-out h =
+      let set : w / 2 ^ k % 2 ≡ 1 = eqb-true (w / 2 ^ k % 2) 1 (bit-set h) in
+      let a : bitAnd w (2 ^ k) ≡ 2 ^ k = alone w k ∙ rw set (omega arith) in
+      let e : suc k - 1 ≡ k = omega arith in
+      rw (tests, h, e) (omega (arith, and-le-l w (2 ^ k)))
 
   -- by a shift and a mask
   pub tested : (j : ℕ) → j ≡ suc k → eqb (bitAnd (w / 2 ^ k) 1) 1 ≡ is-free w j

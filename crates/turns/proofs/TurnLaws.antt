@@ -15,7 +15,7 @@ use Rattle.wsgs.proofs.Laws.InTurn.{in-turn-some, in-turn-nobody}
 use Rattle.words.specs.Places.{is-port, row-of}
 use Rattle.words.proofs.PlaceLaws.{known, port-passes, row-is}
 use Rattle.turns.specs.Masks.{in-mask, powers, is-open, ready-mask}
-use Rattle.turns.specs.Requests.{has-turn, Turn, Asked, both-above, gathered, requested, first-ready, first-waiting, second-waiting, common-in-turn, first-output, second-output}
+use Rattle.turns.specs.Requests.{has-turn, Turn, Asked, both-above, gathered, requested, first-ready, first-waiting, common-in-turn, first-output, second-output}
 use Rattle.turns.proofs.Ready.{unset-in-0, requested-ready, requested-in-turn}
 
 -- THE QUESTION for a turn of input i of n ports, on a run of so many words
@@ -76,21 +76,14 @@ unfolding requested
 requested-at table one two n i row w d e = e ∙ ap (λ z. gathered table (both-above one two z) n) d
 
 -- WHAT AN INPUT ASKS FOR where it has a turn, by the table of all bits
-module _ (n i : ℕ) (table : List ℕ) (all : table ≡ powers 0 32) where
-  -- in pass one
-  pub first-tells : (credits queues : List ℕ) → Turn n i credits → Turn n i queues → (r w : ℕ) → r ≡ first-ready table n i credits queues
-      → w ≡ first-waiting table n i credits queues → Asked n i credits queues r w
-  first-tells credits queues paid sent r w d e =
-      let due : (has-turn n i (length credits) && has-turn n i (length queues)) ≡ true = both-yes (is-due n i credits paid) (is-due n i queues sent) in
-      record {
-        both = d ∙ rw due (requested-ready table all credits queues n i (sent .few));
-        packets = e ∙ rw due (requested-ready table all queues queues n i (sent .few));
-      }
-
-  -- and in pass two
-  pub second-tells : (queues : List ℕ) → Turn n i queues → (w : ℕ) → w ≡ second-waiting table n i queues
-      → w ≡ ready-mask queues queues ((i - 1) * n) n
-  second-tells queues sent w e = e ∙ rw (is-due n i queues sent) (requested-ready table all queues queues n i (sent .few))
+pub first-tells : (n i : ℕ) (table : List ℕ) → table ≡ powers 0 32 → (credits queues : List ℕ) → Turn n i credits → Turn n i queues → (r w : ℕ)
+    → r ≡ first-ready table n i credits queues → w ≡ first-waiting table n i credits queues → Asked n i credits queues r w
+first-tells n i table all credits queues paid sent r w d e =
+    let due : (has-turn n i (length credits) && has-turn n i (length queues)) ≡ true = both-yes (is-due n i credits paid) (is-due n i queues sent) in
+    record {
+      both = d ∙ rw due (requested-ready table all credits queues n i (sent .few));
+      packets = e ∙ rw due (requested-ready table all queues queues n i (sent .few));
+    }
 
 -- WHAT A TURN of input i takes, where it has one and asks for the ready columns
 module _ (n i : ℕ) (queues given : List ℕ) (sent : Turn n i queues) (known : n ≤ length given) where

@@ -45,7 +45,7 @@ requested table one two n i = gathered table (both-above one two ((i - 1) * n)) 
 abbrev pub common-in-turn : (free asked n last : ℕ) → ℕ
 common-in-turn free asked n last = in-turn (λ j. in-mask free j && in-mask asked j) n last
 
--- what input i asks for, and nothing where it has no turn: in pass one by credits and queues, and besides by its queues alone;
+-- what input i asks for, and nothing where it has no turn: by credits and queues, and besides by its queues alone
 abbrev pub first-ready : (table : List ℕ) (n i : ℕ) (credits queues : List ℕ) → ℕ
 first-ready table n i credits queues =
     pick (has-turn n i (length credits) && has-turn n i (length queues)) (requested table credits queues n i) 0
@@ -53,10 +53,6 @@ first-ready table n i credits queues =
 abbrev pub first-waiting : (table : List ℕ) (n i : ℕ) (credits queues : List ℕ) → ℕ
 first-waiting table n i credits queues =
     pick (has-turn n i (length credits) && has-turn n i (length queues)) (requested table queues queues n i) 0
-
--- and in pass two
-abbrev pub second-waiting : (table : List ℕ) (n i : ℕ) (queues : List ℕ) → ℕ
-second-waiting table n i queues = pick (has-turn n i (length queues)) (requested table queues queues n i) 0
 
 -- what a turn of input i answers that asks for some outputs, and 0 where it has none: of those that are free and asked for, the first from one past the
 -- output that the input was last given; in pass two,

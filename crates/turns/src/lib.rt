@@ -15,7 +15,7 @@ ghost use Rattle.wsgs.specs.Words.{port-word};
 ghost use Rattle.wsgs.specs.Bookings.{booking-words};
 ghost use Rattle.words.specs.Runs.{copy-words};
 ghost use Rattle.turns.specs.Masks.{powers, is-open, ready-mask};
-ghost use Rattle.turns.specs.Requests.{Turn, Asked, first-ready, first-waiting, second-waiting, first-output, second-output};
+ghost use Rattle.turns.specs.Requests.{Turn, Asked, first-ready, first-waiting, first-output, second-output};
 ghost use Rattle.turns.specs.Charges.{charged, noted};
 use bookings::has_rate;
 use charges::spend_credit;
@@ -28,7 +28,6 @@ use masks::all_free;
 use search::first_in_turn;
 use search::has_turn;
 use search::requests_of;
-use search::waiting_outputs;
 use words::places::row_of;
 use wsgs::Input;
 use wsgs::Output;
@@ -152,19 +151,6 @@ pub fn first_requests(
     }
     let row = row_of(ports, input);
     requests_of(bits, ports, row, credits, queues)
-}
-
-// What it asks for at its turn of pass two, by its queues.
-pub fn second_requests(bits: &[u32; 32], ports: usize, input: Input, queues: &[u32]) -> u32
-    ensures waiting { λ r. ⌜ r ≡ second-waiting (now (bits .entry)) ports (input .0) (now (queues .entry)) ⌝ }
-    ensures tells { λ r. ⌜ (now (bits .entry) ≡ powers 0 32 → Turn ports (input .0) (now (queues .entry))
-        → r ≡ ready-mask (now (queues .entry)) (now (queues .entry)) ((input .0 - 1) * ports) ports) ⌝ }
-{
-    if !has_turn(ports, input, queues.len()) {
-        return 0;
-    }
-    let row = row_of(ports, input);
-    waiting_outputs(bits, ports, row, queues)
 }
 
 // A turn of pass two that asks for some outputs: it costs a packet, and what the input takes is its last given output.

@@ -60,19 +60,6 @@ pub fn requests_of(
     Requests { ready, waiting }
 }
 
-// The outputs for which packets wait in the row that begins at a place, read in the same way.
-pub fn waiting_outputs(bits: &[u32; 32], ports: usize, row: usize, queues: &[u32]) -> u32
-    requires ports { ⌜ ports ≤ 32 ⌝ }
-    requires queues_fit { ⌜ row + ports ≤ length (now queues) ⌝ }
-    ensures waiting { λ r. ⌜ r ≡ gathered (now (bits .entry)) (both-above (now (queues .entry)) (now (queues .entry)) row) ports ⌝ }
-{
-    let mut waiting = 0u32;
-    for column in 0..ports {
-        waiting |= word_if(queues[row + column] > 0, bits[column]);
-    }
-    waiting
-}
-
 // The outputs of a set above a number, 0 for none.
 fn above(set: u32, number: u32) -> u32
     ensures higher { λ r. ⌜ ((j : ℕ) → Port 32 j → in-mask r j ≡ (ltb number j && in-mask set j)) ⌝ }

@@ -1,5 +1,5 @@
 -- `pipeline_turns::turn_one` meets its contract: the ways that its tests leave are those of the definition. Assumes nothing.
-use mathlib.Core.Path.{_≡_, refl, _∙_}
+use mathlib.Core.Path.{_≡_, sym}
 use Prim.Native.Nat.{_≤_}
 use native.Mathlib.Omega.{arith}
 use borrow.Author.Needs.{needs}
@@ -28,7 +28,7 @@ start c = c .before .before .before .before .before .before .before .before
 returns : tie.Need-returns
 returns c =
     let s = c .before .before .before .before .before in
-    (λ slot e. turn-one-unasked _ slot _ _ _ _ _ _ (s .pre .1 .1 .1 .1 .1 .1) (c .if1 .taken), λ z. refl)
+    (λ slot e. turn-one-unasked _ slot _ _ _ _ _ _ (s .pre .1 .1 .1 .1 .1 .1) (c .if1 .taken), (omega arith, sym (charged-none _ _ _ _ (omega arith))))
 
 sub-at : tie.Need-sub-at
 sub-at c = search needs
@@ -48,7 +48,7 @@ output-of-requires c κs = search needs
 returns-2 : tie.Need-returns-2
 returns-2 c =
     let o = c .before .before in
-    (λ s e. turn-one-held _ s _ _ _ _ _ _ _ e (o .output-of .ensures .0) (c .if2 .taken), λ z. refl)
+    (λ s e. turn-one-held _ s _ _ _ _ _ _ _ e (o .output-of .ensures .0) (c .if2 .taken), (omega arith, sym (charged-none _ _ _ _ (omega arith))))
 
 free-for-requires : tie.Need-free-for-requires
 free-for-requires c κs = search needs
@@ -106,7 +106,7 @@ returns-3 c =
       λ s e.
           turn-one-some _ s _ _ _ _ _ _ _ e (o .output-of .ensures .0) (f .before .before .if2 .left) _ _ (f .free-for .ensures s e)
           (found t) _ _ _ (q .0) (q .1 .0) (q .1 .1 .0) (c .before .if3 .taken),
-      λ z. absurd (omega (arith, c .before .if3 .taken)),
+      (in-turn-some _ _ _ _ (found t) (c .before .if3 .taken) .0 .high, q .1 .0),
     )
 
 same-length-5 : tie.Need-same-length-5
@@ -130,7 +130,7 @@ returns-4 c =
       λ s e.
           turn-one-none _ s _ _ _ _ _ _ _ e (o .output-of .ensures .0) (f .before .before .if2 .left) _ _ (f .free-for .ensures s e)
           (found t) _ _ _ (q .0) (q .1 .0) (q .1 .1 .0) (c .if3 .left),
-      λ z. q .1 .0 ∙ charged-none _ _ _ _ (c .if3 .left),
+      (omega (arith, c .if3 .left), q .1 .0),
     )
 
 pub turn-one-spec : {M : Type 1} → statement M

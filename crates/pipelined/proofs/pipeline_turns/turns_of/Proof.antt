@@ -1,10 +1,8 @@
 -- `pipeline_turns::turns_of` meets its contract: the input's turns are due or not, its rows are those of its slots, and what it asks for at its pass-two
 -- turn is what its queues hold then. Assumes nothing.
-use mathlib.Core.Path.{sym, _∙_, ap}
-use Prim.Native.Nat.{_-_, _*_}
+use mathlib.Core.Path.{_∙_}
 use native.Mathlib.Omega.{arith}
 use borrow.Author.Needs.{needs}
-use Rattle.turns.specs.Masks.{ready-mask}
 use Rattle.turns.specs.Requests.{Asked}
 use Rattle.pipelined.proofs.PipelinedTurns.{turns-due, turns-early}
 use Rattle.pipelined.proofs.pipeline_turns.turns_of.Statement.{statement}
@@ -63,14 +61,14 @@ turn-two-requires c κs =
       (
         p .1 .1 .1 .0,
         (
-          omega (arith, kept .0, p .0 .queues),
+          o .turn-one .ensures .1 .0,
           (
-            omega (arith, kept .1 .0, p .0 .given),
+            omega (arith, kept .0, p .0 .queues),
             (
-              omega (arith, v .row-before2 .ensures .1, kept .1 .1 .0, p .0 .flight),
+              omega (arith, kept .1 .0, p .0 .given),
               (
-                p .1 .1 .1 .1,
-                λ z. requests q .packets ∙ ap (λ m. ready-mask m m ((a .input .0 - 1) * a .ports) (a .ports)) (sym (o .turn-one .ensures .1 z)),
+                omega (arith, v .row-before2 .ensures .1, kept .1 .1 .0, p .0 .flight),
+                record { before = a .queues .now; taken = o .turn-one .ensures .1 .1; packets = requests q .packets },
               ),
             ),
           ),
