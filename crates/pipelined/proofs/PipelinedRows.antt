@@ -1,14 +1,15 @@
--- A row of a run, copied over or cleared as the front of the part that begins with it. Assumes nothing.
-use mathlib.Core.Path.{_≡_, _∙_, ap}
-use mathlib.Core.List.{List, [], _++_, append-nil}
-use Prim.Native.Nat.{ℕ, _+_, _-_, _*_, _%_, _≤_}
+-- A row of a run, copied over as the front of the part that begins with it, and cleared word by word. Assumes nothing.
+use mathlib.Core.Path.{_≡_, sym, _∙_, ap}
+use mathlib.Core.List.{List, [], _∷_, _++_, append-nil, append-assoc}
+use Prim.Native.Nat.{ℕ, suc, _+_, _-_, _*_, _%_, _≤_, _<_}
+use native.Mathlib.Nat.{add-zero}
 use native.Mathlib.Omega.{arith}
-use lib.ListN.{length, take, drop, replicate, length-drop, drop-of-length-le}
-use lib.Seq.{take-all, drop-drop}
+use lib.ListN.{length, getD, set, take, drop, replicate, length-append, length-take, length-drop, length-replicate, take-append-drop, drop-of-length-le, replicate-append-replicate}
+use lib.Seq.{take-all, drop-drop, drop-cons, append-snoc, getD-at, set-at}
 use Rattle.wsgs.specs.Words.{replaced}
 use Rattle.wsgs.specs.Pipelined.{loaded, row-cleared}
-use Rattle.words.specs.Runs.{copy-words, clear-words}
-use Rattle.words.proofs.Laws.{copy-fits, clear-fits}
+use Rattle.words.specs.Runs.{copy-words}
+use Rattle.words.proofs.Laws.{copy-fits}
 
 -- the part of a run from place p on, and what is left after it
 tail : (p : ℕ) (m : List ℕ) → take (length m - p) (drop p m) ≡ drop p m
@@ -33,9 +34,58 @@ module _ (p n : ℕ) (m ys : List ℕ) (fits : p + n ≤ length m) where
       (e ∙ rw (tail p copy, tail p m) (copy-fits n (drop p copy) (drop p m) (omega (arith, length-drop p copy)) (omega (arith, length-drop p m))))
       ∙ ap (λ x. replaced x n (take n (drop x copy)) m) place
 
-  -- the row of slot s, cleared
-  pub row-emptied : (s : ℕ) → p ≡ s % (2 * n) * n → ys ≡ clear-words n (take (length m - p) (drop p m))
-      → take p m ++ (ys ++ drop (length m - p) (drop p m)) ≡ row-cleared n m s
+-- a run whose words from place p on are set to 0, one after another
+module _ (p : ℕ) (m : List ℕ) where
+  -- the first k are
+  pub record ClearedSoFar (k : ℕ) (l : List ℕ) : Type 0 where
+    pub words : l ≡ replaced p k (replicate k 0) m
+
+  -- none is
+  pub cleared-none : ClearedSoFar 0 m
+  cleared-none = record { words = sym (ap (λ q. take p m ++ drop q m) (add-zero p) ∙ take-append-drop p m) }
+
+  -- all n are, and make up the row of slot s
+  pub cleared-all : (n s k : ℕ) (l : List ℕ) → p ≡ s % (2 * n) * n → k ≡ n → ClearedSoFar k l → l ≡ row-cleared n m s
   unfolding row-cleared
-  row-emptied s place e =
-      back (replicate n 0) (e ∙ rw (tail p m) (clear-fits n (drop p m) (omega (arith, length-drop p m)))) ∙ ap (λ x. replaced x n (replicate n 0) m) place
+  cleared-all n s k l place e h = rw (h .words, place, e)
+
+  -- the next one
+  module _ (k : ℕ) (l : List ℕ) (inside : p + k < length m) (h : ClearedSoFar k l) where
+    -- what comes before it and after it
+    abbrev front : List ℕ
+    front = take p m ++ replicate k 0
+
+    abbrev rest : List ℕ
+    rest = drop (suc (p + k)) m
+
+    -- how long the part before it is
+    front-length : length front ≡ p + k
+    front-length = simp (length-append, length-take, length-replicate) (omega arith)
+
+    -- the run, cut around it
+    around : l ≡ front ++ getD m (p + k) 0 ∷ rest
+    around =
+        h .words
+        ∙ ap (λ z. take p m ++ (replicate k 0 ++ z)) (drop-cons m (p + k) 0 inside)
+        ∙ sym (append-assoc (take p m) (replicate k 0) (getD m (p + k) 0 ∷ rest))
+
+    -- it stands as it was
+    pub next-stands : getD l (p + k) 0 ≡ getD m (p + k) 0
+    next-stands = ap (λ z. getD z (p + k) 0) around ∙ getD-at front (getD m (p + k) 0) rest 0 (p + k) front-length
+
+    -- a 0 in its place is one 0 more
+    zeros : replicate k 0 ++ 0 ∷ rest ≡ replicate (k + 1) 0 ++ rest
+    zeros = sym (append-snoc (replicate k 0) 0 rest) ∙ ap (λ z. z ++ rest) (replicate-append-replicate k 1 0)
+
+    -- and it is set to 0
+    pub cleared-more : ClearedSoFar (k + 1) (set l (p + k) 0)
+    cleared-more =
+        let next : suc (p + k) ≡ p + (k + 1) = omega arith in
+        record {
+          words =
+              ap (λ z. set z (p + k) 0) around
+              ∙ set-at front (getD m (p + k) 0) rest 0 (p + k) front-length
+              ∙ append-assoc (take p m) (replicate k 0) (0 ∷ rest)
+              ∙ ap (λ z. take p m ++ z) zeros
+              ∙ ap (λ q. take p m ++ (replicate (k + 1) 0 ++ drop q m)) next;
+        }

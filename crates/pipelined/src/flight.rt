@@ -11,7 +11,6 @@ ghost use Rattle.pipelined.specs.Turnings.{answering};
 use std::num::wrapping_sub_u32;
 use turns::masks::all_free;
 use turns::masks::take;
-use words::clear_words;
 use wsgs::Clock;
 use wsgs::Input;
 use wsgs::Output;
@@ -93,12 +92,13 @@ pub fn free_for(ports: usize, row: usize, flight: &[u32]) -> u32
     free
 }
 
-// The result of a tick that has come to a clock's slot: the pairs that the row of the next slot hands out.
-pub fn hand_out(clock: Clock, flight: &[u32]) -> TickResult
+// The result of a tick that has come to a clock's slot: the pairs that the row of the next slot hands out. The row is then set to 0.
+pub fn hand_out(clock: Clock, flight: &mut [u32]) -> TickResult
     requires some_port { ⌜ 1 ≤ clock .ports ⌝ }
     requires few_ports { ⌜ clock .ports ≤ 32 ⌝ }
     requires flight_fits { ⌜ 2 * clock .ports * clock .ports ≤ length (now flight) ⌝ }
     ensures result { λ r. ⌜ r ≡ answering clock (handed-out (clock .ports) (now (flight .entry)) (clock .slot + 1)) ⌝ }
+    ensures flight_exit { λ r. ⌜ now (flight .exit) ≡ row-cleared (clock .ports) (now (flight .entry)) (clock .slot + 1) ⌝ }
 {
     let highest = clock.ports;
     let ports = highest as usize;
@@ -107,6 +107,7 @@ pub fn hand_out(clock: Clock, flight: &[u32]) -> TickResult
     let mut first_pass = 0u32;
     for column in 0..ports {
         let word = flight[row + column];
+        flight[row + column] = 0;
         outputs[column] = output_of(ports, word).0 as u8;
         if is_by_first(highest, word) {
             first_pass |= 1 << column;
@@ -118,15 +119,4 @@ pub fn hand_out(clock: Clock, flight: &[u32]) -> TickResult
         outputs,
         first_pass,
     }
-}
-
-// The row of a slot is set to 0.
-pub fn clear_row(ports: usize, slot: u64, flight: &mut [u32])
-    requires some_port { ⌜ 1 ≤ ports ⌝ }
-    requires few_ports { ⌜ ports ≤ 32 ⌝ }
-    requires flight_fits { ⌜ 2 * ports * ports ≤ length (now flight) ⌝ }
-    ensures flight_exit { λ _. ⌜ now (flight .exit) ≡ row-cleared ports (now (flight .entry)) slot ⌝ }
-{
-    let row = row_of(ports, slot);
-    clear_words(&mut flight[row..], ports);
 }

@@ -12,7 +12,6 @@ ghost use Rattle.wsgs.specs.Frames.{into-frame};
 ghost use Rattle.wsgs.specs.Pipelined;
 ghost use Rattle.pipelined.specs.Turnings.{RunsFit};
 use bookings::copy_bookings;
-use flight::clear_row;
 use flight::hand_out;
 use pipeline_turns::all_turns;
 use pipeline_turns::look_ahead;
@@ -69,9 +68,7 @@ fn run_tick(
     let ahead = look_ahead(ports, clock.frame as u64, time);
     renew_copy(clock, ahead.into, slots, rates, copy);
     all_turns(ports, time, ahead, copy, credits, queues, given, flight);
-    let result = hand_out(next, flight);
-    clear_row(ports, time + 1, flight);
-    result
+    hand_out(next, flight)
 }
 
 // A tick: the questions, then the work. The clock goes in and comes back whole.

@@ -48,12 +48,6 @@ all-turns-requires c κs =
 hand-out-requires : tie.Need-hand-out-requires
 hand-out-requires c κs = let p = start (turned c) .pre in omega (arith, p .0, p .1 .0 .ports, p .1 .0 .flight)
 
-add-clear-row : tie.Need-add-clear-row
-add-clear-row c = omega (arith, start (turned (c .before)) .pre .1 .1 .1 .1 .1)
-
-clear-row-requires : tie.Need-clear-row-requires
-clear-row-requires c κs = let p = start (turned (c .before .before)) .pre in omega (arith, p .0, p .1 .0 .ports, p .1 .0 .flight)
-
 same-length : tie.Need-same-length
 same-length c = search needs
 
@@ -71,12 +65,11 @@ same-length-5 c = search needs
 
 returns : tie.Need-returns
 returns c =
-    let e = c .before .before in
-    let h = e .before .before in
+    let h = c .before .before in
     let t = turned (h .before) in
     let b = copied t in
     let a = looked b .look-ahead .ensures in
-    ticked-left _ _ _ _ _ _ _ _ _ (b .renew-copy .ensures _ (a .place) _ _ _ _) (t .all-turns .ensures _ a) (h .hand-out .ensures) (e .clear-row .ensures)
+    ticked-left _ _ _ _ _ _ _ _ _ (b .renew-copy .ensures _ (a .place) _ _ _ _) (t .all-turns .ensures _ a) (h .hand-out .ensures .0) (h .hand-out .ensures .1)
 
 pub run-tick-spec : {M : Type 1} → statement M
 run-tick-spec =
@@ -90,8 +83,6 @@ run-tick-spec =
     renew-copy-requires
     all-turns-requires
     hand-out-requires
-    add-clear-row
-    clear-row-requires
     same-length
     same-length-2
     same-length-3
