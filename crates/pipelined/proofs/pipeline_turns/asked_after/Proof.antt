@@ -37,7 +37,7 @@ returns-2 c =
     let o = c .before .before in
     let p = start o .pre in
     asks-still _ _ _ _ _ (p .1 .1 .1 .1) (p .0) (p .1 .0) (port o) (p .1 .1 .1 .0) _
-    (at-place _ _ _ _ (o .place-of .ensures) (p .0) (p .1 .0) (port o)) (c .if2 .taken)
+    (at-place _ _ _ _ (o .place-of .ensures) (p .0) (p .1 .0) (port o)) (omega (arith, c .if2 .taken))
 
 take-requires : tie.Need-take-requires
 take-requires c κs = search needs
@@ -48,7 +48,7 @@ returns-3 c =
     let o = e .before .before in
     let p = start o .pre in
     c .take .ensures ∙ asks-no-more _ _ _ _ _ (p .1 .1 .1 .1) (p .0) (p .1 .0) (port o) (p .1 .1 .1 .0) _
-    (at-place _ _ _ _ (o .place-of .ensures) (p .0) (p .1 .0) (port o)) (e .if2 .left)
+    (at-place _ _ _ _ (o .place-of .ensures) (p .0) (p .1 .0) (port o)) (omega (arith, e .if2 .left))
 
 pub asked-after-spec : {M : Type 1} → statement M
 asked-after-spec =
