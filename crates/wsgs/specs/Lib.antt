@@ -21,4 +21,6 @@ pub mod Edges
 pub mod Examples
 pub mod Faults
 pub mod Text
+pub mod Records
 pub mod Program
+pub mod BadRecords
