@@ -1,3 +1,4 @@
 pub mod Digits
 pub mod Texts
-pub mod Fields
+pub mod Cuts
+pub mod Readings

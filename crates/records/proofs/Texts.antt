@@ -3,16 +3,19 @@ use mathlib.Core.Path.{_≡_, refl, sym, ap, _∙_}
 use mathlib.Core.Bool.{Bool, true, false, _&&_}
 use mathlib.Core.List.{List, [], _∷_}
 use Prim.Native.Nat.{ℕ, suc, _+_, _≤_, _<_}
+use native.Mathlib.Nat.{not-suc-le-zero}
 use native.Mathlib.Numerals.{add-one}
 use native.Mathlib.Omega.{arith}
+use native.Mathlib.Decide.{ℕ-discrete}
 use borrow.Author.Tests.{eq-eqb, ne-eqb}
 use lib.Dec.{eqb}
 use lib.ListN.{length, getD, drop, drop-of-length-le}
 use lib.Seq.{drop-cons}
 use Rattle.wsgs.specs.Basics.{same}
 use Rattle.wsgs.specs.declared.OperationField.the-variants.{Known}
-use Rattle.wsgs.specs.Text.{comma, bytes, look-up, Name}
-use Rattle.records.specs.Commas.{first-comma}
+use Rattle.wsgs.specs.Text.{bytes, has}
+use Rattle.wsgs.specs.Records.{look-up, Name}
+use Rattle.records.specs.Parts.{first-place}
 
 -- texts of different lengths differ
 pub lengths-differ : (a b : List ℕ) → (length a ≡ length b → ⊥) → same a b ≡ false
@@ -62,36 +65,67 @@ module _ (r : Name) (rs : List Name) (t : List ℕ) (is : Bool) (e : is ≡ same
   unfolding look-up
   passed-over h = rw (← e, h, look-up)
 
--- a text that begins with a comma, and one that begins with another byte
-module _ (x : ℕ) (xs : List ℕ) where
-  pub comma-first : x ≡ comma → first-comma (x ∷ xs) ≡ 0
-  unfolding first-comma
-  comma-first e = rw (eq-eqb x comma e, first-comma)
+-- THE FIRST PLACE of a byte b, in a text that begins with it, and in one that begins with another
+module _ (b x : ℕ) (xs : List ℕ) where
+  pub place-first : x ≡ b → first-place b (x ∷ xs) ≡ 0
+  unfolding first-place
+  place-first e = rw (eq-eqb x b e, first-place)
 
-  pub comma-later : (x ≡ comma → ⊥) → first-comma (x ∷ xs) ≡ suc (first-comma xs)
-  unfolding first-comma
-  comma-later d = rw (ne-eqb x comma d, first-comma)
+  pub place-later : (x ≡ b → ⊥) → first-place b (x ∷ xs) ≡ suc (first-place b xs)
+  unfolding first-place
+  place-later d = rw (ne-eqb x b d, first-place)
 
--- the first i bytes of a text have no comma
-pub record NoComma (t : List ℕ) (i : ℕ) : Type 0 where
+-- the first i bytes of a text are others
+pub record Without (b : ℕ) (t : List ℕ) (i : ℕ) : Type 0 where
   pub within : i ≤ length t
-  pub rest : first-comma t ≡ i + first-comma (drop i t)
+  pub rest : first-place b t ≡ i + first-place b (drop i t)
 
-module _ (t : List ℕ) where
-  pub no-comma : NoComma t 0
-  no-comma = record { within = omega arith; rest = omega arith }
+module _ (b : ℕ) (t : List ℕ) where
+  pub without-none : Without b t 0
+  without-none = record { within = omega arith; rest = omega arith }
 
-  module _ (i : ℕ) (n : NoComma t i) where
-    pub comma-not : i < length t → (getD t i 0 ≡ comma → ⊥) → NoComma t (i + 1)
-    comma-not h d =
+  module _ (i : ℕ) (n : Without b t i) where
+    pub without-more : i < length t → (getD t i 0 ≡ b → ⊥) → Without b t (i + 1)
+    without-more h d =
         record {
           within = omega arith;
-          rest = n .rest ∙ rw (drop-cons t i 0 h, comma-later (getD t i 0) (drop (suc i) t) d, add-one i) (omega arith);
+          rest = n .rest ∙ rw (drop-cons t i 0 h, place-later b (getD t i 0) (drop (suc i) t) d, add-one i) (omega arith);
         }
 
-    pub comma-here : i < length t → getD t i 0 ≡ comma → i ≡ first-comma t
-    comma-here h e = sym (n .rest ∙ rw (drop-cons t i 0 h, comma-first (getD t i 0) (drop (suc i) t) e) (omega arith))
+    pub place-here : i < length t → getD t i 0 ≡ b → i ≡ first-place b t
+    place-here h e = sym (n .rest ∙ rw (drop-cons t i 0 h, place-first b (getD t i 0) (drop (suc i) t) e) (omega arith))
 
-    pub comma-nowhere : length t ≤ i → i ≡ first-comma t
-    unfolding first-comma
-    comma-nowhere h = sym (n .rest ∙ rw (drop-of-length-le t h) (omega arith))
+    pub place-nowhere : length t ≤ i → i ≡ first-place b t
+    unfolding first-place
+    place-nowhere h = sym (n .rest ∙ rw (drop-of-length-le t h) (omega arith))
+
+place-most : (b : ℕ) (t : List ℕ) → first-place b t ≤ length t
+unfolding first-place
+place-most b [] = omega arith
+place-most b (x ∷ xs) = go (ℕ-discrete x b) (place-most b xs)
+  where
+    go : Dec (x ≡ b) → first-place b xs ≤ length xs → first-place b (x ∷ xs) ≤ suc (length xs)
+    go (yes e) rest = omega (arith, place-first b x xs e)
+    go (no d) rest = omega (arith, place-later b x xs d)
+
+pub place-fits : (b : ℕ) (t : List ℕ) (k : ℕ) → k ≡ first-place b t → k ≤ length t
+place-fits b t k e = omega (arith, place-most b t)
+
+-- a text has the byte where that is a place in it, and has it not where it is none
+pub has-byte : (b : ℕ) (t : List ℕ) → first-place b t < length t → has b t ≡ true
+unfolding has
+has-byte b [] h = absurd (not-suc-le-zero h)
+has-byte b (x ∷ xs) h = go (ℕ-discrete x b) (has-byte b xs)
+  where
+    go : Dec (x ≡ b) → (first-place b xs < length xs → has b xs ≡ true) → has b (x ∷ xs) ≡ true
+    go (yes e) rest = rw (eq-eqb x b e)
+    go (no d) rest = rw (ne-eqb x b d) (rest (omega (arith, place-later b x xs d)))
+
+pub has-not : (b : ℕ) (t : List ℕ) → length t ≤ first-place b t → has b t ≡ false
+unfolding has
+has-not b [] h = refl
+has-not b (x ∷ xs) h = go (ℕ-discrete x b) (has-not b xs)
+  where
+    go : Dec (x ≡ b) → (length xs ≤ first-place b xs → has b xs ≡ false) → has b (x ∷ xs) ≡ false
+    go (yes e) rest = absurd (omega (arith, place-first b x xs e))
+    go (no d) rest = rw (ne-eqb x b d) (rest (omega (arith, place-later b x xs d)))

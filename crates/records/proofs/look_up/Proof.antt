@@ -4,7 +4,8 @@ use mathlib.Core.List.{List}
 use Prim.Native.Nat.{ℕ}
 use borrow.Author.Needs.{needs}
 use lib.ListN.{drop}
-use Rattle.wsgs.specs.Text.{names, look-up, bytes}
+use Rattle.wsgs.specs.Text.{bytes}
+use Rattle.wsgs.specs.Records.{names, look-up}
 use Rattle.records.proofs.Texts.{found, passed-over}
 use Rattle.records.proofs.look_up.Statement.{statement}
 use Rattle.records.proofs.look_up.Tie as tie

@@ -1,145 +1,130 @@
--- A record is cut at its commas, and its fields are read.
-use mathlib.Core.Path.{refl, sym, _∙_}
+-- A record is asked its questions in their order, and its numbers are read.
+use mathlib.Core.Path.{ap, sym, _∙_}
 use native.Mathlib.Omega.{arith}
-use lib.Seq.{length-take-le}
-use Rattle.records.proofs.Fields.{last-field, next-field, over-64, one-field, two-fields, three-fields, four-fields, more-fields}
 use borrow.Author.Needs.{needs}
+use borrow.Author.Tests.{not-true, not-false}
+use lib.Seq.{length-take-le}
+use Rattle.wsgs.specs.Records.{names, look-up}
+use Rattle.records.proofs.Texts.{place-fits, has-byte, has-not}
+use Rattle.records.proofs.Cuts.{first-field, comma-within, one-fewer, next-field}
+use Rattle.records.proofs.Readings.{over-64, quoted, unknown, too-early, other-count, by-numbers}
 use Rattle.records.proofs.read_record.Statement.{statement}
 use Rattle.records.proofs.read_record.Tie as tie
 
 returns : tie.Need-returns
-returns c = over-64 _ (omega arith)
+returns c = over-64 _ _ (omega arith)
 
-comma-place-requires : tie.Need-comma-place-requires
-comma-place-requires c κs = search needs
+place-of-requires : tie.Need-place-of-requires
+place-of-requires c κs = search needs
 
 returns-2 : tie.Need-returns-2
-returns-2 c = one-field _ (omega arith) _ (last-field _ _ (c .before .comma-place .ensures) (c .if2 .taken))
+returns-2 c = quoted _ _ (omega arith) (has-byte _ _ (omega (arith, c .before .place-of .ensures)))
 
-add-after-first : tie.Need-add-after-first
-add-after-first c = search needs
+place-of-requires-2 : tie.Need-place-of-requires-2
+place-of-requires-2 c κs = search needs
 
-sub-after-first : tie.Need-sub-after-first
-sub-after-first c = search needs
+slice-aggregate-look-up : tie.Need-slice-aggregate-look-up
+slice-aggregate-look-up c = sym (length-take-le _ _ (place-fits _ _ _ (c .before .place-of2 .ensures)))
 
-part-after-first-start : tie.Need-part-after-first-start
-part-after-first-start c = search needs
+look-up-requires : tie.Need-look-up-requires
+look-up-requires c κs = search needs
 
-part-after-first-end : tie.Need-part-after-first-end
-part-after-first-end c = search needs
+enum-known-operation : tie.Need-enum-known-operation
+enum-known-operation c = search needs
 
-comma-place-requires-2 : tie.Need-comma-place-requires-2
-comma-place-requires-2 c κs = search needs
+enum-told : tie.Need-enum-told
+enum-told c = search needs
 
 returns-3 : tie.Need-returns-3
 returns-3 c =
-    let one = c .before .before .before in
-    two-fields _ (omega arith) _ _
-    (next-field _ _ (one .before .comma-place .ensures) (one .if2 .left)
-    (last-field _ _ (c .before .comma-place2 .ensures) (c .if3 .taken)))
+    let look = c .before .before in
+    let end = look .before .before in
+    unknown _ _ (omega arith) (has-not _ _ (omega (arith, end .before .before .place-of .ensures)))
+    (ap (look-up names) (first-field _ _ (end .place-of2 .ensures)) ∙ sym (look .look-up .ensures) ∙ c .enum-told .given .1)
 
-add-after-second : tie.Need-add-after-second
-add-after-second c = search needs
-
-sub-after-second : tie.Need-sub-after-second
-sub-after-second c = search needs
-
-part-after-second-start : tie.Need-part-after-second-start
-part-after-second-start c = search needs
-
-part-after-second-end : tie.Need-part-after-second-end
-part-after-second-end c = search needs
-
-comma-place-requires-3 : tie.Need-comma-place-requires-3
-comma-place-requires-3 c κs = search needs
+is-after-start-requires : tie.Need-is-after-start-requires
+is-after-start-requires c κs = search needs
 
 returns-4 : tie.Need-returns-4
 returns-4 c =
-    let two = c .before .before .before in
-    let one = two .before .before .before in
-    three-fields _ (omega arith) _ _ _
-    (next-field _ _ (one .before .comma-place .ensures) (one .if2 .left)
-    (next-field _ _ (two .before .comma-place2 .ensures) (two .if3 .left)
-    (last-field _ _ (c .before .comma-place3 .ensures) (c .if4 .taken))))
+    let operation = c .before .before .before in
+    let look = operation .before .before in
+    let end = look .before .before in
+    too-early _ _ (omega arith) (has-not _ _ (omega (arith, end .before .before .place-of .ensures))) _
+    (ap (look-up names) (first-field _ _ (end .place-of2 .ensures)) ∙ sym (look .look-up .ensures) ∙ operation .operation .given .1)
+    (sym (c .before .is-after-start .ensures) ∙ not-true _ (c .if3 .taken))
 
-add-fourth : tie.Need-add-fourth
-add-fourth c = search needs
-
-sub-fourth : tie.Need-sub-fourth
-sub-fourth c = search needs
-
-part-fourth-start : tie.Need-part-fourth-start
-part-fourth-start c = search needs
-
-part-fourth-end : tie.Need-part-fourth-end
-part-fourth-end c = search needs
-
-comma-place-requires-4 : tie.Need-comma-place-requires-4
-comma-place-requires-4 c κs = search needs
+field-count-requires : tie.Need-field-count-requires
+field-count-requires c κs = search needs
 
 returns-5 : tie.Need-returns-5
 returns-5 c =
-    let three = c .before .before .before in
-    let two = three .before .before .before in
-    let one = two .before .before .before in
-    more-fields _ (omega arith) _ _ _ _ _
-    (next-field _ _ (one .before .comma-place .ensures) (one .if2 .left)
-    (next-field _ _ (two .before .comma-place2 .ensures) (two .if3 .left)
-    (next-field _ _ (three .before .comma-place3 .ensures) (three .if4 .left)
-    (next-field _ _ (c .before .comma-place4 .ensures) (c .if5 .taken) refl))))
+    let started = c .before .before in
+    let operation = started .before .before .before in
+    let look = operation .before .before in
+    let end = look .before .before in
+    other-count _ _ (omega arith) (has-not _ _ (omega (arith, end .before .before .place-of .ensures))) _
+    (ap (look-up names) (first-field _ _ (end .place-of2 .ensures)) ∙ sym (look .look-up .ensures) ∙ operation .operation .given .1)
+    (sym (started .before .is-after-start .ensures) ∙ not-false _ (started .if3 .left)) (λ e. c .if4 .taken (c .before .field-count .ensures ∙ e))
 
-slice-aggregate-read-fields : tie.Need-slice-aggregate-read-fields
-slice-aggregate-read-fields c = sym (length-take-le _ _ (omega arith))
+add-read-numbers : tie.Need-add-read-numbers
+add-read-numbers c =
+    let end = c .before .before .before .before .before .before .before .before .before in
+    omega (arith, comma-within _ _ (end .place-of2 .ensures) (omega (arith, c .before .field-count .ensures)))
 
-slice-aggregate-read-fields-2 : tie.Need-slice-aggregate-read-fields-2
-slice-aggregate-read-fields-2 c = sym (length-take-le _ _ (omega arith))
+sub-read-numbers : tie.Need-sub-read-numbers
+sub-read-numbers c =
+    let end = c .before .before .before .before .before .before .before .before .before in
+    omega (arith, comma-within _ _ (end .place-of2 .ensures) (omega (arith, c .before .field-count .ensures)))
 
-slice-aggregate-read-fields-3 : tie.Need-slice-aggregate-read-fields-3
-slice-aggregate-read-fields-3 c = sym (length-take-le _ _ (omega arith))
+part-read-numbers-start : tie.Need-part-read-numbers-start
+part-read-numbers-start c =
+    let end = c .before .before .before .before .before .before .before .before .before in
+    omega (arith, comma-within _ _ (end .place-of2 .ensures) (omega (arith, c .before .field-count .ensures)))
 
-read-fields-requires : tie.Need-read-fields-requires
-read-fields-requires c κs = search needs
+part-read-numbers-end : tie.Need-part-read-numbers-end
+part-read-numbers-end c = search needs
+
+read-numbers-requires : tie.Need-read-numbers-requires
+read-numbers-requires c κs =
+    let count = c .before .before in
+    let end = count .before .before .before .before .before .before .before .before in
+    omega (arith, count .field-count .ensures, one-fewer _ _ (end .place-of2 .ensures) (omega (arith, count .field-count .ensures)))
 
 returns-6 : tie.Need-returns-6
 returns-6 c =
-    let four = c .before .before .before .before in
-    let three = four .before .before .before in
-    let two = three .before .before .before in
-    let one = two .before .before .before in
-    c .read-fields .ensures
-    ∙ four-fields _ (omega arith) _ _ _ _
-    (next-field _ _ (one .before .comma-place .ensures) (one .if2 .left)
-    (next-field _ _ (two .before .comma-place2 .ensures) (two .if3 .left)
-    (next-field _ _ (three .before .comma-place3 .ensures) (three .if4 .left)
-    (last-field _ _ (four .before .comma-place4 .ensures) (four .if5 .left)))))
+    let count = c .before .before in
+    let started = count .before .before in
+    let operation = started .before .before .before in
+    let look = operation .before .before in
+    let end = look .before .before in
+    let four = sym (count .before .field-count .ensures) ∙ count .if4 .left in
+    c .read-numbers .ensures
+    ∙ by-numbers _ _ (omega arith) (has-not _ _ (omega (arith, end .before .before .place-of .ensures))) _
+    (ap (look-up names) (first-field _ _ (end .place-of2 .ensures)) ∙ sym (look .look-up .ensures) ∙ operation .operation .given .1)
+    (sym (started .before .is-after-start .ensures) ∙ not-false _ (started .if3 .left)) four _ _
+    (next-field _ _ (end .place-of2 .ensures) (comma-within _ _ (end .place-of2 .ensures) (omega (arith, four))))
 
 pub read-record-spec : {M : Type 1} → statement M
 read-record-spec =
     tie.close
     (tie.spec
     returns
-    comma-place-requires
+    place-of-requires
     returns-2
-    add-after-first
-    sub-after-first
-    part-after-first-start
-    part-after-first-end
-    comma-place-requires-2
+    place-of-requires-2
+    slice-aggregate-look-up
+    look-up-requires
+    enum-known-operation
+    enum-told
     returns-3
-    add-after-second
-    sub-after-second
-    part-after-second-start
-    part-after-second-end
-    comma-place-requires-3
+    is-after-start-requires
     returns-4
-    add-fourth
-    sub-fourth
-    part-fourth-start
-    part-fourth-end
-    comma-place-requires-4
+    field-count-requires
     returns-5
-    slice-aggregate-read-fields
-    slice-aggregate-read-fields-2
-    slice-aggregate-read-fields-3
-    read-fields-requires
+    add-read-numbers
+    sub-read-numbers
+    part-read-numbers-start
+    part-read-numbers-end
+    read-numbers-requires
     returns-6)

@@ -1,8 +1,8 @@
 -- The fields that an operation does not use, by cases on the operation.
 use borrow.Author.Tests.{eq-eqb, ne-eqb}
 use borrow.Author.Needs.{needs}
-use Rattle.records.proofs.unused_are_zero.Statement.{statement}
-use Rattle.records.proofs.unused_are_zero.Tie as tie
+use Rattle.records.proofs.fields.unused_are_zero.Statement.{statement}
+use Rattle.records.proofs.fields.unused_are_zero.Tie as tie
 
 enum-told : tie.Need-enum-told
 enum-told c = search needs

@@ -4,8 +4,8 @@ use native.Mathlib.Omega.{arith}
 use borrow.Author.Needs.{needs}
 use lib.ListN.{length}
 use Rattle.records.proofs.Digits.{Digits, no-digits, too-short, too-long, next-fits, next-digit, below-digits, above-digits, all-read}
-use Rattle.records.proofs.read_field.Statement.{statement}
-use Rattle.records.proofs.read_field.Tie as tie
+use Rattle.records.proofs.fields.read_field.Statement.{statement}
+use Rattle.records.proofs.fields.read_field.Tie as tie
 
 abbrev Inv-loop : tie.InvT-loop
 Inv-loop text value₀ i₀ value i = Digits text value i
