@@ -1,5 +1,6 @@
 -- The first 65 bytes of a record are enough to read it, and the buffer keeps them. Assumes nothing.
 use mathlib.Core.Path.{_≡_, refl, sym, ap, _∙_}
+use mathlib.Core.Bool.{Bool}
 use mathlib.Core.List.{List, [], _∷_, _++_, append-assoc}
 use Prim.Native.Nat.{ℕ, suc, _+_, _-_, _≤_, _<_, min}
 use native.Mathlib.Decide.{decLe, decLt}
@@ -9,9 +10,10 @@ use lib.ListN.{length, take, length-append, length-set}
 use lib.Seq.{take-all, take-take, take-append-le, take-suc-set, length-take-le}
 use lib.Dec.{ltb}
 use Rattle.wsgs.specs.Basics.{pick}
-use Rattle.wsgs.specs.Text.{drop-last, reversed, read-record}
-use Rattle.events.specs.Feeding.{kept-bytes, State, appended, kept-record}
-use Rattle.records.proofs.Fields.{over-64}
+use Rattle.wsgs.specs.Text.{drop-last, reversed}
+use Rattle.wsgs.specs.Records.{read-record}
+use Rattle.events.specs.Feeding.{kept-bytes, State, appended, kept-record, kept-reading}
+use Rattle.records.proofs.Readings.{over-64}
 
 -- a text read back to front
 reversed-onto : (xs done : List ℕ) → reversed xs done ≡ reversed xs [] ++ done
@@ -30,12 +32,12 @@ reversed-length [] = refl
 reversed-length (x ∷ xs) = ap length (reversed-cons x xs) ∙ length-append (reversed xs []) (x ∷ []) ∙ omega (arith, reversed-length xs)
 
 -- 65 bytes are enough
-pub first-65 : (r : List ℕ) → read-record (take 65 r) ≡ read-record r
-first-65 r = go (decLe (length r) 65)
+first-65 : (running : Bool) (r : List ℕ) → read-record running (take 65 r) ≡ read-record running r
+first-65 running r = go (decLe (length r) 65)
   where
-    go : Dec (length r ≤ 65) → read-record (take 65 r) ≡ read-record r
+    go : Dec (length r ≤ 65) → read-record running (take 65 r) ≡ read-record running r
     go (yes h) = rw (take-all 65 r h)
-    go (no h) = sym (over-64 (take 65 r) (omega (arith, length-take-le {A = ℕ} 65 r (omega arith)))) ∙ over-64 r (omega arith)
+    go (no h) = sym (over-64 running (take 65 r) (omega (arith, length-take-le {A = ℕ} 65 r (omega arith)))) ∙ over-64 running r (omega arith)
 
 -- the state keeps a record begun, whose last byte stands first
 pub record Holds (s : State) (begun : List ℕ) : Type 0 where
@@ -52,7 +54,7 @@ take-min k r = go (decLe (length r) k)
     go (no h) = let e : min (length r) k ≡ k = omega arith in rw e
 
 -- what is kept reads as the record does
-pub reads-same : (s : State) (begun : List ℕ) → Holds s begun → read-record (kept-record s) ≡ read-record (reversed (drop-last begun) [])
+pub reads-same : (s : State) (begun : List ℕ) → Holds s begun → kept-reading s ≡ read-record (s .machine .running) (reversed (drop-last begun) [])
 unfolding reversed
 reads-same s [] h = rw (h .count)
 reads-same s (y ∷ ys) h =
@@ -68,7 +70,7 @@ reads-same s (y ∷ ys) h =
     ∙ ap (take k) (reversed-cons y ys)
     ∙ take-append-le k r (y ∷ []) (omega arith)
     ∙ take-min 65 r in
-    ap read-record same ∙ first-65 r
+    ap (read-record (s .machine .running)) same ∙ first-65 (s .machine .running) r
 
 -- a byte more
 module _ (s : State) (begun : List ℕ) (x : ℕ) (h : Holds s begun) where

@@ -11,21 +11,17 @@ use Rattle.wsgs.specs.declared.Operation.the-variants.{Start, Pipe, Book, Relea
 use Rattle.wsgs.specs.declared.Reading.{Reading}
 use Rattle.wsgs.specs.declared.Reading.the-variants.{Request, Refused}
 use Rattle.wsgs.specs.Basics.{pick, between}
-use Rattle.wsgs.specs.Text.{LF, read-record}
-use Rattle.wsgs.specs.Program.{Machine, RecordOutcome, run-slot, obey}
+use Rattle.wsgs.specs.Text.{LF}
+use Rattle.wsgs.specs.Program.{Machine, run-slot, obey}
 use Rattle.wsgs.proofs.Laws.Tests.{in-range}
 use Rattle.lines.specs.Lines.{TextWritten}
 use Rattle.lines.proofs.Writing.{wrote-none, wrote-then, wrote-long}
-use Rattle.events.specs.Feeding.{State, kept-record, record-end, record-step, slot-step, byte-step, has-work, most-steps, FeedOutcome, goes-on, next-step, next-taken, step, steps, work, fed}
+use Rattle.events.specs.Feeding.{State, kept-reading, record-end, record-step, slot-step, byte-step, has-work, most-steps, FeedOutcome, goes-on, next-step, next-taken, step, steps, work, fed}
 use Rattle.events.specs.View.{feed-effect, StepWritten}
 use Rattle.events.proofs.Feeding.{Ready, ready, byte-there, step-slot, step-byte}
 use Rattle.events.proofs.Whole.{end-read, end-heading, byte-ends, byte-more}
 
 -- a record leaves at most 10,000 slots to run
-either-few : (b : Bool) (o o′ : RecordOutcome) → o .slots ≤ 10000 → o′ .slots ≤ 10000 → pick b o o′ .slots ≤ 10000
-either-few true o o′ h h′ = h
-either-few false o o′ h h′ = h′
-
 asked-few : (z : ℕ) (b : Bool) → between 1 10000 z ≡ b → pick b z 0 ≤ 10000
 asked-few z true e = in-range 1 10000 z (rw e tt) .1
 asked-few z false e = omega arith
@@ -35,10 +31,10 @@ unfolding obey
 few-slots m (Refused number) = omega arith
 few-slots m (Request Start x y z) = omega arith
 few-slots m (Request Pipe x y z) = omega arith
-few-slots m (Request Book x y z) = either-few (m .running) _ _ (omega arith) (omega arith)
-few-slots m (Request Release x y z) = either-few (m .running) _ _ (omega arith) (omega arith)
-few-slots m (Request Arrive x y z) = either-few (m .running) _ _ (omega arith) (omega arith)
-few-slots m (Request Tick x y z) = either-few (m .running) _ _ (asked-few z (between 1 10000 z) refl) (omega arith)
+few-slots m (Request Book x y z) = omega arith
+few-slots m (Request Release x y z) = omega arith
+few-slots m (Request Arrive x y z) = omega arith
+few-slots m (Request Tick x y z) = asked-few z (between 1 10000 z) refl
 
 -- so does a byte
 record-few : (s : State) (r : Reading) → record-step s r .state .slots-left ≤ 10000
@@ -49,7 +45,7 @@ end-few : (s : State) → record-end s .state .slots-left ≤ 10000
 end-few s = go (s .past-heading) refl
   where
     go : (b : Bool) → s .past-heading ≡ b → record-end s .state .slots-left ≤ 10000
-    go true h = rw (end-read s h) (record-few s (read-record (kept-record s)))
+    go true h = rw (end-read s h) (record-few s (kept-reading s))
     go false h = rw (end-heading s h) (omega arith)
 
 byte-few : (s : State) (x : ℕ) → s .slots-left ≡ 0 → byte-step s x .state .slots-left ≤ 10000

@@ -9,7 +9,8 @@ use lib.ListN.{length, getD, take}
 use Rattle.wsgs.specs.declared.Reading.{Reading}
 use Rattle.wsgs.specs.Basics.{pick}
 use Rattle.wsgs.specs.Bookings.{Book}
-use Rattle.wsgs.specs.Text.{LF, read-record}
+use Rattle.wsgs.specs.Text.{LF}
+use Rattle.wsgs.specs.Records.{read-record}
 use Rattle.wsgs.specs.Program.{RecordOutcome, SlotOutcome, obey, run-slot, refusal-text, slot-text}
 use Rattle.wsgs.specs.Program
 use Rattle.lines.specs.Lines.{TextWritten, slot-room}
@@ -18,7 +19,7 @@ use Rattle.machine.specs.declared.RecordResult.{RecordResult}
 use Rattle.machine.specs.declared.SlotResult.{SlotResult}
 use Rattle.machine.specs.View.{machine-of, record-outcome-of, slot-outcome-of}
 use Rattle.events.specs.declared.Progress.{Progress}
-use Rattle.events.specs.Feeding.{kept-bytes, State, StepOutcome, with-machine, ended, appended, slots-after, slot-step, record-step, record-end, byte-step, next-step, has-work}
+use Rattle.events.specs.Feeding.{kept-bytes, State, kept-reading, StepOutcome, with-machine, ended, appended, slots-after, slot-step, record-step, record-end, byte-step, next-step, has-work}
 use Rattle.events.specs.View.{state-of, slot-result-text, ended-progress, moved-progress, StepWritten}
 use Rattle.events.proofs.Whole.{end-read, end-heading, byte-ends, byte-more}
 
@@ -53,11 +54,11 @@ module _ (k : Progress) (b : List ℕ) (a : Book) (c q g p f : List ℕ) where
           text = rw el (wrote-is w (ap (λ (o : RecordOutcome). refusal-text (o .refusal)) e));
         }
 
-    pub record-written : (n : ℕ) (reading : Reading) → k .«past_heading» ≡ true → n ≡ min (k .count - 1) kept-bytes → reading ≡ read-record (take n b)
+    pub record-written : (n : ℕ) (reading : Reading) → k .«past_heading» ≡ true → n ≡ min (k .count - 1) kept-bytes → reading ≡ read-record (k .machine .running) (take n b)
         → record-outcome-of r (a′ .slots) (a′ .rates) c′ q′ g′ p′ f′ ≡ obey M reading → TextWritten out at (refusal-text (r .refusal)) next out′
         → k′ ≡ ended-progress (r .machine) (r .«slots_left») → end ≡ next → StepWritten (record-end S) (state-with k′ b a′ c′ q′ g′ p′ f′) out at end out′
     record-written n reading h en er e w ek el =
-        let is : reading ≡ read-record (take (min (k .count - 1) kept-bytes) b) = er ∙ ap (λ n. read-record (take n b)) en in
+        let is : reading ≡ kept-reading S = er ∙ ap (λ n. read-record (k .machine .running) (take n b)) en in
         step-is (end-read S h ∙ ap (record-step S) (sym is)) (obeyed-written reading e w ek el)
 
   -- A BYTE

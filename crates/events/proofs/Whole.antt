@@ -8,9 +8,10 @@ use borrow.Author.Tests.{eq-eqb, ne-eqb}
 use lib.Dec.{eqb}
 use lib.ListN.{length, replicate}
 use Rattle.wsgs.specs.declared.Reading.{Reading}
-use Rattle.wsgs.specs.Text.{CR, LF, drop-last, reversed, records-from, records, read-record, heading}
+use Rattle.wsgs.specs.Text.{CR, LF, drop-last, reversed, records-from, records, heading}
+use Rattle.wsgs.specs.Records.{read-record}
 use Rattle.wsgs.specs.Program.{Machine, Step, run-record, run-records, skip-heading, program}
-use Rattle.events.specs.Feeding.{kept-bytes, State, StepOutcome, after, ended, appended, record-step, kept-record, record-end, byte-step, drained, finish, ending, Calls, FirstState}
+use Rattle.events.specs.Feeding.{kept-bytes, State, StepOutcome, after, ended, appended, record-step, kept-reading, record-end, byte-step, drained, finish, ending, Calls, FirstState}
 use Rattle.events.specs.View.{state-of, first-progress}
 use Rattle.events.proofs.Feeding.{after-after, drained-first, finish-byte, finish-none, calls-print}
 use Rattle.events.proofs.Kept.{Holds, holds-none, holds-more, reads-same}
@@ -35,7 +36,7 @@ module _ (s : State) (r : Reading) where
 
 -- the step of a byte
 module _ (s : State) where
-  pub end-read : s .past-heading ≡ true → record-end s ≡ record-step s (read-record (kept-record s))
+  pub end-read : s .past-heading ≡ true → record-end s ≡ record-step s (kept-reading s)
   unfolding record-end
   end-read h = rw (h, record-end)
 
@@ -55,10 +56,10 @@ module _ (s : State) where
 module _ (s : State) (x : ℕ) (xs : List ℕ) (idle : s .slots-left ≡ 0) where
   ends-record : (s .after-CR && eqb x LF) ≡ true → s .past-heading ≡ true
       → finish s (x ∷ xs)
-      ≡ after (run-record (s .machine) (read-record (kept-record s)) .printed) (finish (ended s (run-record (s .machine) (read-record (kept-record s)) .machine) 0) xs)
-  ends-record e h = finish-byte s x xs idle ∙ ap (λ (o : StepOutcome). after (o .printed) (finish (o .state) xs)) is ∙ record-then s (read-record (kept-record s)) xs
+      ≡ after (run-record (s .machine) (kept-reading s) .printed) (finish (ended s (run-record (s .machine) (kept-reading s) .machine) 0) xs)
+  ends-record e h = finish-byte s x xs idle ∙ ap (λ (o : StepOutcome). after (o .printed) (finish (o .state) xs)) is ∙ record-then s (kept-reading s) xs
     where
-      is : byte-step s x ≡ record-step s (read-record (kept-record s))
+      is : byte-step s x ≡ record-step s (kept-reading s)
       is = byte-ends s x e ∙ end-read s h
 
   ends-heading : (s .after-CR && eqb x LF) ≡ true → s .past-heading ≡ false → finish s (x ∷ xs) ≡ finish (ended s (s .machine) 0) xs
@@ -95,7 +96,7 @@ module _ (x : ℕ) (xs : List ℕ) (after-CR : Bool) (begun : List ℕ) where
   record-goes-on e = rw (e, records-from)
 
 records-first : (m : Machine) (r : List ℕ) (rs : List (List ℕ))
-    → run-records m (r ∷ rs) ≡ run-record m (read-record r) .printed ++ run-records (run-record m (read-record r) .machine) rs
+    → run-records m (r ∷ rs) ≡ run-record m (read-record (m .running) r) .printed ++ run-records (run-record m (read-record (m .running) r) .machine) rs
 unfolding run-records
 records-first m r rs = refl
 
@@ -112,7 +113,7 @@ module _ (F : StepOutcome → List ℕ) (F-after : (t : List ℕ) (o : StepOutco
 
   by-heading : (b : Bool) → s .past-heading ≡ b → F (finish s (x ∷ xs)) ≡ run-records (s .machine) (read b (ended-record ∷ rest))
   by-heading true p =
-      let o : Step = run-record (s .machine) (read-record (kept-record s)) in
+      let o : Step = run-record (s .machine) (kept-reading s) in
       ap F (ends-record s x xs idle e p)
       ∙ F-after (o .printed) (finish (ended s (o .machine) 0) xs)
       ∙ ap (λ t. o .printed ++ t) (later (o .machine))

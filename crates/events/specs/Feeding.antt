@@ -8,7 +8,8 @@ use lib.Dec.{eqb, leb, ltb}
 use lib.ListN.{length, getD, set, take, drop}
 use Rattle.wsgs.specs.declared.Reading.{Reading}
 use Rattle.wsgs.specs.Basics.{pick}
-use Rattle.wsgs.specs.Text.{CR, LF, read-record}
+use Rattle.wsgs.specs.Text.{CR, LF}
+use Rattle.wsgs.specs.Records.{read-record}
 use Rattle.wsgs.specs.Program.{Machine, RecordOutcome, obey, SlotOutcome, run-slot, refusal-text, slot-text, refused-line, match-lines, Step, run-slots, fresh}
 use Rattle.lines.specs.Lines.{slot-room}
 
@@ -90,12 +91,17 @@ record-step s r =
 abbrev pub kept-record : State → List ℕ
 kept-record s = take (min (s .count - 1) kept-bytes) (s .buffer)
 
+-- what it reads as
+abbrev pub kept-reading : State → Reading
+unfolding read-record
+kept-reading s = read-record (s .machine .running) (kept-record s)
+
 -- THE SECOND STEP: a byte. LF after CR ends a record, and the first record is a heading.
 unfoldable pub record-end : State → StepOutcome
 unfolding record-step read-record
 record-end s =
     elim (s .past-heading) [
-      | true ↦ record-step s (read-record (kept-record s))
+      | true ↦ record-step s (kept-reading s)
       | false ↦ record { state = ended s (s .machine) 0; printed = [] }
     ]
 

@@ -76,7 +76,7 @@ fn end_record(
         return ended(machine, 0, at);
     }
     let length = kept_length(progress.count);
-    let reading = read_record(&buffer[..length]);
+    let reading = read_record(machine.running, &buffer[..length]);
     let obeyed = obey(
         machine,
         reading,
