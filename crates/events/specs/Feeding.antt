@@ -93,7 +93,6 @@ kept-record s = take (min (s .count - 1) kept-bytes) (s .buffer)
 
 -- what it reads as
 abbrev pub kept-reading : State → Reading
-unfolding read-record
 kept-reading s = read-record (s .machine .running) (kept-record s)
 
 -- THE SECOND STEP: a byte. LF after CR ends a record, and the first record is a heading.

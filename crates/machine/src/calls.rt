@@ -2,7 +2,6 @@
 use crate::Machine;
 use crate::RecordResult;
 use crate::refusals::refusal;
-use crate::refusals::unread;
 use questions::is_between;
 use wsgs::BookedSlots;
 use wsgs::Input;
@@ -129,9 +128,6 @@ fn obey_book(
         → record-outcome-of r (now (slots .exit)) (now (rates .entry)) c q g p f
         ≡ obey (machine-of machine (now (slots .entry)) (now (rates .entry)) c q g p f) (Request Book input output amount)) ⌝ }
 {
-    if !machine.running {
-        return unread(machine, 12);
-    }
     let clock = machine.clock;
     let amount = BookedSlots(amount);
     let number = book::book(clock, slots, rates, Input(input), Output(output), amount);
@@ -155,9 +151,6 @@ fn obey_release(
         → record-outcome-of r (now (slots .exit)) (now (rates .entry)) c q g p f
         ≡ obey (machine-of machine (now (slots .entry)) (now (rates .entry)) c q g p f) (Request Release input output amount)) ⌝ }
 {
-    if !machine.running {
-        return unread(machine, 12);
-    }
     let clock = machine.clock;
     let amount = BookedSlots(amount);
     let number = book::release(clock, slots, rates, Input(input), Output(output), amount);
@@ -179,9 +172,6 @@ fn obey_arrive(
     ensures outcome { λ r. ⌜ ((s t c g p f : List ℕ) → record-outcome-of r s t c (now (queues .exit)) g p f
         ≡ obey (machine-of machine s t c (now (queues .entry)) g p f) (Request Arrive input output packets)) ⌝ }
 {
-    if !machine.running {
-        return unread(machine, 12);
-    }
     let clock = machine.clock;
     let number = book::arrive(clock, queues, Input(input), Output(output), packets);
     RecordResult {
@@ -196,9 +186,6 @@ fn obey_tick(machine: Machine, input: u64, output: u64, amount: u64) -> RecordRe
     ensures outcome { λ r. ⌜ ((s t c q g p f : List ℕ) → record-outcome-of r s t c q g p f
         ≡ obey (machine-of machine s t c q g p f) (Request Tick input output amount)) ⌝ }
 {
-    if !machine.running {
-        return unread(machine, 12);
-    }
     if is_between(1, MAX_TICK_SLOTS, amount) {
         return RecordResult {
             machine,

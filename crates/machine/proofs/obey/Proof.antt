@@ -1,6 +1,6 @@
 -- A record, by what it reads as.
-use Rattle.machine.proofs.RecordLaws.{unread-obeyed}
 use borrow.Author.Needs.{needs}
+use Rattle.wsgs.specs.Program.{obey}
 use Rattle.machine.proofs.obey.Statement.{statement}
 use Rattle.machine.proofs.obey.Tie as tie
 
@@ -41,7 +41,8 @@ returns : tie.Need-returns
 returns c = let call = c .before .before .before .before .before .before .before .before .before .before .before .before .before .before in rw (call .before .before .before .before .before .before .before .before .before .reading .given .1) (call .obey-request .ensures)
 
 returns-2 : tie.Need-returns-2
-returns-2 c = rw (c .before .before .reading2 .given .1) (unread-obeyed _ _ _ _ _ _ _ (c .unread .ensures))
+unfolding obey
+returns-2 c = rw (c .before .before .reading2 .given .1, c .unread .ensures)
 
 pub obey-spec : {M : Type 1} → statement M
 obey-spec =

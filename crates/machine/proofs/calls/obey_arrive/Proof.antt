@@ -1,18 +1,12 @@
 -- Packets arrive, by what the call gives back.
-use borrow.Author.Tests.{not-true, not-false}
-use Rattle.machine.proofs.RecordLaws.{idle-arrive, arrive-obeyed}
 use borrow.Author.Needs.{needs}
-use Rattle.wsgs.specs.Bookings.{book-of}
+use Rattle.wsgs.specs.Program.{obey}
+use Rattle.wsgs.specs.Switch.{arrive}
+use Rattle.wsgs.proofs.Calls.{arrives}
+use Rattle.machine.specs.View.{machine-of}
+use Rattle.machine.proofs.RecordLaws.{called}
 use Rattle.machine.proofs.calls.obey_arrive.Statement.{statement}
 use Rattle.machine.proofs.calls.obey_arrive.Tie as tie
-
-unread-requires : tie.Need-unread-requires
-unread-requires c κs = search needs
-
-returns : tie.Need-returns
-returns c =
-    let a = c .before .before .before .before .args in
-    λ s t k g p f. idle-arrive (a .machine) (book-of s t) k (a .queues .now) g p f _ (c .unread .ensures) (not-true (a .machine .running) (c .before .if1 .taken)) _ _ _
 
 arrive-requires : tie.Need-arrive-requires
 arrive-requires c κs = search needs
@@ -23,15 +17,12 @@ refusal-requires c κs = search needs
 same-length : tie.Need-same-length
 same-length c = search needs
 
-returns-2 : tie.Need-returns-2
-returns-2 c =
+returns : tie.Need-returns
+unfolding obey
+returns c =
     let call = c .before .before .before in
-    let way = call .before .before .before in
-    let a = way .before .before .before .args in
-    λ s t k g p f.
-    arrive-obeyed (a .machine) (book-of s t) k (a .queues .now) g p f _ _ _ (not-false (a .machine .running) (way .if1 .left)) _ _ (c .refusal .ensures) _ (call .arrive .ensures)
+    let a = call .before .before .before .before .args in
+    λ s t k g p f. called (machine-of (a .machine) s t k (a .queues .now) g p f) (arrive _ _ _) _ _ (c .refusal .ensures) (arrives _ _ _ _ _ (call .arrive .ensures))
 
 pub obey-arrive-spec : {M : Type 1} → statement M
-obey-arrive-spec =
-    tie.close
-    (tie.spec unread-requires returns arrive-requires refusal-requires same-length returns-2)
+obey-arrive-spec = tie.close (tie.spec arrive-requires refusal-requires same-length returns)

@@ -1,7 +1,9 @@
 -- A pipelined start, by what the call gives back.
-use Rattle.machine.proofs.RecordLaws.{pipe-obeyed}
+use mathlib.Core.Bool.{true}
 use borrow.Author.Needs.{needs}
-use Rattle.wsgs.specs.Bookings.{book-of}
+use Rattle.wsgs.specs.Program.{obey}
+use Rattle.wsgs.proofs.Calls.{start-pipelined}
+use Rattle.machine.proofs.RecordLaws.{started}
 use Rattle.machine.proofs.calls.obey_pipe.Statement.{statement}
 use Rattle.machine.proofs.calls.obey_pipe.Tie as tie
 
@@ -36,12 +38,13 @@ same-length-7 : tie.Need-same-length-7
 same-length-7 c = search needs
 
 returns : tie.Need-returns
+unfolding obey
 returns c =
     let call = c .before .before .before .before .before .before .before .before .before .before .before .before .before .before .before .before in
     let a = call .before .before .before .before .before .before .before .before .before .before .before .before .before .before .before .before .args in
     λ z.
-    pipe-obeyed (a .machine) (book-of (a .slots .now) (a .rates .now)) (a .credits .now) (a .queues .now) (a .given .now) (a .copy .now) (a .flight .now) _ _ z (call .start-pipelined .result) _ _ (c .refusal .ensures) _ _ _ _ _ _
-    (c .before .after-start .ensures) (call .start-pipelined .ensures)
+    started (a .machine) (a .slots .now) (a .rates .now) (a .credits .now) (a .queues .now) (a .given .now) (a .copy .now) (a .flight .now) _ _ true (c .before .after-start .ensures) (c .refusal .ensures)
+    (start-pipelined _ _ _ _ _ (call .start-pipelined .ensures))
 
 pub obey-pipe-spec : {M : Type 1} → statement M
 obey-pipe-spec =

@@ -1,18 +1,12 @@
 -- Slots are released, by what the call gives back.
-use borrow.Author.Tests.{not-true, not-false}
-use Rattle.machine.proofs.RecordLaws.{idle-release, release-obeyed}
 use borrow.Author.Needs.{needs}
-use Rattle.wsgs.specs.Bookings.{book-of}
+use Rattle.wsgs.specs.Program.{obey}
+use Rattle.wsgs.specs.Switch.{release}
+use Rattle.wsgs.proofs.Calls.{releases}
+use Rattle.machine.specs.View.{machine-of}
+use Rattle.machine.proofs.RecordLaws.{called}
 use Rattle.machine.proofs.calls.obey_release.Statement.{statement}
 use Rattle.machine.proofs.calls.obey_release.Tie as tie
-
-unread-requires : tie.Need-unread-requires
-unread-requires c κs = search needs
-
-returns : tie.Need-returns
-returns c =
-    let a = c .before .before .before .before .before .args in
-    λ k q g p f. idle-release (a .machine) (book-of (a .slots .now) (a .rates .now)) k q g p f _ (c .unread .ensures) (not-true (a .machine .running) (c .before .if1 .taken)) _ _ _
 
 release-requires : tie.Need-release-requires
 release-requires c κs = search needs
@@ -23,15 +17,12 @@ refusal-requires c κs = search needs
 same-length : tie.Need-same-length
 same-length c = search needs
 
-returns-2 : tie.Need-returns-2
-returns-2 c =
+returns : tie.Need-returns
+unfolding obey
+returns c =
     let call = c .before .before .before in
-    let way = call .before .before .before in
-    let a = way .before .before .before .before .args in
-    λ k q g p f.
-    release-obeyed (a .machine) (book-of (a .slots .now) (a .rates .now)) k q g p f _ _ _ (not-false (a .machine .running) (way .if1 .left)) _ _ (c .refusal .ensures) _ (call .release .ensures)
+    let a = call .before .before .before .before .before .args in
+    λ k q g p f. called (machine-of (a .machine) (a .slots .now) (a .rates .now) k q g p f) (release _ _ _) _ _ (c .refusal .ensures) (releases _ _ _ _ _ (call .release .ensures))
 
 pub obey-release-spec : {M : Type 1} → statement M
-obey-release-spec =
-    tie.close
-    (tie.spec unread-requires returns release-requires refusal-requires same-length returns-2)
+obey-release-spec = tie.close (tie.spec release-requires refusal-requires same-length returns)

@@ -1,7 +1,9 @@
 -- A direct start, by what the call gives back.
-use Rattle.machine.proofs.RecordLaws.{start-obeyed}
+use mathlib.Core.Bool.{false}
 use borrow.Author.Needs.{needs}
-use Rattle.wsgs.specs.Bookings.{book-of}
+use Rattle.wsgs.specs.Program.{obey}
+use Rattle.wsgs.proofs.Calls.{start-direct}
+use Rattle.machine.proofs.RecordLaws.{started}
 use Rattle.machine.proofs.calls.obey_start.Statement.{statement}
 use Rattle.machine.proofs.calls.obey_start.Tie as tie
 
@@ -30,12 +32,13 @@ same-length-5 : tie.Need-same-length-5
 same-length-5 c = search needs
 
 returns : tie.Need-returns
+unfolding obey
 returns c =
     let call = c .before .before .before .before .before .before .before .before .before .before .before .before in
     let a = call .before .before .before .before .before .before .before .before .before .before .before .before .args in
     λ z p f.
-    start-obeyed (a .machine) (book-of (a .slots .now) (a .rates .now)) (a .credits .now) (a .queues .now) (a .given .now) p f _ _ z (call .start-direct .result) _ _ (c .refusal .ensures) _ _ _ _ (c .before .after-start .ensures)
-    (call .start-direct .ensures)
+    started (a .machine) (a .slots .now) (a .rates .now) (a .credits .now) (a .queues .now) (a .given .now) p f _ _ false (c .before .after-start .ensures) (c .refusal .ensures)
+    (start-direct _ _ _ _ _ (call .start-direct .ensures))
 
 pub obey-start-spec : {M : Type 1} → statement M
 obey-start-spec =
