@@ -31,14 +31,14 @@ mask-full : (n k : ℕ) → Port n k → in-mask (2 ^ n - 1) k ≡ true
 mask-full n zero p = absurd (omega arith)
 mask-full n (suc k) p = mask-bit (2 ^ n - 1) k ∙ low-set n k (omega arith)
 
--- at first each output of at most 32 ports is free
--- no output past the ports
+-- at first no output past the ports is free, of at most 32 ports
 pub past-unset : (n w : ℕ) → n ≤ 32 → w ≡ all-free n → (k : ℕ) → n < k → in-mask w k ≡ false
 unfolding all-free in-mask
 past-unset n w few e k h =
     let low : n ≤ k - 1 = omega arith in
     ap (λ v. in-mask v k) e ∙ rw (min-eq-left few, div-eq-of-lt (lt-of-lt-of-le (ones-lt n) (pow-mono low)))
 
+-- and each of theirs is
 pub free-first : (n w : ℕ) → n ≤ 32 → w ≡ all-free n → (k : ℕ) → Port n k → in-mask w k ≡ true
 unfolding all-free
 free-first n w few e k p = ap (λ v. in-mask v k) e ∙ rw (min-eq-left few) (mask-full n k p)
@@ -86,7 +86,7 @@ module _ (w k : ℕ) (small : k < 32) where
       let e : suc k - 1 ≡ k = omega arith in
       rw (tests, h, e) (omega (arith, and-le-l w (2 ^ k)))
 
-  -- by a shift and a mask
+  -- it is tested by a shift and a mask
   pub tested : (j : ℕ) → j ≡ suc k → eqb (bitAnd (w / 2 ^ k) 1) 1 ≡ is-free w j
   unfolding bits
   tested j e = ap (λ x. eqb x 1) (and-mask (w / 2 ^ k) 1) ∙ sym tests ∙ ap (is-free w) (sym e)
