@@ -45,13 +45,13 @@ first-mistold k (r ∷ rs) =
 
 abbrev pub bad-records : List BadRecord
 bad-records =
-    -- OVER 64 BYTES: 65 of them, and beside each record one of 64
+    -- OVER 64 BYTES: 65, and six fields; beside it one of 64 bytes, which is told by its next fault
     raw (bytes "start,2,3,7,0," ++ replicate 51 48) 12 12
     ∷ raw (bytes "start,2,3,7,0," ++ replicate 50 48) 13 13
-    -- and four fields, of which one is too long
+    -- 65 bytes, and a field that is no number; beside it one of 64
     ∷ raw (bytes "start,2,3," ++ replicate 55 48) 12 12
     ∷ raw (bytes "start,2,3," ++ replicate 54 48) 14 14
-    -- and a quote
+    -- 66 bytes, and a quote
     ∷ raw (bytes "start,2,\"3\"," ++ replicate 54 48) 12 12
     -- A QUOTE in a number field, before the operation, after the fourth field
     ∷ ascii "start,2,\"3\",0" 12 12
@@ -61,7 +61,7 @@ bad-records =
     ∷ ascii "start,2,\"3\"" 12 12
     -- an apostrophe is none
     ∷ ascii "start,2,'3',0" 14 14
-    -- AN UNKNOWN OPERATION, of which a start before it makes no difference: in capitals, with a space, cut short, empty
+    -- AN UNKNOWN OPERATION: another word, in capitals, with a space, cut short, empty. Before a start the next question would be answered no too.
     ∷ ascii "halt,1,1,1" 12 12
     ∷ ascii "Start,2,3,0" 12 12
     ∷ ascii " start,2,3,0" 12 12

@@ -37,7 +37,7 @@ unfolding bytes same
 look-up [] t = Unknown
 look-up (r ∷ rs) t = elim (same t (bytes (r .name))) [ true ↦ Known (r .operation) | false ↦ look-up rs t ]
 
--- an operation that starts a switch
+-- an operation starts a switch. What is said of an unknown one, here and below, does not matter: its record is refused before it is asked.
 abbrev pub starts : OperationField → Bool
 starts (Known Start) = true
 starts (Known Pipe) = true
@@ -70,8 +70,7 @@ abbrev pub number-of : Field → ℕ
 number-of (Number x) = x
 number-of Bad = 0
 
--- QUESTIONS to a record, which are asked in this order
--- has it at most 64 bytes?
+-- QUESTIONS to a record, in the order in which they are asked: has it at most 64 bytes?
 abbrev pub short-enough : List ℕ → Question
 short-enough t = record { yes = leb (length t) 64; number = 12 }
 
@@ -99,7 +98,7 @@ all-numbers x y z = record { yes = has-number x && (has-number y && has-number z
 abbrev pub unused-zero : OperationField → Field → Field → Field → Question
 unused-zero o x y z = record { yes = unused-are-0 o (number-of x) (number-of y) (number-of z); number = 12 }
 
--- what is read where all are answered yes: the operation with its numbers
+-- what is asked for where all are answered yes: the operation with its numbers
 abbrev pub request : OperationField → Field → Field → Field → Reading
 request (Known o) x y z = Request o (number-of x) (number-of y) (number-of z)
 request Unknown x y z = Refused 12
