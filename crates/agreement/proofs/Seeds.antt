@@ -1,7 +1,7 @@
 -- The event program's definition prints what the second program prints, on random event files. Written by tools/agreement: do not edit.
 -- Assumes nothing.
 use mathlib.Core.Path.{_≡_, refl}
-use mathlib.Core.List.{List, [], _∷_}
+use mathlib.Core.List.{[], _∷_}
 use Rattle.wsgs.specs.Basics.{sum, some-of, first-from}
 use Rattle.wsgs.specs.Bookings.{bookings, row-sum, column-sum}
 use Rattle.wsgs.specs.Frames.{into-frame}

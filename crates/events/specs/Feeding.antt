@@ -14,7 +14,7 @@ use Rattle.wsgs.specs.Program.{Machine, RecordOutcome, obey, SlotOutcome, run-s
 use Rattle.lines.specs.Lines.{slot-room}
 
 -- Of the record so far only the first 65 bytes are kept, in a buffer, and its bytes are counted up to 66: one of more than 64 bytes without
--- its CR LF is unreadable whatever they are.
+-- its CR LF is refused with 12 whatever they are.
 abbrev pub kept-bytes : ℕ
 kept-bytes = 65
 

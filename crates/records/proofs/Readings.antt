@@ -9,7 +9,7 @@ use Rattle.wsgs.specs.declared.Operation.{Operation}
 use Rattle.wsgs.specs.declared.OperationField.the-variants.{Known, Unknown}
 use Rattle.wsgs.specs.declared.Reading.the-variants.{Refused}
 use Rattle.wsgs.specs.Text.{quote, has, fields, read-field}
-use Rattle.wsgs.specs.Records.{names, look-up, starts, field, read-record}
+use Rattle.wsgs.specs.Records.{names, look-up, is-start, field, read-record}
 use Rattle.records.specs.Parts.{numbers-reading}
 
 module _ (running : Bool) (t : List ℕ) where
@@ -28,11 +28,11 @@ module _ (running : Bool) (t : List ℕ) where
       unknown e = rw (le-leb (length t) 64 short, unquoted, e)
 
       module _ (o : Operation) (known : look-up names (field t 1) ≡ Known o) where
-        pub too-early : (running || starts (Known o)) ≡ false → Refused 12 ≡ read-record running t
+        pub too-early : (running || is-start (Known o)) ≡ false → Refused 12 ≡ read-record running t
         unfolding read-record
         too-early e = rw (le-leb (length t) 64 short, unquoted, known, e)
 
-        module _ (in-time : (running || starts (Known o)) ≡ true) where
+        module _ (in-time : (running || is-start (Known o)) ≡ true) where
           pub other-count : (length (fields t) ≡ 4 → ⊥) → Refused 13 ≡ read-record running t
           unfolding read-record
           other-count d = rw (le-leb (length t) 64 short, unquoted, known, in-time, ne-eqb (length (fields t)) 4 d)

@@ -11,7 +11,7 @@ ghost use mathlib.Core.Path.{_≡_};
 ghost use mathlib.Core.Bool.{_||_};
 ghost use Rattle.wsgs.specs.declared.OperationField.the-variants.{Known};
 ghost use Rattle.wsgs.specs.Basics.{same};
-ghost use Rattle.wsgs.specs.Records.{look-up, names, starts, read-record};
+ghost use Rattle.wsgs.specs.Records.{look-up, names, is-start, read-record};
 
 // The longest record that can be read, in bytes without its CR LF, and the fields that it has.
 pub const MAX_RECORD: usize = 64;
@@ -60,9 +60,9 @@ fn look_up(text: &[u8]) -> OperationField
     OperationField::Unknown
 }
 
-// Whether an operation starts a switch.
+// Whether an operation is a start or pipe.
 fn is_start(operation: Operation) -> bool
-    ensures answer { λ r. ⌜ r ≡ starts (Known operation) ⌝ }
+    ensures answer { λ r. ⌜ r ≡ is-start (Known operation) ⌝ }
 {
     match operation {
         Operation::Start => true,
@@ -74,9 +74,9 @@ fn is_start(operation: Operation) -> bool
     }
 }
 
-// Whether an operation starts a switch, or a start or pipe has been accepted before it.
-fn is_after_start(running: bool, operation: Operation) -> bool
-    ensures answer { λ r. ⌜ r ≡ (running || starts (Known operation)) ⌝ }
+// Whether an operation is a start or pipe, or one has been accepted before it.
+fn is_in_time(running: bool, operation: Operation) -> bool
+    ensures answer { λ r. ⌜ r ≡ (running || is-start (Known operation)) ⌝ }
 {
     if running {
         return true;
@@ -98,7 +98,7 @@ pub fn read_record(running: bool, text: &[u8]) -> Reading
     let OperationField::Known(operation) = look_up(&text[..operation_end]) else {
         return Reading::Refused(12);
     };
-    if !is_after_start(running, operation) {
+    if !is_in_time(running, operation) {
         return Reading::Refused(12);
     }
     if field_count(text) != FIELDS {

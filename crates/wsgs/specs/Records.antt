@@ -37,15 +37,15 @@ unfolding bytes same
 look-up [] t = Unknown
 look-up (r ∷ rs) t = elim (same t (bytes (r .name))) [ true ↦ Known (r .operation) | false ↦ look-up rs t ]
 
--- an operation starts a switch. What is said of an unknown one, here and below, does not matter: its record is refused before it is asked.
-abbrev pub starts : OperationField → Bool
-starts (Known Start) = true
-starts (Known Pipe) = true
-starts (Known Book) = false
-starts (Known Release) = false
-starts (Known Arrive) = false
-starts (Known Tick) = false
-starts Unknown = false
+-- an operation is a start or pipe. What is said of an unknown one, here and below, does not matter: its record is refused before it is asked.
+abbrev pub is-start : OperationField → Bool
+is-start (Known Start) = true
+is-start (Known Pipe) = true
+is-start (Known Book) = false
+is-start (Known Release) = false
+is-start (Known Arrive) = false
+is-start (Known Tick) = false
+is-start Unknown = false
 
 -- the number fields that an operation does not use are 0
 abbrev pub unused-are-0 : OperationField → ℕ → ℕ → ℕ → Bool
@@ -74,7 +74,7 @@ number-of Bad = 0
 abbrev pub short-enough : List ℕ → Question
 short-enough t = record { yes = leb (length t) 64; number = 12 }
 
--- has it no quote, wherever?
+-- is it free of quotes?
 abbrev pub unquoted : List ℕ → Question
 unquoted t = record { yes = not (has quote t); number = 12 }
 
@@ -82,9 +82,9 @@ unquoted t = record { yes = not (has quote t); number = 12 }
 abbrev pub operation-known : OperationField → Question
 operation-known o = record { yes = is-known o; number = 12 }
 
--- does it start a switch, or has a start or pipe been accepted before it?
-abbrev pub after-start : Bool → OperationField → Question
-after-start running o = record { yes = running || starts o; number = 12 }
+-- is it a start or pipe, or has one been accepted before it?
+abbrev pub in-time : (running : Bool) → OperationField → Question
+in-time running o = record { yes = running || is-start o; number = 12 }
 
 -- has it four fields?
 abbrev pub four-fields : List (List ℕ) → Question
@@ -124,7 +124,7 @@ read-record running t =
     (short-enough t
     ∷ unquoted t
     ∷ operation-known o
-    ∷ after-start running o
+    ∷ in-time running o
     ∷ four-fields (fields t)
     ∷ all-numbers x y z
     ∷ unused-zero o x y z

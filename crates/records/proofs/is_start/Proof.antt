@@ -1,4 +1,4 @@
--- The operations that start a switch, by cases.
+-- The operations that are a start or pipe, by cases.
 use borrow.Author.Needs.{needs}
 use Rattle.records.proofs.is_start.Statement.{statement}
 use Rattle.records.proofs.is_start.Tie as tie

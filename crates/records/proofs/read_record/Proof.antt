@@ -42,8 +42,8 @@ returns-3 c =
     unknown _ _ (omega arith) (has-not _ _ (omega (arith, end .before .before .place-of .ensures)))
     (ap (look-up names) (first-field _ _ (end .place-of2 .ensures)) ∙ sym (look .look-up .ensures) ∙ c .enum-told .given .1)
 
-is-after-start-requires : tie.Need-is-after-start-requires
-is-after-start-requires c κs = search needs
+is-in-time-requires : tie.Need-is-in-time-requires
+is-in-time-requires c κs = search needs
 
 returns-4 : tie.Need-returns-4
 returns-4 c =
@@ -52,7 +52,7 @@ returns-4 c =
     let end = look .before .before in
     too-early _ _ (omega arith) (has-not _ _ (omega (arith, end .before .before .place-of .ensures))) _
     (ap (look-up names) (first-field _ _ (end .place-of2 .ensures)) ∙ sym (look .look-up .ensures) ∙ operation .operation .given .1)
-    (sym (c .before .is-after-start .ensures) ∙ not-true _ (c .if3 .taken))
+    (sym (c .before .is-in-time .ensures) ∙ not-true _ (c .if3 .taken))
 
 field-count-requires : tie.Need-field-count-requires
 field-count-requires c κs = search needs
@@ -65,7 +65,7 @@ returns-5 c =
     let end = look .before .before in
     other-count _ _ (omega arith) (has-not _ _ (omega (arith, end .before .before .place-of .ensures))) _
     (ap (look-up names) (first-field _ _ (end .place-of2 .ensures)) ∙ sym (look .look-up .ensures) ∙ operation .operation .given .1)
-    (sym (started .before .is-after-start .ensures) ∙ not-false _ (started .if3 .left)) (λ e. c .if4 .taken (c .before .field-count .ensures ∙ e))
+    (sym (started .before .is-in-time .ensures) ∙ not-false _ (started .if3 .left)) (λ e. c .if4 .taken (c .before .field-count .ensures ∙ e))
 
 add-read-numbers : tie.Need-add-read-numbers
 add-read-numbers c =
@@ -102,7 +102,7 @@ returns-6 c =
     c .read-numbers .ensures
     ∙ by-numbers _ _ (omega arith) (has-not _ _ (omega (arith, end .before .before .place-of .ensures))) _
     (ap (look-up names) (first-field _ _ (end .place-of2 .ensures)) ∙ sym (look .look-up .ensures) ∙ operation .operation .given .1)
-    (sym (started .before .is-after-start .ensures) ∙ not-false _ (started .if3 .left)) four _ _
+    (sym (started .before .is-in-time .ensures) ∙ not-false _ (started .if3 .left)) four _ _
     (next-field _ _ (end .place-of2 .ensures) (comma-within _ _ (end .place-of2 .ensures) (omega (arith, four))))
 
 pub read-record-spec : {M : Type 1} → statement M
@@ -118,7 +118,7 @@ read-record-spec =
     enum-known-operation
     enum-told
     returns-3
-    is-after-start-requires
+    is-in-time-requires
     returns-4
     field-count-requires
     returns-5
