@@ -145,27 +145,27 @@ either-back r k w o e = go (eqb r 0)
     go true = ap (λ m. record { refusal = o .refusal; matching = m; clock = o .clock; runs = o .runs }) (sym e)
     go false = refl
 
-direct-start-back : (n f b : ℕ) (c : Clock) (w : Direct.Runs) → start-outcome (start-effect (Direct.start n f b c w)) ≡ Direct.start n f b c w
+direct-start-back : (n f b : ℕ) (g : Bool) (c : Clock) (w : Direct.Runs) → start-outcome (start-effect (Direct.start n f b g c w)) ≡ Direct.start n f b g c w
 unfolding Direct.start Direct.started
-direct-start-back n f b c w = either-back (Direct.start-refusal n f b w) c w (Direct.started n f b w) refl
+direct-start-back n f b g c w = either-back (Direct.start-refusal n f b w) c w (Direct.started n f b g w) refl
 
-pipelined-start-back : (n f b : ℕ) (c : Clock) (w : Pipelined.Runs)
-    → start-outcome (start-effect (Pipelined.start n f b c w)) ≡ Pipelined.start n f b c w
+pipelined-start-back : (n f b : ℕ) (g : Bool) (c : Clock) (w : Pipelined.Runs)
+    → start-outcome (start-effect (Pipelined.start n f b g c w)) ≡ Pipelined.start n f b g c w
 unfolding Pipelined.start Pipelined.started
-pipelined-start-back n f b c w = either-back (Pipelined.start-refusal n f b w) c w (Pipelined.started n f b w) refl
+pipelined-start-back n f b g c w = either-back (Pipelined.start-refusal n f b w) c w (Pipelined.started n f b g w) refl
 
 -- THE CALLS, one by one: e is what the function's contract equates with the definition, the result beside the runs at exit.
 module _ (s : Switch) where
   -- `starts::start_direct`, `starts::start_pipelined`
-  pub start-direct : (n f b : ℕ) (e : Effect StartResult Direct.Runs) → e ≡ start-effect (Direct.start n f b (s .clock) (direct-runs s))
-      → of-direct s (start-outcome e) ≡ apply (start direct n f b) s
+  pub start-direct : (n f b : ℕ) (g : Bool) (e : Effect StartResult Direct.Runs) → e ≡ start-effect (Direct.start n f b g (s .clock) (direct-runs s))
+      → of-direct s (start-outcome e) ≡ apply (start direct n f b g) s
   unfolding apply
-  start-direct n f b e h = ap (of-direct s) (ap start-outcome h ∙ direct-start-back n f b (s .clock) (direct-runs s))
+  start-direct n f b g e h = ap (of-direct s) (ap start-outcome h ∙ direct-start-back n f b g (s .clock) (direct-runs s))
 
-  pub start-pipelined : (n f b : ℕ) (e : Effect StartResult Pipelined.Runs)
-      → e ≡ start-effect (Pipelined.start n f b (s .clock) (pipelined-runs s)) → of-pipelined (start-outcome e) ≡ apply (start pipelined n f b) s
+  pub start-pipelined : (n f b : ℕ) (g : Bool) (e : Effect StartResult Pipelined.Runs)
+      → e ≡ start-effect (Pipelined.start n f b g (s .clock) (pipelined-runs s)) → of-pipelined (start-outcome e) ≡ apply (start pipelined n f b g) s
   unfolding apply
-  start-pipelined n f b e h = ap of-pipelined (ap start-outcome h ∙ pipelined-start-back n f b (s .clock) (pipelined-runs s))
+  start-pipelined n f b g e h = ap of-pipelined (ap start-outcome h ∙ pipelined-start-back n f b g (s .clock) (pipelined-runs s))
 
   -- `book::book`, `book::book_rate`, `book::release`, `book::release_rate`
   pub books : (i j d : ℕ) (e : Effect ℕ Book) → e ≡ book-effect (s .clock) (s .book) i j d → of-book s e ≡ apply (book i j d) s

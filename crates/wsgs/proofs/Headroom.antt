@@ -1,5 +1,5 @@
--- Headroom. Inequality (2) of the paper holds of a pair exactly where its headroom is at least 0, and so it is with every booked pair, whose row
--- and column have at most half a frame each, rounded up. Assumes nothing.
+-- Headroom. Inequality (2) of the paper holds of a pair exactly where its headroom is at least 0, and so it is with every booked pair of a book of either
+-- kind. Assumes nothing.
 use mathlib.Core.Path.{_≡_, ap, subst}
 use mathlib.Core.Logic.{_↔_}
 use Prim.Native.Nat.{ℕ, zero, suc, _+_, _-_, _≤_, _<_}
@@ -16,9 +16,10 @@ use Rattle.wsgs.specs.Headroom.{headroom-over, pair-headroom, headroom-r
 use Rattle.wsgs.specs.Switch.{Switch, Form, final}
 use Rattle.wsgs.specs.Ledger.{Ledger, booked, ledger-of}
 use Rattle.wsgs.specs.Seen.{Seen, seen}
-use Rattle.wsgs.specs.Claims.{Headroom, BookedPairsFit}
+use Rattle.wsgs.specs.Claims.{Fits, Headroom, BookedPairsFit}
 use Rattle.wsgs.proofs.Laws.Sums.{sum-ext, sum-parts}
-use Rattle.wsgs.proofs.Admission.{Bounded, tells-bookings}
+use Rattle.wsgs.proofs.Laws.Rule.{kept-fits}
+use Rattle.wsgs.proofs.Admission.{tells-bookings}
 use Rattle.wsgs.proofs.Refusals.{headroom-asks}
 use Rattle.wsgs.proofs.Trace.{ledger-clock, Trace, trace-of}
 
@@ -56,11 +57,6 @@ module _ (n f : ℕ) (a : ℕ → ℕ → ℕ) (i j : ℕ) (p : Port n j) where
       above : Dec (taken ≤ f) → pos 0 ≤ℤ (pos f -ℤ pos taken) → row-sum n a i + column-sum n a j ≤ f + a i j
       above (yes h) z = omega arith
       above (no h) z = absurd ((rw (sub-below f taken (omega arith)) at z) .le)
-
-  -- so it is where row and column have at most half a frame each, rounded up, and the pair has a booking
-  pub booked-fits : Bounded n f a → Port n i → 1 ≤ a i j → pos 0 ≤ℤ headroom-over n f a i j
-  unfolding row-sum column-sum
-  booked-fits b q h = at-least-zero .1 (omega (arith, b .row i q, b .column j p))
 
 -- headroom of the same bookings is the same
 headroom-ext : (n f : ℕ) (a b : ℕ → ℕ → ℕ) (i j : ℕ) → Port n i → Port n j → ((x y : ℕ) → Port n x → Port n y → a x y ≡ b x y)
@@ -100,6 +96,10 @@ module _ (m : Form) (l : Ledger) (h : Seen) (now : Switch) (t : Trace m l h now)
   abbrev a : ℕ
   a = bookings (c .ports) (c .frame) (c .line) (now .book) i j
 
+  -- (2) holds of what is booked
+  sold : Fits (l .ports) (l .frame) (booked l) i j
+  sold = kept-fits (l .fine) (l .ports) (l .frame) (booked l) (t .kept) i j pi pj
+
   pub headroom-told : Headroom l (headroom-result c (now .book) i j) a i j
   unfolding headroom-result
   headroom-told =
@@ -107,12 +107,13 @@ module _ (m : Form) (l : Ledger) (h : Seen) (now : Switch) (t : Trace m l h now)
         accepted = asked;
         booking = booked-alike;
         number = told;
+        fits = sold;
         of-booked = fits;
         below-zero = λ z. go (decLe 1 a) z;
       }
     where
       fits : 1 ≤ a → pos 0 ≤ℤ headroom-result c (now .book) i j .headroom
-      fits b = rw told (booked-fits (l .ports) (l .frame) (booked l) i j pj (t .bounded) pi (omega (arith, b, booked-alike)))
+      fits b = rw told (at-least-zero (l .ports) (l .frame) (booked l) i j pj .1 (sold (omega (arith, b, booked-alike))))
 
       go : Dec (1 ≤ a) → headroom-result c (now .book) i j .headroom <ℤ pos 0 → a ≡ 0
       go (yes b) z = clashℤ z (fits b)

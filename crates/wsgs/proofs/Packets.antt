@@ -1,6 +1,7 @@
 -- Packets are conserved, in both forms: a start leaves none, the calls between two ticks add what arrives, and a tick answers one or none of a
 -- pair's. So what has arrived is queued, in flight or answered. Assumes nothing.
 use mathlib.Core.Path.{_≡_, refl, _∙_, ap, subst}
+use mathlib.Core.Bool.{Bool}
 use mathlib.Core.List.{List}
 use mathlib.Core.Logic.{inl}
 use Prim.Native.Nat.{ℕ, zero, suc, _+_, _*_, _≤_, _<_}
@@ -64,15 +65,15 @@ tick-answers pipelined s ok few i j pi pj =
     )
 
 -- A START leaves none
-start-leaves : (m : Form) (n f b : ℕ) (s : Switch) (i j : ℕ) → Port n i → Port n j → packets m n (started m n f b s .after) i j ≡ 0
+start-leaves : (m : Form) (n f b : ℕ) (g : Bool) (s : Switch) (i j : ℕ) → Port n i → Port n j → packets m n (started m n f b g s .after) i j ≡ 0
 unfolding packets packets-in-flight Direct.started Pipelined.started
-start-leaves direct n f b s i j pi pj = omega (arith, word-cleared n (s .queues) i j pi pj)
-start-leaves pipelined n f b s i j pi pj =
+start-leaves direct n f b g s i j pi pj = omega (arith, word-cleared n (s .queues) i j pi pj)
+start-leaves pipelined n f b g s i j pi pj =
     omega (
       arith,
       word-cleared n (s .queues) i j pi pj,
-      sum-zero (λ u. bit (eqb (reserved n (started pipelined n f b s .after .flight) u i) j)) (2 * n)
-          (λ u p. ap (λ v. bit (eqb (output-in n v) j)) (started-empty n f b s .flight u i pi) ∙ bit-ne 0 j (λ e. omega (arith, pj .low))),
+      sum-zero (λ u. bit (eqb (reserved n (started pipelined n f b g s .after .flight) u i) j)) (2 * n)
+          (λ u p. ap (λ v. bit (eqb (output-in n v) j)) (started-empty n f b g s .flight u i pi) ∙ bit-ne 0 j (λ e. omega (arith, pj .low))),
     )
 
 -- ARRIVALS add to the queues what the ledger notes
@@ -80,8 +81,8 @@ arrivals-add : (n : ℕ) (q : List ℕ) (a : ℕ → ℕ → ℕ) {q′ : List �
     → (x y : ℕ) → Port n x → Port n y → word n q′ x y + a x y ≡ word n q x y + a′ x y
 unfolding arrive-words
 arrivals-add n q a none x y px py = refl
-arrivals-add n q a (more {q′ = r} {a′ = b} f k line i j d e v) x y px py =
-    let c = clock-of n f k line in
+arrivals-add n q a (more {q′ = r} {a′ = b} f k line kind i j d e v) x y px py =
+    let c = clock-of n f k line kind in
     let g = arrive-asked c r i j d e .0 in
     let before = arrivals-add n q a v x y px py in
     rw (e, word-put n r (leb→le _ _ (g .long)) i j (g .input) (g .output) (word n r i j + d) x y px py)
@@ -149,7 +150,7 @@ module _ (m : Form) (l : Ledger) (h : Seen) (now : Switch) (t : Trace m l h now)
   account-first : Account 0
   unfolding left
   account-first =
-      omega (arith, start-leaves m n (l .frame) (l .line) (t .before) i j pi pj, none-answered, t .none-arrived i j)
+      omega (arith, start-leaves m n (l .frame) (l .line) (l .fine) (t .before) i j pi pj, none-answered, t .none-arrived i j)
 
   -- and one tick on
   account-next : (k : ℕ) → k < l .ticks → Account k → Account (k + 1)

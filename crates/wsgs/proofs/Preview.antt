@@ -2,9 +2,11 @@
 -- shows are those of the present bookings with another one for the pair: raised by what a booking counts as, or that of what a release leaves.
 -- Assumes nothing.
 use mathlib.Core.Path.{_≡_, refl, sym, _∙_, ap, ap₂}
+use mathlib.Core.Bool.{false}
 use mathlib.Core.Logic.{_≢_, _⊎_, inl, inr}
-use Prim.Native.Nat.{ℕ, _+_, _-_}
+use Prim.Native.Nat.{ℕ, _+_, _-_, _≤_}
 use native.Mathlib.Omega.{arith}
+use native.Mathlib.Decide.{ℕ-discrete}
 use borrow.Author.Tests.{ne-eqb}
 use Rattle.wsgs.specs.declared.Clock.{Clock}
 use Rattle.wsgs.specs.declared.PreviewResult.{PreviewResult}
@@ -13,10 +15,10 @@ use Rattle.wsgs.specs.Words.{word}
 use Rattle.wsgs.specs.Bookings.{Book, booking, bookings, row-sum, column-sum}
 use Rattle.wsgs.specs.Questions.{Effect}
 use Rattle.wsgs.specs.Book.{book-refusal, rise, rate-refusal, release-refusal, release-rate-refusal}
-use Rattle.wsgs.specs.Preview.{BookOperation, slots-booking, rate-booking, slots-release, rate-release, operation-effect, counts-as, shown, preview-of}
+use Rattle.wsgs.specs.Preview.{BookOperation, slots-booking, rate-booking, slots-release, rate-release, operation-effect, counts-as, refused-by-rule, shown, preview-of}
 use Rattle.wsgs.specs.Preview as Previews
 use Rattle.wsgs.specs.Switch.{Switch, preview, call-of, apply, of-book}
-use Rattle.wsgs.specs.Claims.{PreviewIsOnCopy, PreviewHolds}
+use Rattle.wsgs.specs.Claims.{RefusedByRule, PreviewIsOnCopy, PreviewHolds}
 use Rattle.wsgs.proofs.Laws.Tests.{range-out}
 use Rattle.wsgs.proofs.Laws.Sums.{sum-ext, row-changed, column-changed}
 use Rattle.wsgs.proofs.Rises.{slots-raise, rate-raises, slots-lower, rate-lowers}
@@ -34,14 +36,24 @@ shows-after : (r x y : ℕ) → r ≡ 0 → shown r x y ≡ x
 unfolding shown
 shows-after r x y e = rw e
 
-shows-asked : (r x y : ℕ) → (r ≡ 8) ⊎ (r ≡ 9) → shown r x y ≡ y
+shows-asked : (r x y : ℕ) → RefusedByRule r → shown r x y ≡ y
 unfolding shown
 shows-asked r x y (inl e) = rw e
-shows-asked r x y (inr e) = rw e
+shows-asked r x y (inr (inl e)) = rw e
+shows-asked r x y (inr (inr e)) = rw e
 
-hides : (r x y : ℕ) → r ≢ 0 → r ≢ 8 → r ≢ 9 → shown r x y ≡ 0
+-- the test of the numbers fails for any other
+pub not-by-rule : (r : ℕ) → (RefusedByRule r → ⊥) → refused-by-rule r ≡ false
+not-by-rule r h =
+    rw (range-out 8 9 r (λ p. go (ℕ-discrete r 8) p), ne-eqb r 15 (λ e. h (inr (inr e))))
+  where
+    go : Dec (r ≡ 8) → (8 ≤ r) × (r ≤ 9) → ⊥
+    go (yes e) p = h (inl e)
+    go (no d) p = h (inr (inl (omega arith)))
+
+hides : (r x y : ℕ) → r ≢ 0 → (RefusedByRule r → ⊥) → shown r x y ≡ 0
 unfolding shown
-hides r x y e₀ e₈ e₉ = rw (ne-eqb r 0 e₀) (ap (λ b. pick b y 0) (range-out _ _ r (λ p. omega (arith, p .0, p .1, e₈, e₉))))
+hides r x y e₀ e = rw (ne-eqb r 0 e₀) (ap (λ b. pick b y 0) (not-by-rule r e))
 
 -- ON A COPY
 pub on-copy : PreviewIsOnCopy
@@ -52,7 +64,7 @@ on-copy o s i j d =
       refusal = refl;
       accepted = λ e. (shows-after _ _ _ e, shows-after _ _ _ e);
       asked-about = λ e. (shows-asked _ _ _ e, shows-asked _ _ _ e);
-      hidden = λ e₀ e₈ e₉. (hides _ _ _ e₀ e₈ e₉, hides _ _ _ e₀ e₈ e₉);
+      hidden = λ e₀ e. (hides _ _ _ e₀ e, hides _ _ _ e₀ e);
     })
 
 -- A YES HOLDS, and so does any other number
@@ -60,11 +72,11 @@ pub told-holds : PreviewHolds
 unfolding apply Previews.preview
 told-holds o s i j d = rw (operated o s i j d)
 
--- and no sum under any number but 0, 8 and 9
-pub none-shown : (o : BookOperation) (c : Clock) (m : Book) (i j d r : ℕ) → r ≡ operation-effect o c m i j d .answer → r ≢ 0 → r ≢ 8 → r ≢ 9
+-- and no sum under any number but 0 and those of the book's rule
+pub none-shown : (o : BookOperation) (c : Clock) (m : Book) (i j d r : ℕ) → r ≡ operation-effect o c m i j d .answer → r ≢ 0 → (RefusedByRule r → ⊥)
     → preview-of r 0 0 ≡ Previews.preview o c m i j d
 unfolding Previews.preview
-none-shown o c m i j d r e e₀ e₈ e₉ = rw (sym e) (ap₂ (preview-of r) (sym (hides r _ _ e₀ e₈ e₉)) (sym (hides r _ _ e₀ e₈ e₉)))
+none-shown o c m i j d r e e₀ e₁ = rw (sym e) (ap₂ (preview-of r) (sym (hides r _ _ e₀ e₁)) (sym (hides r _ _ e₀ e₁)))
 
 -- THE SUMS SHOWN are those of the present bookings with another one, v, for the pair
 module _ (c : Clock) (m : Book) (i j : ℕ) where
@@ -100,8 +112,8 @@ module _ (c : Clock) (m : Book) (i j : ℕ) where
           rw (sym e)
           (ap₂ (preview-of 0) (sum-ext _ _ n (λ y p. sym (h i y pi p))) (sum-ext _ _ n (λ x p. sym (h x j p pj))))
 
-      -- one that question 8 or 9 refuses
-      shows-sought : (r : ℕ) → r ≡ copy .answer → (r ≡ 8) ⊎ (r ≡ 9)
+      -- one that the book's rule refuses
+      shows-sought : (r : ℕ) → r ≡ copy .answer → RefusedByRule r
           → with-booking r (present i j + counts-as o c m i j d) ≡ Previews.preview o c m i j d
       unfolding Previews.preview
       shows-sought r e h =
@@ -110,14 +122,14 @@ module _ (c : Clock) (m : Book) (i j : ℕ) where
           (column-raised (counts-as o c m i j d) ∙ sym (shows-asked r _ _ h)))
 
     -- so it is with a booking by slots
-    pub book-shows : (d r : ℕ) → r ≡ book-refusal c m i j d → (r ≡ 0) ⊎ ((r ≡ 8) ⊎ (r ≡ 9))
+    pub book-shows : (d r : ℕ) → r ≡ book-refusal c m i j d → (r ≡ 0) ⊎ RefusedByRule r
         → with-booking r (present i j + d) ≡ Previews.preview slots-booking c m i j d
     unfolding operation-effect counts-as
     book-shows d r e (inl z) = rw z (shows-left slots-booking d _ (sym z ∙ e) (slots-raise c m i j d (sym e ∙ z)))
     book-shows d r e (inr h) = shows-sought slots-booking d r e h
 
     -- by rate
-    pub rate-shows : (v r : ℕ) → r ≡ rate-refusal c m i j v → (r ≡ 0) ⊎ ((r ≡ 8) ⊎ (r ≡ 9))
+    pub rate-shows : (v r : ℕ) → r ≡ rate-refusal c m i j v → (r ≡ 0) ⊎ RefusedByRule r
         → with-booking r (present i j + rise c m i j v) ≡ Previews.preview rate-booking c m i j v
     unfolding operation-effect counts-as
     rate-shows v r e (inl z) = rw z (shows-left rate-booking v _ (sym z ∙ e) (rate-raises c m i j v (sym e ∙ z)))

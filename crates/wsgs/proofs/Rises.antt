@@ -1,15 +1,16 @@
--- What an accepted operation on the book leaves. After a booking no word overflows, since question 8 keeps every booking to half a frame, rounded up,
--- and the pair's booking has risen by just what it counted as; after a release it is that of what is left. Assumes nothing.
+-- What an accepted operation on the book leaves. After a booking no word overflows, since the book's rule keeps every booking to a frame, and the pair's
+-- booking has risen by just what it counted as; after a release it is that of what is left. Assumes nothing.
 use mathlib.Core.Path.{_≡_, sym}
-use Prim.Native.Nat.{ℕ, _+_, _-_, _*_, _≤_}
+use Prim.Native.Nat.{ℕ, _+_, _-_, _≤_}
 use native.Mathlib.Omega.{arith}
 use Rattle.wsgs.specs.declared.Clock.{Clock}
+use Rattle.wsgs.specs.Clocks.{is-fine}
 use Rattle.wsgs.specs.Basics.{Port, updated₂}
 use Rattle.wsgs.specs.Words.{word}
-use Rattle.wsgs.specs.Bookings.{Book, booking, bookings, row-sum}
+use Rattle.wsgs.specs.Bookings.{Book, booking, bookings}
 use Rattle.wsgs.specs.Book.{book-refusal, book-words, rise, rate-refusal, rate-words, release-refusal, release-words, release-rate-refusal, release-rate-words}
 use Rattle.wsgs.specs.Claims.{Admitted}
-use Rattle.wsgs.proofs.Laws.Sums.{sum-parts}
+use Rattle.wsgs.proofs.Laws.Rule.{own-fits}
 use Rattle.wsgs.proofs.Laws.Bookings.{booking-mono, booking-whole, rate-small, slots-moved, rates-moved}
 use Rattle.wsgs.proofs.Refusals.{book-asks, rate-asks, release-asked, release-rate-asked}
 use Rattle.wsgs.proofs.Admission.{held}
@@ -30,10 +31,12 @@ module _ (c : Clock) (m : Book) (i j : ℕ) where
   abbrev rate : ℕ
   rate = word n (m .rates) i j
 
-  -- a pair's booking is part of its row's, so with what is admitted it is at most half a frame, rounded up
-  part : (d : ℕ) → Admitted c m i j d → 2 * (booking f line slots rate + d) ≤ f + 1
-  unfolding bookings row-sum
-  part d a = omega (arith, a .row, sum-parts (λ y. bookings n f line m i y) n j (a .reach .output))
+  -- a pair's booking, with what is admitted, is at most a frame
+  part : (d : ℕ) → Admitted c m i j d → booking f line slots rate + d ≤ f
+  unfolding bookings
+  part d a =
+      let q = a .reach in
+      own-fits n f (bookings n f line m) i j d (q .input) (q .output) (q .frame .0) (is-fine (c .fine)) (a .rule)
 
   -- admitted slots, and an admitted rate, fit their words: they are at most a frame, and at most the line's rate
   pub slots-fit : (d : ℕ) → Admitted c m i j d → slots + d ≤ f
@@ -42,7 +45,7 @@ module _ (c : Clock) (m : Book) (i j : ℕ) where
       omega (arith, p, a .reach .frame, booking-whole f line slots rate (omega (arith, p, a .reach .frame)))
 
   -- the booking of an admitted rate
-  raised : (r : ℕ) → Admitted c m i j (rise c m i j r) → 2 * booking f line slots (rate + r) ≤ f + 1
+  raised : (r : ℕ) → Admitted c m i j (rise c m i j r) → booking f line slots (rate + r) ≤ f
   unfolding rise
   raised r a = omega (arith, part (rise c m i j r) a, booking-mono f line slots slots rate (rate + r) (omega arith) (omega arith))
 

@@ -5,7 +5,7 @@ use Prim.Native.Nat.{ℕ, zero, suc, _-_}
 use lib.ListN.{replicate}
 use Rattle.wsgs.specs.Clocks.{clock-of}
 use Rattle.wsgs.specs.Bookings.{book-of}
-use Rattle.wsgs.specs.Switch.{Switch, Form, direct, pipelined, Call, start, book, book-rate, arrive, tick}
+use Rattle.wsgs.specs.Switch.{Switch, Form, direct, pipelined, plain, Call, start, book, book-rate, arrive, tick}
 use Rattle.wsgs.specs.Ledger.{Ledger, ledger-of, reading, others, waited, served}
 
 -- what the ledger tells of a pair in a frame: a, b - m and the served count
@@ -50,7 +50,7 @@ ticks m (suc k) = tick m ∷ ticks m k
 abbrev pub some-switch : Switch
 some-switch =
     record {
-      clock = clock-of 9 2 77 3;
+      clock = clock-of 9 2 77 3 7;
       book = book-of (replicate 9 8) (replicate 9 1);
       credits = replicate 9 7;
       queues = replicate 9 6;
@@ -65,7 +65,7 @@ direct-films =
     record {
       switch = some-switch;
       calls =
-          start direct 3 7 7000
+          start direct 3 7 7000 plain
           ∷ book 3 3 2
           ∷ book 3 1 1
           ∷ book 3 2 1
@@ -93,7 +93,7 @@ direct-second-frame =
     record {
       switch = some-switch;
       calls =
-          start direct 2 3 0
+          start direct 2 3 0 plain
           ∷ book 1 1 1
           ∷ book 1 2 1
           ∷ book 2 1 1
@@ -114,7 +114,7 @@ pipelined-films =
     record {
       switch = some-switch;
       calls =
-          start pipelined 2 5 0
+          start pipelined 2 5 0 plain
           ∷ book 2 2 2
           ∷ book 2 1 1
           ∷ book 1 2 1
@@ -146,7 +146,7 @@ abbrev pub direct-rates : Example
 direct-rates =
     record {
       switch = some-switch;
-      calls = start direct 2 5 1000 ∷ rates-booked ++ (tick direct ∷ arrive 2 2 9 ∷ ticks direct 4);
+      calls = start direct 2 5 1000 plain ∷ rates-booked ++ (tick direct ∷ arrive 2 2 9 ∷ ticks direct 4);
       frame = 1;
       input = 2;
       output = 2;
@@ -157,7 +157,7 @@ abbrev pub pipelined-rates : Example
 pipelined-rates =
     record {
       switch = some-switch;
-      calls = start pipelined 2 5 1000 ∷ rates-booked ++ (ticks pipelined 3 ++ (arrive 2 2 9 ∷ ticks pipelined 6));
+      calls = start pipelined 2 5 1000 plain ∷ rates-booked ++ (ticks pipelined 3 ++ (arrive 2 2 9 ∷ ticks pipelined 6));
       frame = 6;
       input = 2;
       output = 2;

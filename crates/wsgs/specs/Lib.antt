@@ -5,6 +5,7 @@ pub mod Words
 pub mod Bookings
 pub mod Frames
 pub mod Steps
+pub mod Rule
 pub mod Questions
 pub mod Book
 pub mod Headroom

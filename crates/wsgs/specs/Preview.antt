@@ -1,6 +1,6 @@
 -- Preview: what an operation on the book would give, and the two sums of bookings that would follow, those of the pair's row and of its column. It
 -- is said once for the four operations. Assumes nothing.
-use mathlib.Core.Bool.{Bool}
+use mathlib.Core.Bool.{Bool, _||_}
 use Prim.Native.Nat.{ℕ, _+_}
 use lib.Dec.{eqb}
 use Rattle.wsgs.specs.declared.Clock.{Clock}
@@ -21,7 +21,7 @@ operation-effect rate-booking c m i j r = rate-effect c m i j r
 operation-effect slots-release c m i j d = release-effect c m i j d
 operation-effect rate-release c m i j r = release-rate-effect c m i j r
 
--- what it counts as in questions 8 and 9, which no release is asked
+-- what it counts as in the book's rule, which no release is asked
 unfoldable pub counts-as : BookOperation → Clock → Book → (input output amount : ℕ) → ℕ
 unfolding rise
 counts-as slots-booking c m i j d = d
@@ -29,13 +29,13 @@ counts-as rate-booking c m i j r = rise c m i j r
 counts-as slots-release c m i j d = 0
 counts-as rate-release c m i j r = 0
 
--- a sum did not fit: question 8 or 9 was the first no
-abbrev pub refused-by-sum : (refusal : ℕ) → Bool
-refused-by-sum r = between 8 9 r
+-- the book's rule refuses: question 8 or 9, or 15 on a fine book, was the first no
+abbrev pub refused-by-rule : (refusal : ℕ) → Bool
+refused-by-rule r = between 8 9 r || eqb r 15
 
--- the sum that is shown: the one afterwards where the operation is accepted; where a sum did not fit, the one that the question asked about; else 0
+-- the sum that is shown: the one afterwards where the operation is accepted; where the rule refuses, the one that it asked about; else 0
 unfoldable pub shown : (refusal afterwards asked-about : ℕ) → ℕ
-shown r afterwards asked-about = pick (eqb r 0) afterwards (pick (refused-by-sum r) asked-about 0)
+shown r afterwards asked-about = pick (eqb r 0) afterwards (pick (refused-by-rule r) asked-about 0)
 
 abbrev pub preview-of : (refusal row column : ℕ) → PreviewResult
 preview-of r row column = record { refusal = r; row = row; column = column }

@@ -14,12 +14,14 @@ pub const MAX_LINE_RATE: u64 = 100_000_000;
 
 pub const MAX_SLOT: u32 = 4_000_000_000;
 
-// The number of ports, the length of a frame, the last slot run, and the rate of a line in kbit/s, 0 for none.
+// The number of ports, the length of a frame, the last slot run, the rate of a line in kbit/s, 0 for none, and the kind of the book: 0 for the
+// plain one, anything else for the fine one.
 pub struct Clock {
     pub ports: u32,
     pub frame: u32,
     pub slot: u32,
     pub line: u32,
+    pub fine: u32,
 }
 
 // The number of an input, and of an output, from 1 on.

@@ -71,8 +71,8 @@ module _ (f b : ℕ) where
       let e : rate-slots f b r ≡ (r * f + (b - 1)) / b = rw (ne-eqb b 0 (λ z. omega arith)) in
       omega (arith, div-lt-iff-lt-mul {k = b} {x = r * f + (b - 1)} {y = suc k} p .0 (omega (arith, e)), suc-mul k b)
 
-  -- one of at most half a frame, rounded up, is at most the line's
-  pub rate-small : (r k : ℕ) → 1 ≤ b → 1 ≤ f → 2 * k ≤ f + 1 → rate-slots f b r ≤ k → r ≤ b
+  -- one of at most a frame is at most the line's
+  pub rate-small : (r k : ℕ) → 1 ≤ b → 1 ≤ f → k ≤ f → rate-slots f b r ≤ k → r ≤ b
   rate-small r k p q h g =
       le-of-mul-le-mul-right {k = f} (omega (arith, rate-carried r k p g, mul-le-mul-right {m = k} {n = f} b (omega arith), mul-comm f b)) q
 
