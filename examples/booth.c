@@ -1,7 +1,7 @@
 /*
  * A booth with a touch panel, a film player and an archive, scheduled through include/kivdrag.h: a direct switch for
- * a frame, one on which two films take turns, and a pipelined one for a few ticks. Build it at the repository's root,
- * after `rt staticlib kivdrag_c`:
+ * a frame, one on which two films take turns, one whose fine book sells a whole line, and a pipelined one for a few
+ * ticks. Build it at the repository's root, after `rt staticlib kivdrag_c`:
  *
  *   cc -std=c11 -Wall -Wextra -Werror -Iinclude examples/booth.c target/staticlib/libkivdrag_c.a -o target/booth
  */
@@ -17,6 +17,9 @@ enum { DESK = 1, WALL = 2 };
 
 /* A line of 1 Gbit/s, in kbit/s. */
 enum { LINE = 1000000 };
+
+/* The kinds of book. */
+enum { PLAIN = 0, FINE = 1 };
 
 /* All memory of a switch; a direct one does without copy and flight. */
 typedef struct {
@@ -36,14 +39,15 @@ typedef struct {
     uint32_t first_pass;
 } Pairs;
 
-static uint32_t start_direct(Switch *s, unsigned frame) {
-    return kivdrag_start_direct(PORTS, frame, LINE, s->clock, s->slots, PAIRS, s->rates, PAIRS, s->credits, PAIRS,
+static uint32_t start_direct(Switch *s, unsigned fine) {
+    return kivdrag_start_direct(PORTS, FRAME, LINE, fine, s->clock, s->slots, PAIRS, s->rates, PAIRS, s->credits, PAIRS,
                                 s->queues, PAIRS, s->given, PORTS);
 }
 
 static uint32_t start_pipelined(Switch *s, unsigned frame) {
-    return kivdrag_start_pipelined(PORTS, frame, LINE, s->clock, s->slots, PAIRS, s->rates, PAIRS, s->credits, PAIRS,
-                                   s->queues, PAIRS, s->given, PORTS, s->copy, PAIRS, s->flight, FLIGHT);
+    return kivdrag_start_pipelined(PORTS, frame, LINE, PLAIN, s->clock, s->slots, PAIRS, s->rates, PAIRS,
+                                   s->credits, PAIRS, s->queues, PAIRS, s->given, PORTS, s->copy, PAIRS,
+                                   s->flight, FLIGHT);
 }
 
 static uint32_t book(Switch *s, unsigned input, unsigned output, unsigned amount) {
@@ -110,7 +114,8 @@ static void print_preview(const Switch *s, const char *what, unsigned input, uns
     uint64_t row, column;
     uint32_t refusal = preview_book(s, input, output, amount, &row, &column);
     say(what, refusal);
-    if (refusal == KIVDRAG_ACCEPTED || refusal == KIVDRAG_REFUSED_INPUT || refusal == KIVDRAG_REFUSED_OUTPUT) {
+    if (refusal == KIVDRAG_ACCEPTED || refusal == KIVDRAG_REFUSED_INPUT || refusal == KIVDRAG_REFUSED_OUTPUT
+        || refusal == KIVDRAG_REFUSED_FINE) {
         printf("  the input would have %llu slots booked, the output %llu\n", (unsigned long long)row,
                (unsigned long long)column);
     }
@@ -132,7 +137,7 @@ static void print_pairs(unsigned slot, const Pairs *p) {
 static void direct(void) {
     static Switch s;
     Pairs p;
-    say("start a direct switch of 4 ports, frames of 8 slots, lines of 1,000 Mbit/s", start_direct(&s, FRAME));
+    say("start a direct switch of 4 ports, frames of 8 slots, lines of 1,000 Mbit/s", start_direct(&s, PLAIN));
     say("book 2 slots from the panel to the desk", book(&s, PANEL, DESK, 2));
     /* a slot carries 125 Mbit/s: each stream alone needs one, and all three need two */
     for (unsigned stream = 1; stream <= 3; stream++) {
@@ -167,7 +172,7 @@ static void direct(void) {
 static void two_films(void) {
     static Switch s;
     Pairs p;
-    say("start a direct switch of 4 ports, frames of 8 slots", start_direct(&s, FRAME));
+    say("start a direct switch of 4 ports, frames of 8 slots", start_direct(&s, PLAIN));
     say("queue 3 packets of a film from the archive to the desk", arrive(&s, ARCHIVE, DESK, 3));
     say("queue 3 packets of a film from the archive to the wall", arrive(&s, ARCHIVE, WALL, 3));
     for (unsigned slot = 1; slot <= 6; slot++) {
@@ -179,6 +184,30 @@ static void two_films(void) {
         print_pairs(s.clock[KIVDRAG_CLOCK_SLOT], &p);
     }
     printf("the output that the archive was last given: %u\n", (unsigned)s.given[ARCHIVE - 1]);
+}
+
+/* A film wall may need a whole line, which a plain book does not sell; a fine one does. */
+static void film_wall(void) {
+    static Switch s;
+    Pairs p;
+    say("start a direct switch of 4 ports, frames of 8 slots, with a plain book", start_direct(&s, PLAIN));
+    print_preview(&s, "preview 8 slots from the player to the wall", PLAYER, WALL, 8);
+    say("start it anew with a fine book", start_direct(&s, FINE));
+    print_preview(&s, "preview 8 slots from the player to the wall", PLAYER, WALL, 8);
+    say("book 8 slots from the player to the wall", book(&s, PLAYER, WALL, 8));
+    /* the player and the wall have no slot left; the other lines can still be sold whole */
+    print_preview(&s, "preview 2 slots from the archive to the wall", ARCHIVE, WALL, 2);
+    print_preview(&s, "preview 8 slots from the archive to the desk", ARCHIVE, DESK, 8);
+    say("queue 4 packets of a film from the player to the wall", arrive(&s, PLAYER, WALL, 4));
+    say("queue 9 packets of a film from the archive to the wall", arrive(&s, ARCHIVE, WALL, 9));
+    for (unsigned slot = 1; slot <= 5; slot++) {
+        uint32_t refusal = tick_direct(&s, &p);
+        if (refusal != KIVDRAG_ACCEPTED) {
+            say("tick", refusal);
+            return;
+        }
+        print_pairs(s.clock[KIVDRAG_CLOCK_SLOT], &p);
+    }
 }
 
 static void pipelined(void) {
@@ -203,6 +232,8 @@ int main(void) {
     direct();
     printf("\n");
     two_films();
+    printf("\n");
+    film_wall();
     printf("\n");
     pipelined();
     return 0;

@@ -32,10 +32,22 @@
  * by slots, and what was booked by rate is released by rate. Where B is 0, no rate can be booked or released, and rates
  * count as 0 slots. A booking above 4,294,967,295, to which no calls lead, counts as that number.
  *
+ * THE BOOK is plain or fine, from the start on. A plain one accepts a booking in range where the sum of the input's
+ * bookings and that of the output's, with it, are each at most (F + 1) / 2. A fine one accepts it where afterwards the
+ * paper's inequality (2),
+ *
+ *   row + column - a <= F
+ *
+ * holds of each booked pair (one whose booking is above 0) that shares the input or the output, the pair itself among
+ * them: row is the sum of the bookings of that pair's input, column that of its output's, and a its own booking, which
+ * is in both and counts once. So a fine book sells a whole line: with F = 3 and nothing booked, a pair can book 3 slots
+ * in it, and in a plain one 2. Bookings that a plain book accepts, one after the other from the start on, a fine one
+ * accepts too. With either, booked pairs keep their slots; and a release is not asked any of this.
+ *
  * MEMORY. The library has no memory of its own, and calls nothing but the C library's memset: a switch is the memory
  * that the caller lends, and several switches do not know of each other. For N ports:
  *
- *   clock    4 words: the number of ports, the length of a frame, the last slot run, the line rate
+ *   clock    5 words: the number of ports, the length of a frame, the last slot run, the line rate, the kind of book
  *   slots    N * N words: the slots of each frame that a pair holds by bookings by slots
  *   rates    N * N words: the sum of the rates that a pair holds
  *   credits  N * N words: the booked slots that a pair has left in the present frame
@@ -46,7 +58,8 @@
  *
  * The word of input i and output j stands at [(i - 1) * N + (j - 1)], and in given the word of input i at [i - 1]. In
  * flight the word of input i for slot s stands at [(s mod 2N) * N + (i - 1)]: j for output j by pass two, 100 + j by
- * pass one, and 0, or any other word, for none.
+ * pass one, and 0, or any other word, for none. The kind of book is 0 for a plain one, and any other word for a fine
+ * one; a start sets it to 0 or 1, and no other call changes it.
  *
  * A word is a uint32_t. A run of words is two arguments, a pointer to its first word and its length, counted in
  * words. A run may be longer than needed: the words beyond have no effect and are not written. All of it may be read
@@ -63,7 +76,7 @@
  * REFUSALS. Every call returns 0 if it is accepted, and otherwise the number of the first of these questions, among
  * those that the call has, whose answer is no. After a refused call every lent word has the value that it had before
  * (a start or a tick may have stored it anew); only the answer of a tick is set, to all zeros, a headroom, to 0, and
- * the two sums of a preview, to 0 unless the refusal is 8 or 9.
+ * the two sums of a preview, to 0 unless the refusal is 8, 9 or 15.
  */
 #ifndef KIVDRAG_H
 #define KIVDRAG_H
@@ -79,24 +92,28 @@
 #define KIVDRAG_REFUSED_PAIR 5u     /* Are input and output 1 to N? */
 #define KIVDRAG_REFUSED_AMOUNT 6u   /* Is the amount, rate or line rate in the range that the call names? */
 #define KIVDRAG_REFUSED_CLOCK 7u    /* Tick: is the last slot run below 4,000,000,000? */
-#define KIVDRAG_REFUSED_INPUT 8u    /* Booking d: is 2 * (the sum of the input's bookings + d) at most F + 1? */
-#define KIVDRAG_REFUSED_OUTPUT 9u   /* Booking d: is 2 * (the sum of the output's bookings + d) at most F + 1? */
+#define KIVDRAG_REFUSED_INPUT 8u    /* Booking d, plain book: is 2 * (the sum of the input's bookings + d) <= F + 1? */
+#define KIVDRAG_REFUSED_OUTPUT 9u   /* Booking d, plain book: is 2 * (the sum of the output's bookings + d) <= F + 1? */
 #define KIVDRAG_REFUSED_RELEASE 10u /* Release: does the pair hold at least so many slots, or so much rate? */
 #define KIVDRAG_REFUSED_QUEUE 11u   /* Arrival: would the pair's queue hold at most 1,000,000 packets? */
+#define KIVDRAG_REFUSED_FINE 15u    /* Booking d, fine book, in the place of 8 and 9: with d more, is row + column - a
+                                       <= F of each booked pair that shares the input or the output? */
 
 /* The most ports of a switch, and its words: of clock; of slots, rates, credits, queues and copy each; of given; of
    flight. */
 #define KIVDRAG_PORTS_MAX 32
-#define KIVDRAG_CLOCK_WORDS 4
+#define KIVDRAG_CLOCK_WORDS 5
 #define KIVDRAG_PAIR_WORDS(ports) ((size_t)(ports) * (size_t)(ports))
 #define KIVDRAG_GIVEN_WORDS(ports) ((size_t)(ports))
 #define KIVDRAG_FLIGHT_WORDS(ports) (2 * (size_t)(ports) * (size_t)(ports))
 
-/* Where the number of ports, the length of a frame, the last slot run and the line rate stand in a clock. */
+/* Where the number of ports, the length of a frame, the last slot run, the line rate and the kind of book stand in a
+   clock. */
 #define KIVDRAG_CLOCK_PORTS 0
 #define KIVDRAG_CLOCK_FRAME 1
 #define KIVDRAG_CLOCK_SLOT 2
 #define KIVDRAG_CLOCK_LINE 3
+#define KIVDRAG_CLOCK_FINE 4
 
 #ifdef __cplusplus
 extern "C" {
@@ -105,12 +122,13 @@ extern "C" {
 /*
  * Starts a direct switch, on memory with any contents.
  *
- * ports is N, 1 to 32; frame is F, 1 to 10,000; line is B, 0 to 100,000,000. slots, rates, credits and queues have
- * N * N words or more, given N.
- * Sets the clock to ports, frame, 0 and line, and the first N * N words of each run, of given the first N, to 0.
+ * ports is N, 1 to 32; frame is F, 1 to 10,000; line is B, 0 to 100,000,000; fine is 0 for a plain book, and any other
+ * number for a fine one. slots, rates, credits and queues have N * N words or more, given N.
+ * Sets the clock to ports, frame, 0, line, and 0 or, for a fine book, 1; and the first N * N words of each run, of
+ * given the first N, to 0.
  * Refusals: 1 (ports), 2 (frame), 4 (a run is too short), 6 (line).
  */
-uint32_t kivdrag_start_direct(uint64_t ports, uint64_t frame, uint64_t line, uint32_t clock[4],
+uint32_t kivdrag_start_direct(uint64_t ports, uint64_t frame, uint64_t line, uint32_t fine, uint32_t clock[5],
                               uint32_t *slots, size_t slots_length,
                               uint32_t *rates, size_t rates_length,
                               uint32_t *credits, size_t credits_length,
@@ -120,13 +138,14 @@ uint32_t kivdrag_start_direct(uint64_t ports, uint64_t frame, uint64_t line, uin
 /*
  * Starts a pipelined switch, on memory with any contents.
  *
- * ports is N, 1 to 32; frame is F, 1 to 10,000 and at least N; line is B, 0 to 100,000,000. slots, rates, credits,
- * queues and copy have N * N words or more, given N, flight 2 * N * N.
- * Sets the clock to ports, frame, 0 and line, and the first N * N words of each run, of given the first N, of flight
- * the first 2 * N * N, to 0.
+ * ports is N, 1 to 32; frame is F, 1 to 10,000 and at least N; line is B, 0 to 100,000,000; fine is 0 for a plain book,
+ * and any other number for a fine one. slots, rates, credits, queues and copy have N * N words or more, given N, flight
+ * 2 * N * N.
+ * Sets the clock to ports, frame, 0, line, and 0 or, for a fine book, 1; and the first N * N words of each run, of
+ * given the first N, of flight the first 2 * N * N, to 0.
  * Refusals: 1 (ports), 2 (frame), 3 (frame below ports), 4 (a run is too short), 6 (line).
  */
-uint32_t kivdrag_start_pipelined(uint64_t ports, uint64_t frame, uint64_t line, uint32_t clock[4],
+uint32_t kivdrag_start_pipelined(uint64_t ports, uint64_t frame, uint64_t line, uint32_t fine, uint32_t clock[5],
                                  uint32_t *slots, size_t slots_length,
                                  uint32_t *rates, size_t rates_length,
                                  uint32_t *credits, size_t credits_length,
@@ -140,10 +159,10 @@ uint32_t kivdrag_start_pipelined(uint64_t ports, uint64_t frame, uint64_t line, 
  *
  * input and output are 1 to N; amount is 1 to F. slots and rates have N * N words or more.
  * Adds amount to the pair's word of slots, and writes nothing else.
- * Refusals: 1, 2 (the clock's ports or frame), 4 (a run is too short), 5 (input or output), 6 (amount), 8 (the
- * input's sum), 9 (the output's sum); 8 and 9 are asked with amount for d.
+ * Refusals: 1, 2 (the clock's ports or frame), 4 (a run is too short), 5 (input or output), 6 (amount); then, with
+ * amount for d, in a plain book 8 (the input's sum) and 9 (the output's sum), in a fine one 15 (inequality (2)).
  */
-uint32_t kivdrag_book(const uint32_t clock[4], uint32_t *slots, size_t slots_length,
+uint32_t kivdrag_book(const uint32_t clock[5], uint32_t *slots, size_t slots_length,
                       const uint32_t *rates, size_t rates_length,
                       uint64_t input, uint64_t output, uint64_t amount);
 
@@ -153,10 +172,11 @@ uint32_t kivdrag_book(const uint32_t clock[4], uint32_t *slots, size_t slots_len
  * input and output are 1 to N; the clock's line rate B is 1 to 100,000,000, and rate is 1 to B. slots and rates have
  * N * N words or more.
  * Adds rate to the pair's word of rates, and writes nothing else.
- * Refusals: 1, 2 (the clock's ports or frame), 4 (a run is too short), 5 (input or output), 6 (B or rate), 8 (the
- * input's sum), 9 (the output's sum); 8 and 9 are asked with the rise of the pair's booking for d, even where it is 0.
+ * Refusals: 1, 2 (the clock's ports or frame), 4 (a run is too short), 5 (input or output), 6 (B or rate); then, with
+ * the rise of the pair's booking for d, even where it is 0, in a plain book 8 (the input's sum) and 9 (the output's
+ * sum), in a fine one 15 (inequality (2)).
  */
-uint32_t kivdrag_book_rate(const uint32_t clock[4], const uint32_t *slots, size_t slots_length,
+uint32_t kivdrag_book_rate(const uint32_t clock[5], const uint32_t *slots, size_t slots_length,
                            uint32_t *rates, size_t rates_length,
                            uint64_t input, uint64_t output, uint64_t rate);
 
@@ -169,7 +189,7 @@ uint32_t kivdrag_book_rate(const uint32_t clock[4], const uint32_t *slots, size_
  * Refusals: 1, 2 (the clock's ports or frame), 4 (a run is too short), 5 (input or output), 6 (amount), 10 (the pair
  * holds fewer slots).
  */
-uint32_t kivdrag_release(const uint32_t clock[4], uint32_t *slots, size_t slots_length,
+uint32_t kivdrag_release(const uint32_t clock[5], uint32_t *slots, size_t slots_length,
                          const uint32_t *rates, size_t rates_length,
                          uint64_t input, uint64_t output, uint64_t amount);
 
@@ -182,7 +202,7 @@ uint32_t kivdrag_release(const uint32_t clock[4], uint32_t *slots, size_t slots_
  * Refusals: 1, 2 (the clock's ports or frame), 4 (a run is too short), 5 (input or output), 6 (B or rate), 10 (the pair
  * holds less rate).
  */
-uint32_t kivdrag_release_rate(const uint32_t clock[4], const uint32_t *slots, size_t slots_length,
+uint32_t kivdrag_release_rate(const uint32_t clock[5], const uint32_t *slots, size_t slots_length,
                               uint32_t *rates, size_t rates_length,
                               uint64_t input, uint64_t output, uint64_t rate);
 
@@ -193,11 +213,11 @@ uint32_t kivdrag_release_rate(const uint32_t clock[4], const uint32_t *slots, si
  * input and output are 1 to N. slots and rates have N * N words or more.
  * Sets *headroom to F - (row + column - a), exactly, whatever the words hold, and writes nothing else. Above 0 it is
  * the number of slots that row + column - a is below F; at 0 they are equal; below 0 the inequality does not hold of
- * the pair. On a book that accepted calls have made it is below 0 only for pairs whose booking is 0: with F = 3,
- * row 2, column 2 and a = 0 it is -1. Where the call is refused, *headroom is set to 0.
+ * the pair. On a book that accepted calls have made, of either kind, it is below 0 only for pairs whose booking is 0:
+ * with F = 3, row 2, column 2 and a = 0 it is -1. Where the call is refused, *headroom is set to 0.
  * Refusals: 1, 2 (the clock's ports or frame), 4 (a run is too short), 5 (input or output).
  */
-uint32_t kivdrag_headroom(const uint32_t clock[4], const uint32_t *slots, size_t slots_length,
+uint32_t kivdrag_headroom(const uint32_t clock[5], const uint32_t *slots, size_t slots_length,
                           const uint32_t *rates, size_t rates_length,
                           uint64_t input, uint64_t output, int64_t *headroom);
 
@@ -209,22 +229,24 @@ uint32_t kivdrag_headroom(const uint32_t clock[4], const uint32_t *slots, size_t
  *
  * Sets *row and *column, in every call, and writes nothing else:
  *
- *   where 0 is returned       the sum of the input's bookings, and of the output's, as the operation would leave them;
- *   where 8 or 9 is returned  the present sums with d more, which questions 8 and 9 ask about; both, even with 8;
- *   otherwise                 0 and 0.
+ *   where 0 is returned           the sum of the input's bookings, and of the output's, as the operation would leave
+ *                                 them;
+ *   where 8, 9 or 15 is returned  the present sums with d more, both, even with 8;
+ *   otherwise                     0 and 0.
  *
  * The sums are exact, whatever the words hold. With F = 3, where a pair has 1 slot booked and nothing else is booked,
- * booking 1 more would return 0, with sums of 2 and 2; booking 2 more would return 8, with sums of 3 and 3.
+ * booking 1 more would return 0, with sums of 2 and 2; booking 2 more would return 8 in a plain book, and 0 in a fine
+ * one, with sums of 3 and 3; booking 3 more would return 15 in a fine one, with sums of 4 and 4.
  */
 
 /*
  * Previews kivdrag_book.
  *
  * input and output are 1 to N; amount is 1 to F. slots and rates have N * N words or more.
- * Refusals: 1, 2 (the clock's ports or frame), 4 (a run is too short), 5 (input or output), 6 (amount), 8 (the
- * input's sum), 9 (the output's sum); d is amount.
+ * Refusals: 1, 2 (the clock's ports or frame), 4 (a run is too short), 5 (input or output), 6 (amount); then, with
+ * amount for d, in a plain book 8 (the input's sum) and 9 (the output's sum), in a fine one 15 (inequality (2)).
  */
-uint32_t kivdrag_preview_book(const uint32_t clock[4], const uint32_t *slots, size_t slots_length,
+uint32_t kivdrag_preview_book(const uint32_t clock[5], const uint32_t *slots, size_t slots_length,
                               const uint32_t *rates, size_t rates_length,
                               uint64_t input, uint64_t output, uint64_t amount, uint64_t *row, uint64_t *column);
 
@@ -233,10 +255,11 @@ uint32_t kivdrag_preview_book(const uint32_t clock[4], const uint32_t *slots, si
  *
  * input and output are 1 to N; the clock's line rate B is 1 to 100,000,000, and rate is 1 to B. slots and rates have
  * N * N words or more.
- * Refusals: 1, 2 (the clock's ports or frame), 4 (a run is too short), 5 (input or output), 6 (B or rate), 8 (the
- * input's sum), 9 (the output's sum); d is the rise of the pair's booking, which may be 0.
+ * Refusals: 1, 2 (the clock's ports or frame), 4 (a run is too short), 5 (input or output), 6 (B or rate); then, with
+ * the rise of the pair's booking for d, which may be 0, in a plain book 8 (the input's sum) and 9 (the output's sum),
+ * in a fine one 15 (inequality (2)).
  */
-uint32_t kivdrag_preview_book_rate(const uint32_t clock[4], const uint32_t *slots, size_t slots_length,
+uint32_t kivdrag_preview_book_rate(const uint32_t clock[5], const uint32_t *slots, size_t slots_length,
                                    const uint32_t *rates, size_t rates_length,
                                    uint64_t input, uint64_t output, uint64_t rate, uint64_t *row, uint64_t *column);
 
@@ -248,7 +271,7 @@ uint32_t kivdrag_preview_book_rate(const uint32_t clock[4], const uint32_t *slot
  * Refusals: 1, 2 (the clock's ports or frame), 4 (a run is too short), 5 (input or output), 6 (amount), 10 (the pair
  * holds fewer slots).
  */
-uint32_t kivdrag_preview_release(const uint32_t clock[4], const uint32_t *slots, size_t slots_length,
+uint32_t kivdrag_preview_release(const uint32_t clock[5], const uint32_t *slots, size_t slots_length,
                                  const uint32_t *rates, size_t rates_length,
                                  uint64_t input, uint64_t output, uint64_t amount, uint64_t *row, uint64_t *column);
 
@@ -260,7 +283,7 @@ uint32_t kivdrag_preview_release(const uint32_t clock[4], const uint32_t *slots,
  * Refusals: 1, 2 (the clock's ports or frame), 4 (a run is too short), 5 (input or output), 6 (B or rate), 10 (the pair
  * holds less rate).
  */
-uint32_t kivdrag_preview_release_rate(const uint32_t clock[4], const uint32_t *slots, size_t slots_length,
+uint32_t kivdrag_preview_release_rate(const uint32_t clock[5], const uint32_t *slots, size_t slots_length,
                                       const uint32_t *rates, size_t rates_length,
                                       uint64_t input, uint64_t output, uint64_t rate, uint64_t *row, uint64_t *column);
 
@@ -272,7 +295,7 @@ uint32_t kivdrag_preview_release_rate(const uint32_t clock[4], const uint32_t *s
  * Refusals: 1, 2 (the clock's ports or frame), 4 (queues is too short), 5 (input or output), 6 (packets), 11 (the
  * queue would exceed 1,000,000).
  */
-uint32_t kivdrag_arrive(const uint32_t clock[4], uint32_t *queues, size_t queues_length,
+uint32_t kivdrag_arrive(const uint32_t clock[5], uint32_t *queues, size_t queues_length,
                         uint64_t input, uint64_t output, uint64_t packets);
 
 /*
@@ -287,7 +310,7 @@ uint32_t kivdrag_arrive(const uint32_t clock[4], uint32_t *queues, size_t queues
  * every call, and are all 0 where it is refused.
  * Refusals: 1, 2 (the clock's ports or frame), 4 (a run is too short), 7 (clock[2] is 4,000,000,000 or more).
  */
-uint32_t kivdrag_tick_direct(uint32_t clock[4], const uint32_t *slots, size_t slots_length,
+uint32_t kivdrag_tick_direct(uint32_t clock[5], const uint32_t *slots, size_t slots_length,
                              const uint32_t *rates, size_t rates_length,
                              uint32_t *credits, size_t credits_length,
                              uint32_t *queues, size_t queues_length,
@@ -309,7 +332,7 @@ uint32_t kivdrag_tick_direct(uint32_t clock[4], const uint32_t *slots, size_t sl
  * Refusals: 1, 2 (the clock's ports or frame), 3 (frame below ports), 4 (a run is too short), 7 (clock[2] is
  * 4,000,000,000 or more).
  */
-uint32_t kivdrag_tick_pipelined(uint32_t clock[4], const uint32_t *slots, size_t slots_length,
+uint32_t kivdrag_tick_pipelined(uint32_t clock[5], const uint32_t *slots, size_t slots_length,
                                 const uint32_t *rates, size_t rates_length,
                                 uint32_t *credits, size_t credits_length,
                                 uint32_t *queues, size_t queues_length,

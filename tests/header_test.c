@@ -26,20 +26,22 @@ static_assert(KIVDRAG_REFUSED_INPUT == 8, "input");
 static_assert(KIVDRAG_REFUSED_OUTPUT == 9, "output");
 static_assert(KIVDRAG_REFUSED_RELEASE == 10, "release");
 static_assert(KIVDRAG_REFUSED_QUEUE == 11, "queue");
+static_assert(KIVDRAG_REFUSED_FINE == 15, "fine book");
 static_assert(KIVDRAG_PORTS_MAX == 32, "most ports");
-static_assert(KIVDRAG_CLOCK_WORDS == 4, "words of a clock");
+static_assert(KIVDRAG_CLOCK_WORDS == 5, "words of a clock");
 static_assert(KIVDRAG_PAIR_WORDS(3) == 9 && KIVDRAG_PAIR_WORDS(1 + 1) == 4, "words of a run");
 static_assert(KIVDRAG_GIVEN_WORDS(3) == 3 && KIVDRAG_GIVEN_WORDS(1 + 1) == 2, "words of last given outputs");
 static_assert(KIVDRAG_FLIGHT_WORDS(3) == 18 && KIVDRAG_FLIGHT_WORDS(1 + 1) == 8, "words in flight");
 static_assert(KIVDRAG_CLOCK_PORTS == 0 && KIVDRAG_CLOCK_FRAME == 1, "places in a clock");
 static_assert(KIVDRAG_CLOCK_SLOT == 2 && KIVDRAG_CLOCK_LINE == 3, "places in a clock");
+static_assert(KIVDRAG_CLOCK_FINE == 4, "places in a clock");
 
 /* THE TYPES of the functions. Calls by position go through these pointers. */
-typedef uint32_t StartDirect(uint64_t, uint64_t, uint64_t, uint32_t *, uint32_t *, size_t, uint32_t *, size_t,
+typedef uint32_t StartDirect(uint64_t, uint64_t, uint64_t, uint32_t, uint32_t *, uint32_t *, size_t, uint32_t *, size_t,
                              uint32_t *, size_t, uint32_t *, size_t, uint32_t *, size_t);
-typedef uint32_t StartPipelined(uint64_t, uint64_t, uint64_t, uint32_t *, uint32_t *, size_t, uint32_t *, size_t,
+typedef uint32_t StartPipelined(uint64_t, uint64_t, uint64_t, uint32_t, uint32_t *, uint32_t *, size_t,
                                 uint32_t *, size_t, uint32_t *, size_t, uint32_t *, size_t, uint32_t *, size_t,
-                                uint32_t *, size_t);
+                                uint32_t *, size_t, uint32_t *, size_t);
 typedef uint32_t OnSlots(const uint32_t *, uint32_t *, size_t, const uint32_t *, size_t, uint64_t, uint64_t, uint64_t);
 typedef uint32_t OnRates(const uint32_t *, const uint32_t *, size_t, uint32_t *, size_t, uint64_t, uint64_t, uint64_t);
 typedef uint32_t Headroom(const uint32_t *, const uint32_t *, size_t, const uint32_t *, size_t, uint64_t, uint64_t,
@@ -97,6 +99,7 @@ static_assert(PREVIEW_BOOK_RATE - PREVIEW_BOOK == 1 && PREVIEW_RELEASE - PREVIEW
      | BIT(KIVDRAG_REFUSED_PAIR) | BIT(KIVDRAG_REFUSED_AMOUNT))
 #define ON_SWITCH                                                                                                      \
     (BIT(KIVDRAG_ACCEPTED) | BIT(KIVDRAG_REFUSED_PORTS) | BIT(KIVDRAG_REFUSED_FRAME) | BIT(KIVDRAG_REFUSED_RUNS))
+#define ON_BOOKING (ON_PAIR | BIT(KIVDRAG_REFUSED_INPUT) | BIT(KIVDRAG_REFUSED_OUTPUT) | BIT(KIVDRAG_REFUSED_FINE))
 
 static const struct {
     const char *name;
@@ -104,13 +107,13 @@ static const struct {
 } listed[FUNCTIONS] = {
     {"kivdrag_start_direct", ON_SWITCH | BIT(KIVDRAG_REFUSED_AMOUNT)},
     {"kivdrag_start_pipelined", ON_SWITCH | BIT(KIVDRAG_REFUSED_PIPELINE) | BIT(KIVDRAG_REFUSED_AMOUNT)},
-    {"kivdrag_book", ON_PAIR | BIT(KIVDRAG_REFUSED_INPUT) | BIT(KIVDRAG_REFUSED_OUTPUT)},
-    {"kivdrag_book_rate", ON_PAIR | BIT(KIVDRAG_REFUSED_INPUT) | BIT(KIVDRAG_REFUSED_OUTPUT)},
+    {"kivdrag_book", ON_BOOKING},
+    {"kivdrag_book_rate", ON_BOOKING},
     {"kivdrag_release", ON_PAIR | BIT(KIVDRAG_REFUSED_RELEASE)},
     {"kivdrag_release_rate", ON_PAIR | BIT(KIVDRAG_REFUSED_RELEASE)},
     {"kivdrag_headroom", ON_SWITCH | BIT(KIVDRAG_REFUSED_PAIR)},
-    {"kivdrag_preview_book", ON_PAIR | BIT(KIVDRAG_REFUSED_INPUT) | BIT(KIVDRAG_REFUSED_OUTPUT)},
-    {"kivdrag_preview_book_rate", ON_PAIR | BIT(KIVDRAG_REFUSED_INPUT) | BIT(KIVDRAG_REFUSED_OUTPUT)},
+    {"kivdrag_preview_book", ON_BOOKING},
+    {"kivdrag_preview_book_rate", ON_BOOKING},
     {"kivdrag_preview_release", ON_PAIR | BIT(KIVDRAG_REFUSED_RELEASE)},
     {"kivdrag_preview_release_rate", ON_PAIR | BIT(KIVDRAG_REFUSED_RELEASE)},
     {"kivdrag_arrive", ON_PAIR | BIT(KIVDRAG_REFUSED_QUEUE)},
@@ -149,15 +152,17 @@ static struct {
 /* The numbers that a caller brings. */
 typedef struct {
     uint64_t ports, frame, line, input, output, amount, rate, packets;
+    uint32_t fine;
 } Numbers;
 
 static uint32_t by_position(Function called, const Numbers *n) {
     switch (called) {
     case START_DIRECT:
-        return p_start_direct(n->ports, n->frame, n->line, is.clock, is.slots, lengths.slots, is.rates, lengths.rates,
-                              is.credits, lengths.credits, is.queues, lengths.queues, is.given, lengths.given);
+        return p_start_direct(n->ports, n->frame, n->line, n->fine, is.clock, is.slots, lengths.slots,
+                              is.rates, lengths.rates, is.credits, lengths.credits, is.queues, lengths.queues,
+                              is.given, lengths.given);
     case START_PIPELINED:
-        return p_start_pipelined(n->ports, n->frame, n->line, is.clock, is.slots, lengths.slots,
+        return p_start_pipelined(n->ports, n->frame, n->line, n->fine, is.clock, is.slots, lengths.slots,
                                  is.rates, lengths.rates, is.credits, lengths.credits, is.queues, lengths.queues,
                                  is.given, lengths.given, is.copy, lengths.copy, is.flight, lengths.flight);
     case BOOK:
@@ -204,28 +209,28 @@ static uint32_t by_position(Function called, const Numbers *n) {
  * The same call with its arguments put in order by the header's own names, which no compiler looks at otherwise. The
  * header is included once more, with its types defined away, and its prototype
  *
- *   uint32_t kivdrag_book(const uint32_t clock[4], uint32_t *slots, .., uint64_t amount);
+ *   uint32_t kivdrag_book(const uint32_t clock[5], uint32_t *slots, .., uint64_t amount);
  *
- * then reads kivdrag_book(clock[4], *slots, .., amount); which is a call on variables of these names. Where two
+ * then reads kivdrag_book(clock[5], *slots, .., amount); which is a call on variables of these names. Where two
  * names have changed places in a prototype, the call is the wrong one. (Not in C++: extern "C" cannot stand in a
  * function.)
  */
 static uint32_t by_name(Function called, const Numbers *n) {
-    uint32_t refusal = UINT32_MAX;
+    uint32_t refusal = UINT32_MAX, fine = n->fine;
     uint64_t ports = n->ports, frame = n->frame, line = n->line, input = n->input, output = n->output;
     uint64_t amount = n->amount, rate = n->rate, packets = n->packets;
     size_t slots_length = lengths.slots, rates_length = lengths.rates, credits_length = lengths.credits;
     size_t queues_length = lengths.queues, given_length = lengths.given, copy_length = lengths.copy;
     size_t flight_length = lengths.flight;
-    /* what clock[4] and outputs[32] are, and what * is put before */
-    uint32_t *clock[4 + 1] = {0};
+    /* what clock[5] and outputs[32] are, and what * is put before */
+    uint32_t *clock[5 + 1] = {0};
     uint8_t *outputs[32 + 1] = {0};
     uint32_t *lent[] = {is.slots, is.rates, is.credits, is.queues, is.given, is.copy, is.flight, &is.first_pass};
     uint32_t **slots = &lent[0], **rates = &lent[1], **credits = &lent[2], **queues = &lent[3];
     uint32_t **given = &lent[4], **copy = &lent[5], **flight = &lent[6], **first_pass = &lent[7];
     int64_t *lent_headroom = &is.headroom, **headroom = &lent_headroom;
     uint64_t *lent_sums[] = {&is.row, &is.column}, **row = &lent_sums[0], **column = &lent_sums[1];
-    clock[4] = is.clock;
+    clock[5] = is.clock;
     outputs[32] = is.outputs;
 
 #undef KIVDRAG_H
@@ -309,6 +314,7 @@ static Call start(Function function, uint64_t ports, uint64_t frame, uint64_t li
     c.numbers.ports = ports;
     c.numbers.frame = frame;
     c.numbers.line = line;
+    c.numbers.fine = 0;
     return c;
 }
 
@@ -318,6 +324,12 @@ static Call start_direct(uint64_t ports, uint64_t frame, uint64_t line) {
 
 static Call start_pipelined(uint64_t ports, uint64_t frame, uint64_t line) {
     return start(START_PIPELINED, ports, frame, line);
+}
+
+/* A start with this number for the kind of its book; the others are with 0, and so with a plain one. */
+static Call with_kind(uint32_t fine, Call c) {
+    c.numbers.fine = fine;
+    return c;
 }
 
 static Call book(uint64_t input, uint64_t output, uint64_t amount) {
@@ -377,13 +389,19 @@ static int is_preview(Function called) {
     return PREVIEW_BOOK <= called && called <= PREVIEW_RELEASE_RATE;
 }
 
+/* Whether a preview shows sums beside this answer. */
+static int shows_sums(uint32_t answer) {
+    return answer == KIVDRAG_ACCEPTED || answer == KIVDRAG_REFUSED_INPUT || answer == KIVDRAG_REFUSED_OUTPUT
+           || answer == KIVDRAG_REFUSED_FINE;
+}
+
 /* Makes a call: its answer is as given, and every word is as it should be. A refused tick answers with zeros, a refused
-   headroom is 0, and so are the sums of a preview that is refused by another number than 8 and 9. */
+   headroom is 0, and so are the sums of a preview that is refused by another number than 8, 9 and 15. */
 static void check(int line, const char *call, uint32_t wanted, Call c) {
     if (is_preview(c.function)) {
         is.row = UNSET_ROW;
         is.column = UNSET_COLUMN;
-        if (wanted != KIVDRAG_ACCEPTED && wanted != KIVDRAG_REFUSED_INPUT && wanted != KIVDRAG_REFUSED_OUTPUT) {
+        if (!shows_sums(wanted)) {
             should.row = should.column = 0;
         }
     }
@@ -439,6 +457,7 @@ static void should_start(uint32_t ports, uint32_t frame, uint32_t line, int pipe
     should.clock[KIVDRAG_CLOCK_FRAME] = frame;
     should.clock[KIVDRAG_CLOCK_SLOT] = 0;
     should.clock[KIVDRAG_CLOCK_LINE] = line;
+    should.clock[KIVDRAG_CLOCK_FINE] = 0;
     memset(should.slots, 0, pairs);
     memset(should.rates, 0, pairs);
     memset(should.credits, 0, pairs);
@@ -605,15 +624,22 @@ static void starts(void) {
     CHECK(KIVDRAG_ACCEPTED, start_pipelined(3, 10000, TOP_LINE));
 }
 
-/* A switch of either form, on memory that somebody has used before. */
+static Call start_of_form(uint64_t ports, uint64_t frame, uint64_t line, int pipelined) {
+    return pipelined ? start_pipelined(ports, frame, line) : start_direct(ports, frame, line);
+}
+
+/* A switch of either form, on memory that somebody has used before: with a plain book, and with a fine one. */
 static void started(uint32_t ports, uint32_t frame, uint32_t line, int pipelined) {
     fresh(ports);
     should_start(ports, frame, line, pipelined);
-    if (pipelined) {
-        CHECK(KIVDRAG_ACCEPTED, start_pipelined(ports, frame, line));
-    } else {
-        CHECK(KIVDRAG_ACCEPTED, start_direct(ports, frame, line));
-    }
+    CHECK(KIVDRAG_ACCEPTED, start_of_form(ports, frame, line, pipelined));
+}
+
+static void started_fine(uint32_t ports, uint32_t frame, uint32_t line, int pipelined) {
+    fresh(ports);
+    should_start(ports, frame, line, pipelined);
+    should.clock[KIVDRAG_CLOCK_FINE] = 1;
+    CHECK(KIVDRAG_ACCEPTED, with_kind(1, start_of_form(ports, frame, line, pipelined)));
 }
 
 /* accepted bookings, releases and arrivals, and the word that each changes; and a headroom */
@@ -995,6 +1021,226 @@ static void previews(int pipelined) {
     SET(clock[KIVDRAG_CLOCK_FRAME], 2);
     CHECK_PREVIEW(KIVDRAG_ACCEPTED, 1, 1, book(3, 1, 1));
     CHECK_PREVIEW(KIVDRAG_ACCEPTED, 0, 1, release(1, 3, 2));
+}
+
+/* THE FINE BOOK */
+
+/* The kind of book in the clock: what a start sets, and what a refused one leaves. */
+static void kinds_of_book(int pipelined) {
+    static const uint32_t any[] = {0, 1, 2, 7, 256, 65536, 0x80000000u, UINT32_MAX};
+    for (size_t p = 0; p < sizeof any / sizeof any[0]; p++) {
+        fresh(2);
+        SET(clock[KIVDRAG_CLOCK_FINE], 7);
+        CHECK(KIVDRAG_REFUSED_PORTS, with_kind(any[p], start_of_form(0, 3, 0, pipelined)));
+        CHECK(KIVDRAG_REFUSED_FRAME, with_kind(any[p], start_of_form(2, 0, 0, pipelined)));
+        CHECK(KIVDRAG_REFUSED_PIPELINE, with_kind(any[p], start_pipelined(2, 1, 0)));
+        CHECK(KIVDRAG_REFUSED_RUNS, with_kind(any[p], start_of_form(3, 3, 0, pipelined)));
+        CHECK(KIVDRAG_REFUSED_AMOUNT, with_kind(any[p], start_of_form(2, 3, TOP_LINE + 1, pipelined)));
+        should_start(2, 3, 0, pipelined);
+        should.clock[KIVDRAG_CLOCK_FINE] = any[p] != 0;
+        CHECK(KIVDRAG_ACCEPTED, with_kind(any[p], start_of_form(2, 3, 0, pipelined)));
+        CHECK_PREVIEW(any[p] != 0 ? KIVDRAG_ACCEPTED : KIVDRAG_REFUSED_INPUT, 3, 3, book(1, 1, 3));
+    }
+}
+
+/* Any word but 0 is a fine book, and no call but a start changes it, refused or not: frames of 3 slots. */
+static void words_for_fine(int pipelined) {
+    static const uint32_t any[] = {1, 2, 7, 256, 65536, 0x80000000u, UINT32_MAX};
+    Call tick = pipelined ? tick_pipelined() : tick_direct();
+    for (size_t p = 0; p < sizeof any / sizeof any[0]; p++) {
+        started_fine(2, 3, 1000, pipelined);
+        SET(clock[KIVDRAG_CLOCK_FINE], any[p]);
+        CHECK_PREVIEW(KIVDRAG_ACCEPTED, 3, 3, book(1, 1, 3));
+        CHECK_PREVIEW(KIVDRAG_ACCEPTED, 3, 3, book_rate(1, 1, 1000));
+        check_book(1, 1, 2);
+        check_book_rate(1, 1, 333);
+        CHECK_PREVIEW(KIVDRAG_REFUSED_FINE, 4, 1, book(1, 2, 1));
+        CHECK_PREVIEW(KIVDRAG_REFUSED_FINE, 1, 4, book_rate(2, 1, 1));
+        CHECK_HEADROOM(0, 1, 1);
+        check_arrive(2, 2, 1);
+        CHECK(KIVDRAG_REFUSED_AMOUNT, arrive(2, 2, 0));
+        check_release(1, 1, 2);
+        check_release_rate(1, 1, 333);
+        SET(clock[KIVDRAG_CLOCK_SLOT], 4000000000u);
+        CHECK(KIVDRAG_REFUSED_CLOCK, tick);
+        SET(clock[KIVDRAG_CLOCK_SLOT], 1);
+        SET(queues[at(2, 2)], 0);
+        should_answer(2, 0, 0, 0, 0);
+        CHECK(KIVDRAG_ACCEPTED, tick);
+    }
+    SET(clock[KIVDRAG_CLOCK_FINE], 0);
+    CHECK_PREVIEW(KIVDRAG_REFUSED_INPUT, 3, 3, book(1, 1, 3));
+}
+
+/* A pair whose input and output have these sums can book this many slots, and not one more: by slots, and by rate,
+   where a slot carries 1,000. */
+static void check_most(int line, uint32_t most, uint32_t i, uint32_t j, uint64_t row, uint64_t column) {
+    if (most > 0) {
+        check_preview(line, "book", KIVDRAG_ACCEPTED, row + most, column + most, book(i, j, most));
+        check_preview(line, "book_rate", KIVDRAG_ACCEPTED, row + most, column + most, book_rate(i, j, 1000 * most));
+    }
+    row += most + 1;
+    column += most + 1;
+    check_preview(line, "book", KIVDRAG_REFUSED_FINE, row, column, book(i, j, most + 1));
+    check_preview(line, "book_rate", KIVDRAG_REFUSED_FINE, row, column, book_rate(i, j, 1000 * most + 1));
+}
+
+#define CHECK_MOST(most, i, j, row, column) check_most(__LINE__, (most), (i), (j), (row), (column))
+
+/* Frames of 7 slots, and lines of 7,000: a slot carries 1,000. */
+static void whole_lines(int pipelined) {
+    started(3, 7, 7000, pipelined);
+    CHECK_PREVIEW(KIVDRAG_REFUSED_INPUT, 7, 7, book(2, 3, 7));
+    CHECK_PREVIEW(KIVDRAG_REFUSED_INPUT, 7, 7, book_rate(2, 3, 7000));
+    started_fine(3, 7, 7000, pipelined);
+    CHECK_PREVIEW(KIVDRAG_ACCEPTED, 7, 7, book(2, 3, 7));
+    CHECK_PREVIEW(KIVDRAG_ACCEPTED, 7, 7, book_rate(2, 3, 7000));
+    check_book(2, 3, 7);
+    CHECK_MOST(0, 2, 3, 7, 7);
+    CHECK_MOST(0, 2, 1, 7, 0);
+    CHECK_MOST(0, 1, 3, 0, 7);
+    check_book(1, 1, 7);
+    CHECK_HEADROOM(0, 1, 1);
+    CHECK_HEADROOM(-7, 1, 3); /* row 7, column 7, a 0 */
+    check_book(3, 2, 7);
+    CHECK_MOST(0, 3, 1, 7, 7);
+
+    /* what is asked before, the last first */
+    CHECK_NO_SUMS(KIVDRAG_REFUSED_AMOUNT, book(2, 3, 8));
+    CHECK_NO_SUMS(KIVDRAG_REFUSED_AMOUNT, book(2, 3, 0));
+    CHECK_NO_SUMS(KIVDRAG_REFUSED_AMOUNT, book_rate(2, 3, 7001));
+    CHECK_NO_SUMS(KIVDRAG_REFUSED_PAIR, book(4, 3, 8));
+    CHECK_NO_SUMS(KIVDRAG_REFUSED_PAIR, book_rate(2, 0, 1));
+    CHECK_SHORT(slots, 9, book(2, 3, 1));
+    CHECK_SHORT(rates, 9, book(2, 3, 1));
+    CHECK_SHORT(slots, 9, book_rate(2, 3, 1));
+    CHECK_SHORT(rates, 9, book_rate(2, 3, 1));
+    CHECK_CLOCK(book(2, 3, 1));
+    CHECK_CLOCK(book_rate(2, 3, 1));
+
+    /* a release is not asked, even where the inequality does not hold */
+    CHECK_PREVIEW(KIVDRAG_ACCEPTED, 6, 6, release(2, 3, 1));
+    SET(slots[at(2, 2)], 9);
+    CHECK_PREVIEW(KIVDRAG_REFUSED_FINE, 17, 8, book(2, 3, 1));
+    CHECK_PREVIEW(KIVDRAG_ACCEPTED, 15, 6, release(2, 3, 1));
+    CHECK_NO_SUMS(KIVDRAG_REFUSED_RELEASE, release_rate(2, 3, 1));
+}
+
+/* Each pair that shares the input or the output is asked, the pair itself too, and no other: every pair (i, j), with
+   every other input x and every other output y. Frames of 7 slots, and lines of 7,000. */
+static void pairs_asked(uint32_t i, uint32_t j, uint32_t x, uint32_t y) {
+    /* the pair itself: 3 + 3 and its own; (i, y) and (x, j) have no more than 3 beside theirs */
+    SET(slots[at(i, y)], 3);
+    SET(slots[at(x, j)], 3);
+    CHECK_MOST(1, i, j, 3, 3);
+    SET(slots[at(x, j)], 0);
+    /* the pair (i, y), of the same input: row 3, column 6, a 3, and what (i, j) books */
+    SET(slots[at(x, y)], 3);
+    CHECK_MOST(1, i, j, 3, 0);
+    /* a booking by rate is one too, as long as the line rate is not 0 */
+    SET(slots[at(i, y)], 0);
+    SET(rates[at(i, y)], 2001);
+    CHECK_MOST(1, i, j, 3, 0);
+    SET(clock[KIVDRAG_CLOCK_LINE], 0);
+    CHECK_PREVIEW(KIVDRAG_ACCEPTED, 7, 7, book(i, j, 7));
+    SET(clock[KIVDRAG_CLOCK_LINE], 7000);
+    SET(rates[at(i, y)], 0);
+    /* without one (i, y) is not asked, whatever is in its column, nor (x, j), whatever is in its row; nor is (x, y) */
+    SET(slots[at(x, y)], UINT32_MAX);
+    CHECK_PREVIEW(KIVDRAG_ACCEPTED, 7, 7, book(i, j, 7));
+    CHECK_PREVIEW(KIVDRAG_ACCEPTED, 7, 7, book_rate(i, j, 7000));
+    /* the pair (x, j), of the same output: row 6, column 3, a 3, and what (i, j) books */
+    SET(slots[at(x, y)], 3);
+    SET(slots[at(x, j)], 3);
+    CHECK_MOST(1, i, j, 0, 3);
+    SET(slots[at(x, j)], 0);
+    SET(rates[at(x, j)], 2001);
+    CHECK_MOST(1, i, j, 0, 3);
+    SET(rates[at(x, j)], 0);
+    SET(slots[at(x, y)], 0);
+}
+
+static void sharing_pairs(int pipelined) {
+    started_fine(3, 7, 7000, pipelined);
+    for (uint32_t i = 1; i <= 3; i++) {
+        for (uint32_t j = 1; j <= 3; j++) {
+            for (uint32_t others = 0; others < 4; others++) {
+                pairs_asked(i, j, (i + others % 2) % 3 + 1, (j + others / 2) % 3 + 1);
+            }
+        }
+    }
+}
+
+/* A rate counts as the rise of its pair's booking; where that is 0, the inequality is asked too. */
+static void fine_rises(int pipelined) {
+    started_fine(3, 7, 7000, pipelined);
+    check_book_rate(1, 1, 6001); /* 7 slots */
+    CHECK_PREVIEW(KIVDRAG_ACCEPTED, 7, 7, book_rate(1, 1, 999));
+    CHECK_PREVIEW(KIVDRAG_REFUSED_FINE, 8, 8, book_rate(1, 1, 1000));
+    /* words such as no calls leave: of the pair itself the inequality does not hold any more */
+    SET(slots[at(1, 2)], 1);
+    CHECK_PREVIEW(KIVDRAG_REFUSED_FINE, 8, 7, book_rate(1, 1, 1));
+    SET(slots[at(1, 2)], 0);
+    SET(slots[at(2, 1)], 1);
+    CHECK_PREVIEW(KIVDRAG_REFUSED_FINE, 7, 8, book_rate(1, 1, 1));
+    /* of (1, 2), then of (2, 1), and then of pairs that are not asked */
+    SET(rates[at(1, 1)], 500); /* 1 slot */
+    SET(slots[at(2, 1)], 0);
+    SET(slots[at(1, 2)], 3);
+    SET(slots[at(2, 2)], 4);
+    CHECK_PREVIEW(KIVDRAG_REFUSED_FINE, 4, 1, book_rate(1, 1, 500));
+    SET(slots[at(1, 2)], 0);
+    SET(slots[at(2, 1)], 3);
+    CHECK_PREVIEW(KIVDRAG_REFUSED_FINE, 1, 4, book_rate(1, 1, 500));
+    SET(slots[at(2, 1)], 0);
+    SET(slots[at(2, 2)], 8);
+    CHECK_PREVIEW(KIVDRAG_ACCEPTED, 1, 1, book_rate(1, 1, 500));
+}
+
+/* A fine book of 32 ports and frames of 10,000 slots, and words such as no calls leave: no sum wraps. */
+static void most_fine(void) {
+    const uint64_t top = UINT32_MAX;
+    started_fine(32, 10000, TOP_LINE, 0);
+    CHECK_PREVIEW(KIVDRAG_ACCEPTED, 10000, 10000, book_rate(32, 32, TOP_LINE));
+    check_book(32, 32, 10000);
+    CHECK_PREVIEW(KIVDRAG_REFUSED_FINE, 10001, 1, book(32, 1, 1));
+    CHECK_PREVIEW(KIVDRAG_REFUSED_FINE, 1, 10001, book_rate(1, 32, 1));
+    CHECK_PREVIEW(KIVDRAG_ACCEPTED, 10000, 10000, book(31, 31, 10000));
+    check_release(32, 32, 10000);
+
+    /* a row, then a column, of 2 to the 32nd */
+    SET(slots[at(1, 1)], 0x80000000u);
+    SET(slots[at(1, 2)], 0x80000000u);
+    CHECK_PREVIEW(KIVDRAG_REFUSED_FINE, top + 2, 1, book(1, 3, 1));
+    SET(slots[at(1, 2)], 0);
+    SET(slots[at(2, 1)], 0x80000000u);
+    CHECK_PREVIEW(KIVDRAG_REFUSED_FINE, 1, top + 2, book_rate(3, 1, 1));
+
+    for (size_t p = 0; p < KIVDRAG_PAIR_WORDS(32); p++) {
+        SET(slots[p], UINT32_MAX);
+        SET(rates[p], UINT32_MAX);
+    }
+    CHECK_PREVIEW(KIVDRAG_REFUSED_FINE, 32 * top + 10000, 32 * top + 10000, book(17, 5, 10000));
+    CHECK_PREVIEW(KIVDRAG_REFUSED_FINE, 32 * top, 32 * top, book_rate(17, 5, 1));
+    CHECK_PREVIEW(KIVDRAG_ACCEPTED, 32 * top, 32 * top, release(17, 5, 10000)); /* the rate makes up for it */
+}
+
+/* A pair that has booked all slots of its frames is served in each, by pass one: frames of 3 slots. */
+static void ticks_of_whole_line(void) {
+    started_fine(2, 3, 0, 0);
+    check_book(1, 1, 3);
+    check_book(2, 2, 2);
+    check_arrive(1, 1, 9);
+    check_arrive(2, 2, 9);
+    for (uint32_t slot = 1; slot <= 6; slot++) {
+        uint32_t left = (6 - slot) % 3;
+        should.credits[at(1, 1)] = left;
+        should.credits[at(2, 2)] = left > 0 ? left - 1 : 0;
+        should.queues[at(1, 1)]--;
+        should.queues[at(2, 2)]--;
+        should_give(slot, 1, 2, 0, left > 0 ? 3 : 1);
+        CHECK(KIVDRAG_ACCEPTED, tick_direct());
+    }
 }
 
 static void arrivals(int pipelined) {
@@ -1421,7 +1667,8 @@ static void most_previewed(void) {
  * be written, so that a store ends the program. Two ports, frames of 3 slots, of which a line can sell 2, and lines of
  * 1,000; (1, 2) and (2, 1) hold a slot by either run.
  */
-static const uint32_t const_clock[KIVDRAG_CLOCK_WORDS] = {2, 3, 0, 1000};
+static const uint32_t const_clock[KIVDRAG_CLOCK_WORDS] = {2, 3, 0, 1000, 0};
+static const uint32_t const_fine[KIVDRAG_CLOCK_WORDS] = {2, 3, 0, 1000, 7};
 static const uint32_t const_slots[4] = {0, 1, 1, 0}, const_rates[4] = {0, 333, 333, 0}, zeros[4] = {0, 0, 0, 0};
 
 static void expect(int line, const char *call, uint32_t wanted, uint32_t refusal) {
@@ -1433,38 +1680,39 @@ static void expect(int line, const char *call, uint32_t wanted, uint32_t refusal
 
 #define EXPECT(wanted, call) expect(__LINE__, #call, (wanted), (call))
 
-static void calls_on_const(void) {
+/* on a clock with either book, which refuses what it has no room for with this number */
+static void calls_on_const(const uint32_t *clock, uint32_t no_room) {
     uint32_t slots[4] = {0, 0, 0, 0}, rates[4] = {0, 0, 0, 0}, queues[4] = {0, 0, 0, 0};
-    EXPECT(KIVDRAG_ACCEPTED, p_book(const_clock, slots, 4, const_rates, 4, 1, 1, 1));
-    EXPECT(KIVDRAG_REFUSED_INPUT, p_book(const_clock, slots, 4, const_rates, 4, 1, 1, 1));
-    EXPECT(KIVDRAG_ACCEPTED, p_release(const_clock, slots, 4, const_rates, 4, 1, 1, 1));
-    EXPECT(KIVDRAG_REFUSED_RELEASE, p_release(const_clock, slots, 4, const_rates, 4, 1, 2, 1));
-    EXPECT(KIVDRAG_ACCEPTED, p_book_rate(const_clock, const_slots, 4, rates, 4, 1, 1, 333));
-    EXPECT(KIVDRAG_REFUSED_INPUT, p_book_rate(const_clock, const_slots, 4, rates, 4, 1, 1, 1));
-    EXPECT(KIVDRAG_ACCEPTED, p_release_rate(const_clock, const_slots, 4, rates, 4, 1, 1, 333));
-    EXPECT(KIVDRAG_REFUSED_RELEASE, p_release_rate(const_clock, const_slots, 4, rates, 4, 1, 2, 1));
+    EXPECT(KIVDRAG_ACCEPTED, p_book(clock, slots, 4, const_rates, 4, 1, 1, 1));
+    EXPECT(no_room, p_book(clock, slots, 4, const_rates, 4, 1, 1, 1));
+    EXPECT(KIVDRAG_ACCEPTED, p_release(clock, slots, 4, const_rates, 4, 1, 1, 1));
+    EXPECT(KIVDRAG_REFUSED_RELEASE, p_release(clock, slots, 4, const_rates, 4, 1, 2, 1));
+    EXPECT(KIVDRAG_ACCEPTED, p_book_rate(clock, const_slots, 4, rates, 4, 1, 1, 333));
+    EXPECT(no_room, p_book_rate(clock, const_slots, 4, rates, 4, 1, 1, 1));
+    EXPECT(KIVDRAG_ACCEPTED, p_release_rate(clock, const_slots, 4, rates, 4, 1, 1, 333));
+    EXPECT(KIVDRAG_REFUSED_RELEASE, p_release_rate(clock, const_slots, 4, rates, 4, 1, 2, 1));
     int64_t headroom = UNSET;
-    EXPECT(KIVDRAG_ACCEPTED, p_headroom(const_clock, const_slots, 4, const_rates, 4, 1, 1, &headroom));
-    EXPECT(KIVDRAG_REFUSED_PAIR, p_headroom(const_clock, const_slots, 4, const_rates, 4, 0, 1, &headroom));
+    EXPECT(KIVDRAG_ACCEPTED, p_headroom(clock, const_slots, 4, const_rates, 4, 1, 1, &headroom));
+    EXPECT(KIVDRAG_REFUSED_PAIR, p_headroom(clock, const_slots, 4, const_rates, 4, 0, 1, &headroom));
     uint64_t row, column;
-    EXPECT(KIVDRAG_ACCEPTED, p_preview_book(const_clock, const_slots, 4, zeros, 4, 1, 1, 1, &row, &column));
-    EXPECT(KIVDRAG_REFUSED_INPUT, p_preview_book(const_clock, const_slots, 4, const_rates, 4, 1, 1, 1, &row, &column));
-    EXPECT(KIVDRAG_ACCEPTED, p_preview_book_rate(const_clock, const_slots, 4, zeros, 4, 1, 1, 333, &row, &column));
-    EXPECT(KIVDRAG_REFUSED_INPUT,
-           p_preview_book_rate(const_clock, const_slots, 4, const_rates, 4, 1, 1, 1, &row, &column));
-    EXPECT(KIVDRAG_ACCEPTED, p_preview_release(const_clock, const_slots, 4, const_rates, 4, 1, 2, 1, &row, &column));
+    EXPECT(KIVDRAG_ACCEPTED, p_preview_book(clock, const_slots, 4, zeros, 4, 1, 1, 1, &row, &column));
+    EXPECT(no_room, p_preview_book(clock, const_slots, 4, const_rates, 4, 1, 1, 1, &row, &column));
+    EXPECT(KIVDRAG_ACCEPTED, p_preview_book_rate(clock, const_slots, 4, zeros, 4, 1, 1, 333, &row, &column));
+    EXPECT(no_room,
+           p_preview_book_rate(clock, const_slots, 4, const_rates, 4, 1, 1, 1, &row, &column));
+    EXPECT(KIVDRAG_ACCEPTED, p_preview_release(clock, const_slots, 4, const_rates, 4, 1, 2, 1, &row, &column));
     EXPECT(KIVDRAG_REFUSED_RELEASE,
-           p_preview_release(const_clock, const_slots, 4, const_rates, 4, 1, 1, 1, &row, &column));
+           p_preview_release(clock, const_slots, 4, const_rates, 4, 1, 1, 1, &row, &column));
     EXPECT(KIVDRAG_ACCEPTED,
-           p_preview_release_rate(const_clock, const_slots, 4, const_rates, 4, 1, 2, 333, &row, &column));
+           p_preview_release_rate(clock, const_slots, 4, const_rates, 4, 1, 2, 333, &row, &column));
     EXPECT(KIVDRAG_REFUSED_RELEASE,
-           p_preview_release_rate(const_clock, const_slots, 4, zeros, 4, 1, 2, 1, &row, &column));
-    EXPECT(KIVDRAG_ACCEPTED, p_arrive(const_clock, queues, 4, 1, 1, 1));
-    EXPECT(KIVDRAG_REFUSED_AMOUNT, p_arrive(const_clock, queues, 4, 1, 1, 0));
+           p_preview_release_rate(clock, const_slots, 4, zeros, 4, 1, 2, 1, &row, &column));
+    EXPECT(KIVDRAG_ACCEPTED, p_arrive(clock, queues, 4, 1, 1, 1));
+    EXPECT(KIVDRAG_REFUSED_AMOUNT, p_arrive(clock, queues, 4, 1, 1, 0));
 }
 
 static uint32_t tick_on_const(int pipelined, uint32_t slot) {
-    uint32_t clock[KIVDRAG_CLOCK_WORDS] = {2, 3, slot, 1000};
+    uint32_t clock[KIVDRAG_CLOCK_WORDS] = {2, 3, slot, 1000, 0};
     uint32_t credits[4] = {0, 0, 0, 0}, queues[4] = {0, 0, 0, 0}, given[2] = {0, 0}, copy[4] = {0, 0, 0, 0};
     uint32_t flight[8] = {0, 0, 0, 0, 0, 0, 0, 0}, first_pass;
     uint8_t outputs[32];
@@ -1494,6 +1742,11 @@ static void all(void) {
         line_rates(pipelined);
         headrooms(pipelined);
         previews(pipelined);
+        kinds_of_book(pipelined);
+        words_for_fine(pipelined);
+        whole_lines(pipelined);
+        sharing_pairs(pipelined);
+        fine_rises(pipelined);
         arrivals(pipelined);
     }
     direct_ticks();
@@ -1505,6 +1758,8 @@ static void all(void) {
     most_ports();
     most_headroom();
     most_previewed();
+    most_fine();
+    ticks_of_whole_line();
     for (int f = 0; f < FUNCTIONS; f++) {
         if (met[f] != listed[f].answers) {
             differs(__LINE__, listed[f].name, "the set of answers met, as bits,", SIZE_MAX, met[f], listed[f].answers);
@@ -1519,8 +1774,9 @@ int main(void) {
     made = "by name";
     all();
 #endif
-    calls_on_const();
+    calls_on_const(const_clock, KIVDRAG_REFUSED_INPUT);
+    calls_on_const(const_fine, KIVDRAG_REFUSED_FINE);
     ticks_on_const();
-    printf("kivdrag.h: %d functions, refusals 1 to 11, %lu calls: all as it says\n", (int)FUNCTIONS, calls);
+    printf("kivdrag.h: %d functions, refusals 1 to 11 and 15, %lu calls: all as it says\n", (int)FUNCTIONS, calls);
     return 0;
 }

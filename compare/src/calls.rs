@@ -9,11 +9,11 @@ use second::{Answer, Form, Run, Switch, Words};
 pub mod exported {
     extern "C" {
         pub fn kivdrag_start_direct(
-            ports: u64, frame: u64, line: u64, clock: *mut u32, slots: *mut u32, slots_len: usize, rates: *mut u32, rates_len: usize,
+            ports: u64, frame: u64, line: u64, fine: u32, clock: *mut u32, slots: *mut u32, slots_len: usize, rates: *mut u32, rates_len: usize,
             credits: *mut u32, credits_len: usize, queues: *mut u32, queues_len: usize, given: *mut u32, given_len: usize,
         ) -> u32;
         pub fn kivdrag_start_pipelined(
-            ports: u64, frame: u64, line: u64, clock: *mut u32, slots: *mut u32, slots_len: usize, rates: *mut u32, rates_len: usize,
+            ports: u64, frame: u64, line: u64, fine: u32, clock: *mut u32, slots: *mut u32, slots_len: usize, rates: *mut u32, rates_len: usize,
             credits: *mut u32, credits_len: usize, queues: *mut u32, queues_len: usize, given: *mut u32, given_len: usize,
             copy: *mut u32, copy_len: usize, flight: *mut u32, flight_len: usize,
         ) -> u32;
@@ -65,7 +65,23 @@ pub mod exported {
 use exported::*;
 
 /// The numbers that a caller brings, in the call's order; 0 for those that it has not.
-pub type Arguments = [u64; 3];
+pub type Arguments = [u64; 4];
+
+/// A switch as the library has it: the clock's word for the kind of book stands beside the second program's clock, which has only whether the book
+/// is fine.
+#[derive(Clone, Debug, PartialEq, Eq)]
+pub struct Lent {
+    pub switch: Switch,
+    pub fine: u32,
+}
+
+impl Lent {
+    /// The switch with this word for the kind of its book: 0 for a plain one, any other for a fine one.
+    pub fn new(mut switch: Switch, fine: u32) -> Lent {
+        switch.clock.fine = fine != 0;
+        Lent { switch, fine }
+    }
+}
 
 /// What a call gives back: the refusal, a tick's pairs and passes, a headroom, and the sums of row and column that a preview shows; 0 for what
 /// it has not.
@@ -102,7 +118,7 @@ pub struct Call {
     pub any: fn(&mut Random, &Switch) -> Arguments,
     /// its arguments in a list, in which much arrives (films) or little
     pub listed: fn(&mut Random, &Switch, bool) -> Arguments,
-    pub by_library: fn(&mut Switch, Form, Arguments) -> Reply,
+    pub by_library: fn(&mut Lent, Form, Arguments) -> Reply,
     pub by_second: fn(&mut Switch, Form, Arguments) -> Reply,
     /// what it makes of the ledgers, one for each accepted start
     pub noted: fn(&mut Vec<Ledger>, Form, Answer, Arguments),
@@ -128,17 +144,17 @@ pub static CALLS: [Call; 14] = [
         any: any_start,
         listed: |r, _, _| {
             let n = r.of(&[1, 2, 3, 4, 6, MOST_LISTED]);
-            [n, r.within(1, n + 9), line_rate(r)]
+            [n, r.within(1, n + 9), line_rate(r), any_kind(r)]
         },
-        by_library: |s, _, [n, f, line]| {
+        by_library: |s, _, [n, f, line, fine]| {
             lent(s, |clock, w| unsafe {
                 kivdrag_start_direct(
-                    n, f, line, clock, w.slots.as_mut_ptr(), w.slots.len(), w.rates.as_mut_ptr(), w.rates.len(), w.credits.as_mut_ptr(),
-                    w.credits.len(), w.queues.as_mut_ptr(), w.queues.len(), w.given.as_mut_ptr(), w.given.len(),
+                    n, f, line, fine as u32, clock, w.slots.as_mut_ptr(), w.slots.len(), w.rates.as_mut_ptr(), w.rates.len(),
+                    w.credits.as_mut_ptr(), w.credits.len(), w.queues.as_mut_ptr(), w.queues.len(), w.given.as_mut_ptr(), w.given.len(),
                 )
             })
         },
-        by_second: |s, _, [n, f, line]| number(s.start_direct(n, f, line, false, false)),
+        by_second: |s, _, [n, f, line, fine]| number(s.start_direct(n, f, line, fine != 0, false)),
         noted: begin,
     },
     Call {
@@ -149,45 +165,45 @@ pub static CALLS: [Call; 14] = [
         any: any_start,
         listed: |r, _, _| {
             let n = r.of(&[1, 2, 3, 4, 6, MOST_LISTED]);
-            [n, r.within(n, n + 9), line_rate(r)]
+            [n, r.within(n, n + 9), line_rate(r), any_kind(r)]
         },
-        by_library: |s, _, [n, f, line]| {
+        by_library: |s, _, [n, f, line, fine]| {
             lent(s, |clock, w| unsafe {
                 kivdrag_start_pipelined(
-                    n, f, line, clock, w.slots.as_mut_ptr(), w.slots.len(), w.rates.as_mut_ptr(), w.rates.len(), w.credits.as_mut_ptr(),
-                    w.credits.len(), w.queues.as_mut_ptr(), w.queues.len(), w.given.as_mut_ptr(), w.given.len(), w.copy.as_mut_ptr(),
-                    w.copy.len(), w.flight.as_mut_ptr(), w.flight.len(),
+                    n, f, line, fine as u32, clock, w.slots.as_mut_ptr(), w.slots.len(), w.rates.as_mut_ptr(), w.rates.len(),
+                    w.credits.as_mut_ptr(), w.credits.len(), w.queues.as_mut_ptr(), w.queues.len(), w.given.as_mut_ptr(), w.given.len(),
+                    w.copy.as_mut_ptr(), w.copy.len(), w.flight.as_mut_ptr(), w.flight.len(),
                 )
             })
         },
-        by_second: |s, _, [n, f, line]| number(s.start_pipelined(n, f, line, false)),
+        by_second: |s, _, [n, f, line, fine]| number(s.start_pipelined(n, f, line, fine != 0)),
         noted: begin,
     },
     Call {
         name: "book",
         form: None,
-        questions: &[1, 2, 4, 5, 6, 8, 9],
+        questions: &[1, 2, 4, 5, 6, 8, 9, 15],
         weights: [6, 20],
         any: any_slots_to_book,
         listed: slots_to_book,
-        by_library: |s, _, [i, j, d]| {
+        by_library: |s, _, [i, j, d, _]| {
             lent(s, |clock, w| unsafe { kivdrag_book(clock, w.slots.as_mut_ptr(), w.slots.len(), w.rates.as_ptr(), w.rates.len(), i, j, d) })
         },
-        by_second: |s, form, [i, j, d]| number(s.book(form, i, j, d)),
-        noted: |l, _, a, [i, j, d]| latest(l).book(a.refusal, i, j, d),
+        by_second: |s, form, [i, j, d, _]| number(s.book(form, i, j, d)),
+        noted: |l, _, a, [i, j, d, _]| latest(l).book(a.refusal, i, j, d),
     },
     Call {
         name: "book_rate",
         form: None,
-        questions: &[1, 2, 4, 5, 6, 8, 9],
+        questions: &[1, 2, 4, 5, 6, 8, 9, 15],
         weights: [8, 60],
         any: any_rate_to_book,
         listed: rate_to_book,
-        by_library: |s, _, [i, j, rate]| {
+        by_library: |s, _, [i, j, rate, _]| {
             lent(s, |clock, w| unsafe { kivdrag_book_rate(clock, w.slots.as_ptr(), w.slots.len(), w.rates.as_mut_ptr(), w.rates.len(), i, j, rate) })
         },
-        by_second: |s, form, [i, j, rate]| number(s.book_rate(form, i, j, 0, rate)),
-        noted: |l, _, a, [i, j, rate]| latest(l).book_rate(a.refusal, i, j, 0, rate),
+        by_second: |s, form, [i, j, rate, _]| number(s.book_rate(form, i, j, 0, rate)),
+        noted: |l, _, a, [i, j, rate, _]| latest(l).book_rate(a.refusal, i, j, 0, rate),
     },
     Call {
         name: "release",
@@ -196,11 +212,11 @@ pub static CALLS: [Call; 14] = [
         weights: [4, 20],
         any: any_slots_to_release,
         listed: slots_to_release,
-        by_library: |s, _, [i, j, d]| {
+        by_library: |s, _, [i, j, d, _]| {
             lent(s, |clock, w| unsafe { kivdrag_release(clock, w.slots.as_mut_ptr(), w.slots.len(), w.rates.as_ptr(), w.rates.len(), i, j, d) })
         },
-        by_second: |s, _, [i, j, d]| number(s.release(i, j, d)),
-        noted: |l, _, a, [i, j, d]| latest(l).release(a.refusal, i, j, d),
+        by_second: |s, _, [i, j, d, _]| number(s.release(i, j, d)),
+        noted: |l, _, a, [i, j, d, _]| latest(l).release(a.refusal, i, j, d),
     },
     Call {
         name: "release_rate",
@@ -209,13 +225,13 @@ pub static CALLS: [Call; 14] = [
         weights: [6, 30],
         any: any_rate_to_release,
         listed: rate_to_release,
-        by_library: |s, _, [i, j, rate]| {
+        by_library: |s, _, [i, j, rate, _]| {
             lent(s, |clock, w| unsafe {
                 kivdrag_release_rate(clock, w.slots.as_ptr(), w.slots.len(), w.rates.as_mut_ptr(), w.rates.len(), i, j, rate)
             })
         },
-        by_second: |s, _, [i, j, rate]| number(s.release_rate(i, j, rate)),
-        noted: |l, _, a, [i, j, rate]| latest(l).release_rate(a.refusal, i, j, rate),
+        by_second: |s, _, [i, j, rate, _]| number(s.release_rate(i, j, rate)),
+        noted: |l, _, a, [i, j, rate, _]| latest(l).release_rate(a.refusal, i, j, rate),
     },
     Call {
         name: "headroom",
@@ -225,23 +241,23 @@ pub static CALLS: [Call; 14] = [
         any: |r, s| {
             let run = r.of(&[Run::Slots, Run::Rates]);
             let (i, j) = any_pair(r, s, s.words.run(run));
-            [i, j, 0]
+            [i, j, 0, 0]
         },
         // a pair that holds something, or the input of one with the output of another; seldom one that the switch has not
         listed: |r, s, _| {
             let (i, own) = pair(r, s, &s.words.slots);
             let (_, other) = pair(r, s, &s.words.rates);
             let (j, far) = (r.of(&[own, other]), r.of(&[0, s.n() + 1]));
-            if r.one_in(20) { r.of(&[[i, far, 0], [far, j, 0]]) } else { [i, j, 0] }
+            if r.one_in(20) { r.of(&[[i, far, 0, 0], [far, j, 0, 0]]) } else { [i, j, 0, 0] }
         },
-        by_library: |s, _, [i, j, _]| {
+        by_library: |s, _, [i, j, ..]| {
             let mut headroom = 0xA5A5_A5A5_A5A5_A5A5_u64 as i64;
             let reply = lent(s, |clock, w| unsafe {
                 kivdrag_headroom(clock, w.slots.as_ptr(), w.slots.len(), w.rates.as_ptr(), w.rates.len(), i, j, &mut headroom)
             });
             Reply { headroom, ..reply }
         },
-        by_second: |s, _, [i, j, _]| {
+        by_second: |s, _, [i, j, ..]| {
             let (refusal, headroom) = s.headroom(i, j);
             Reply { headroom, ..number(refusal) }
         },
@@ -250,23 +266,23 @@ pub static CALLS: [Call; 14] = [
     Call {
         name: "preview_book",
         form: None,
-        questions: &[1, 2, 4, 5, 6, 8, 9],
+        questions: &[1, 2, 4, 5, 6, 8, 9, 15],
         weights: [6, 20],
         any: any_slots_to_book,
         listed: slots_to_book,
         by_library: |s, _, arguments| lent_with_sums(s, kivdrag_preview_book, arguments),
-        by_second: |s, form, [i, j, d]| shown(s.preview_book(form, i, j, d)),
+        by_second: |s, form, [i, j, d, _]| shown(s.preview_book(form, i, j, d)),
         noted: |_, _, _, _| (),
     },
     Call {
         name: "preview_book_rate",
         form: None,
-        questions: &[1, 2, 4, 5, 6, 8, 9],
+        questions: &[1, 2, 4, 5, 6, 8, 9, 15],
         weights: [6, 30],
         any: any_rate_to_book,
         listed: rate_to_book,
         by_library: |s, _, arguments| lent_with_sums(s, kivdrag_preview_book_rate, arguments),
-        by_second: |s, form, [i, j, rate]| shown(s.preview_book_rate(form, i, j, 0, rate)),
+        by_second: |s, form, [i, j, rate, _]| shown(s.preview_book_rate(form, i, j, 0, rate)),
         noted: |_, _, _, _| (),
     },
     Call {
@@ -277,7 +293,7 @@ pub static CALLS: [Call; 14] = [
         any: any_slots_to_release,
         listed: slots_to_release,
         by_library: |s, _, arguments| lent_with_sums(s, kivdrag_preview_release, arguments),
-        by_second: |s, _, [i, j, d]| shown(s.preview_release(i, j, d)),
+        by_second: |s, _, [i, j, d, _]| shown(s.preview_release(i, j, d)),
         noted: |_, _, _, _| (),
     },
     Call {
@@ -288,7 +304,7 @@ pub static CALLS: [Call; 14] = [
         any: any_rate_to_release,
         listed: rate_to_release,
         by_library: |s, _, arguments| lent_with_sums(s, kivdrag_preview_release_rate, arguments),
-        by_second: |s, _, [i, j, rate]| shown(s.preview_release_rate(i, j, rate)),
+        by_second: |s, _, [i, j, rate, _]| shown(s.preview_release_rate(i, j, rate)),
         noted: |_, _, _, _| (),
     },
     Call {
@@ -299,20 +315,20 @@ pub static CALLS: [Call; 14] = [
         any: |r, s| {
             let (n, _) = sizes(s);
             let d = if r.one_in(4) { r.around(65_535) } else { r.within(1, 5) };
-            [any_port(r, n), any_port(r, n), d]
+            [any_port(r, n), any_port(r, n), d, 0]
         },
-        listed: |r, s, films| [port(r, s), port(r, s), if films { r.within(20, 90) } else { r.within(1, 3) }],
-        by_library: |s, _, [i, j, d]| lent(s, |clock, w| unsafe { kivdrag_arrive(clock, w.queues.as_mut_ptr(), w.queues.len(), i, j, d) }),
-        by_second: |s, _, [i, j, d]| number(s.arrive(i, j, d)),
-        noted: |l, _, a, [i, j, d]| latest(l).arrive(a.refusal, i, j, d),
+        listed: |r, s, films| [port(r, s), port(r, s), if films { r.within(20, 90) } else { r.within(1, 3) }, 0],
+        by_library: |s, _, [i, j, d, _]| lent(s, |clock, w| unsafe { kivdrag_arrive(clock, w.queues.as_mut_ptr(), w.queues.len(), i, j, d) }),
+        by_second: |s, _, [i, j, d, _]| number(s.arrive(i, j, d)),
+        noted: |l, _, a, [i, j, d, _]| latest(l).arrive(a.refusal, i, j, d),
     },
     Call {
         name: "tick_direct",
         form: Some(Form::Direct),
         questions: &[1, 2, 4, 7],
         weights: [16, 150],
-        any: |_, _| [0; 3],
-        listed: |_, _, _| [0; 3],
+        any: |_, _| [0; 4],
+        listed: |_, _, _| [0; 4],
         by_library: |s, _, _| {
             lent_with_answer(s, |clock, w, outputs, first| unsafe {
                 kivdrag_tick_direct(
@@ -329,8 +345,8 @@ pub static CALLS: [Call; 14] = [
         form: Some(Form::Pipelined),
         questions: &[1, 2, 3, 4, 7],
         weights: [16, 150],
-        any: |_, _| [0; 3],
-        listed: |_, _, _| [0; 3],
+        any: |_, _| [0; 4],
+        listed: |_, _, _| [0; 4],
         by_library: |s, _, _| {
             lent_with_answer(s, |clock, w, outputs, first| unsafe {
                 kivdrag_tick_pipelined(
@@ -356,15 +372,17 @@ fn shown(Preview { refusal, row, column }: Preview) -> Reply {
 }
 
 /// A call of the library on a switch: its clock is lent as words and read back, even where the library is not to write it.
-fn lent(s: &mut Switch, call: impl FnOnce(*mut u32, &mut Words) -> u32) -> Reply {
-    let mut clock = [s.clock.ports, s.clock.frame, s.clock.last, s.clock.line];
-    let refusal = call(clock.as_mut_ptr(), &mut s.words);
-    [s.clock.ports, s.clock.frame, s.clock.last, s.clock.line] = clock;
+fn lent(s: &mut Lent, call: impl FnOnce(*mut u32, &mut Words) -> u32) -> Reply {
+    let clock = &mut s.switch.clock;
+    let mut words = [clock.ports, clock.frame, clock.last, clock.line, s.fine];
+    let refusal = call(words.as_mut_ptr(), &mut s.switch.words);
+    [clock.ports, clock.frame, clock.last, clock.line, s.fine] = words;
+    clock.fine = s.fine != 0;
     number(refusal)
 }
 
 /// The same where a matching and a pass word are answered; what they held before must not matter.
-fn lent_with_answer(s: &mut Switch, call: impl FnOnce(*mut u32, &mut Words, *mut u8, *mut u32) -> u32) -> Reply {
+fn lent_with_answer(s: &mut Lent, call: impl FnOnce(*mut u32, &mut Words, *mut u8, *mut u32) -> u32) -> Reply {
     let (mut outputs, mut first) = ([0xA5; 32], 0xA5A5_A5A5);
     let refusal = lent(s, |clock, w| call(clock, w, outputs.as_mut_ptr(), &mut first)).refusal();
     Reply::of(Answer { refusal, outputs, first })
@@ -374,7 +392,7 @@ fn lent_with_answer(s: &mut Switch, call: impl FnOnce(*mut u32, &mut Words, *mut
 type LentPreview = unsafe extern "C" fn(*const u32, *const u32, usize, *const u32, usize, u64, u64, u64, *mut u64, *mut u64) -> u32;
 
 /// The same where two sums are answered; what they held before must not matter.
-fn lent_with_sums(s: &mut Switch, preview: LentPreview, [i, j, amount]: Arguments) -> Reply {
+fn lent_with_sums(s: &mut Lent, preview: LentPreview, [i, j, amount, _]: Arguments) -> Reply {
     let [mut row, mut column] = [0xA5A5_A5A5_A5A5_A5A5, 0xC3C3_C3C3_C3C3_C3C3];
     let reply = lent(s, |clock, w| unsafe {
         preview(clock, w.slots.as_ptr(), w.slots.len(), w.rates.as_ptr(), w.rates.len(), i, j, amount, &mut row, &mut column)
@@ -383,7 +401,7 @@ fn lent_with_sums(s: &mut Switch, preview: LentPreview, [i, j, amount]: Argument
 }
 
 /// An accepted start begins a ledger.
-fn begin(ledgers: &mut Vec<Ledger>, form: Form, answer: Answer, [n, f, line]: Arguments) {
+fn begin(ledgers: &mut Vec<Ledger>, form: Form, answer: Answer, [n, f, line, _]: Arguments) {
     if answer.refusal == 0 {
         ledgers.push(Ledger::start(rules(), form, n, f, line));
     }
@@ -402,7 +420,17 @@ fn any_start(r: &mut Random, _: &Switch) -> Arguments {
     let n = if r.one_in(3) { r.around(32) } else { r.within(1, 8) };
     let f = if r.one_in(3) { r.around(10_000) } else { r.within(1, 40) };
     let line = if r.one_in(3) { r.around(100_000_000) } else { line_rate(r) };
-    [n, f, line]
+    [n, f, line, any_kind(r)]
+}
+
+/// A number for the kind of book: 0, 1, or any other.
+pub fn any_kind(r: &mut Random) -> u64 {
+    match r.within(0, 5) {
+        0..=2 => 0,
+        3 => 1,
+        4 => r.of(&[2, 7, 1 << 8, 1 << 16, 1 << 31, u32::MAX as u64]),
+        _ => r.within(2, u32::MAX as u64),
+    }
 }
 
 /// A line rate that a start accepts; 0 seldom.
@@ -451,42 +479,42 @@ fn pair(r: &mut Random, s: &Switch, run: &[u32]) -> (u64, u64) {
 fn any_slots_to_book(r: &mut Random, s: &Switch) -> Arguments {
     let (n, f) = sizes(s);
     let d = if r.one_in(3) { r.around(f) } else { r.within(1, f / n / 2 + 1) };
-    [any_port(r, n), any_port(r, n), d]
+    [any_port(r, n), any_port(r, n), d, 0]
 }
 
 fn slots_to_book(r: &mut Random, s: &Switch, _: bool) -> Arguments {
-    [port(r, s), port(r, s), few_slots(r, s)]
+    [port(r, s), port(r, s), few_slots(r, s), 0]
 }
 
 fn any_rate_to_book(r: &mut Random, s: &Switch) -> Arguments {
     let (i, j) = any_pair(r, s, &s.words.rates);
-    [i, j, if r.one_in(4) { r.around(line(s)) } else { some_rate(r, s, i, j) }]
+    [i, j, if r.one_in(4) { r.around(line(s)) } else { some_rate(r, s, i, j) }, 0]
 }
 
 fn rate_to_book(r: &mut Random, s: &Switch, _: bool) -> Arguments {
     let (i, j) = pair(r, s, &s.words.rates);
-    [i, j, if r.one_in(30) { r.of(&[0, line(s) + 1]) } else { some_rate(r, s, i, j) }]
+    [i, j, if r.one_in(30) { r.of(&[0, line(s) + 1]) } else { some_rate(r, s, i, j) }, 0]
 }
 
 fn any_slots_to_release(r: &mut Random, s: &Switch) -> Arguments {
     let (n, f) = sizes(s);
     let d = if r.one_in(3) { r.around(f) } else { r.within(1, 3) };
-    [any_port(r, n), any_port(r, n), d]
+    [any_port(r, n), any_port(r, n), d, 0]
 }
 
 fn slots_to_release(r: &mut Random, s: &Switch, _: bool) -> Arguments {
     let (i, j) = pair(r, s, &s.words.slots);
-    [i, j, few_slots(r, s)]
+    [i, j, few_slots(r, s), 0]
 }
 
 fn any_rate_to_release(r: &mut Random, s: &Switch) -> Arguments {
     let (i, j) = any_pair(r, s, &s.words.rates);
-    [i, j, if r.one_in(4) { r.around(line(s)) } else { part_of_rate(r, s, i, j) }]
+    [i, j, if r.one_in(4) { r.around(line(s)) } else { part_of_rate(r, s, i, j) }, 0]
 }
 
 fn rate_to_release(r: &mut Random, s: &Switch, _: bool) -> Arguments {
     let (i, j) = pair(r, s, &s.words.rates);
-    [i, j, part_of_rate(r, s, i, j)]
+    [i, j, part_of_rate(r, s, i, j), 0]
 }
 
 fn few_slots(r: &mut Random, s: &Switch) -> u64 {

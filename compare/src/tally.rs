@@ -1,6 +1,6 @@
 //! What happened at the calls of a test, and how often: a test that compares much and meets little says nothing.
 
-use crate::calls::{Arguments, Call, Reply};
+use crate::calls::{Arguments, Call, Lent, Reply};
 use crate::turns::{of_tick, reads_book, Turn};
 use second::book::{rate_part, within_8, within_9, Book, MOST};
 use second::switch::MAX_LINE_RATE;
@@ -37,6 +37,74 @@ pub enum Event {
     GivenNotAsked,
     /// an input had a turn of this kind, by pass one or by pass two
     Chose { by_first: bool, choice: Choice },
+    /// it found this kind of book, and was accepted or not
+    Found { kind: Kind, accepted: bool },
+    /// a start was asked for this kind of book where it found that one, and was accepted or not
+    Asked { kind: Kind, found: Kind, accepted: bool },
+    /// a booking gave this number on a fine book, and would have given that one on a plain one
+    OnFine { number: u32, plain: u32 },
+    /// a booking that counts as 0 gave this number on a fine book
+    CountsAsNone(u32),
+    /// a booking gave 15, and of the pairs that are asked only those in this place do not fit
+    OnlyBy(Place),
+    /// a booking was accepted on a fine book where a pair that is not asked, in this place, does not fit
+    NotAsked(Place),
+}
+
+/// The clock's word for the kind of book, or a start's number for it.
+#[derive(Clone, Copy, Debug, PartialEq, Eq, PartialOrd, Ord)]
+pub enum Kind {
+    Zero,
+    One,
+    AboveOne,
+}
+
+pub const KINDS: [Kind; 3] = [Kind::Zero, Kind::One, Kind::AboveOne];
+
+fn kind_of_book(number: u64) -> Kind {
+    KINDS[number.min(2) as usize]
+}
+
+/// Where a pair stands to the one that is booked.
+#[derive(Clone, Copy, Debug, PartialEq, Eq, PartialOrd, Ord)]
+pub enum Place {
+    Itself,
+    OnInput,
+    OnOutput,
+    Elsewhere,
+}
+
+pub const PLACES: [Place; 4] = [Place::Itself, Place::OnInput, Place::OnOutput, Place::Elsewhere];
+
+fn place((i, j): (u64, u64), (x, y): (u64, u64)) -> Place {
+    match (x == i, y == j) {
+        (true, true) => Place::Itself,
+        (true, false) => Place::OnInput,
+        (false, true) => Place::OnOutput,
+        (false, false) => Place::Elsewhere,
+    }
+}
+
+/// The places of pairs of which inequality (2) does not hold after a booking that counts as d, with bookings and without.
+fn unfit(s: &Switch, (i, j): (u64, u64), d: u64) -> BTreeSet<(Place, bool)> {
+    let (present, n) = (bookings(s), s.n());
+    let book = Book::new(n, |x, y| present.pair(x, y) + if (x, y) == (i, j) { d } else { 0 });
+    let rows: Vec<_> = (1..=n).map(|x| book.row(x)).collect();
+    let columns: Vec<_> = (1..=n).map(|y| book.column(y)).collect();
+    let fits = |x: u64, y: u64| rows[x as usize - 1] + columns[y as usize - 1] - book.pair(x, y) <= s.f();
+    let unfit = s.pairs().into_iter().filter(|&(x, y)| !fits(x, y));
+    unfit.map(|(x, y)| (place((i, j), (x, y)), book.pair(x, y) > 0)).collect()
+}
+
+/// What a booking counts as in the book's rule: its slots, or the rise of its pair's booking.
+pub fn counts_as(operation: &str, s: &Switch, [i, j, amount, _]: Arguments) -> u64 {
+    let (slots, rate) = (s.words.slots[s.at(i, j)] as u64, s.words.rates[s.at(i, j)] as u64);
+    let booking = |rate| (slots + rate_part(rate, s.f(), s.clock.line as u64)).min(MOST);
+    match operation {
+        "book" => amount,
+        "book_rate" => booking(rate + amount) - booking(rate),
+        _ => panic!("{operation} is not asked by the book's rule"),
+    }
 }
 
 #[derive(Clone, Copy, Debug, PartialEq, Eq, PartialOrd, Ord)]
@@ -118,7 +186,7 @@ fn bookings(s: &Switch) -> Book {
 }
 
 /// Whether a pair's booking would be above what a word holds after an operation that is asked for, if it could be.
-fn above_word(call: &Call, s: &Switch, [i, j, amount]: Arguments) -> bool {
+fn above_word(call: &Call, s: &Switch, [i, j, amount, _]: Arguments) -> bool {
     let at = s.at(i, j);
     let (slots, rate) = (s.words.slots[at] as u64, s.words.rates[at] as u64);
     let (slots, rate) = match call.previewed() {
@@ -152,8 +220,13 @@ impl Tally {
     }
 
     /// A call, with its arguments, the switch that it found, the switch that it left, and its reply.
-    pub fn note(&mut self, call: &Call, form: Form, arguments: Arguments, before: &Switch, after: &Switch, reply: Reply) {
+    pub fn note(&mut self, call: &Call, form: Form, arguments: Arguments, found: &Lent, left: &Lent, reply: Reply) {
         self.add(call, Event::Gave(reply.refusal()));
+        self.note_kind(call, arguments, found, reply);
+        let (before, after) = (&found.switch, &left.switch);
+        if before.is_fine() {
+            self.note_fine(call, form, arguments, before, reply);
+        }
         if call.previewed().is_some() {
             self.note_preview(call, arguments, before, reply);
         }
@@ -163,7 +236,7 @@ impl Tally {
         if reply.refusal() != 0 {
             return;
         }
-        let [i, j, _] = arguments;
+        let [i, j, ..] = arguments;
         if call.name == "headroom" {
             self.add(call, Event::Told { booked: bookings(before).pair(i, j) > 0, headroom: kind_of(reply.headroom, before.f()) });
         }
@@ -177,6 +250,36 @@ impl Tally {
             let (turns, left) = of_tick(form, before);
             assert_eq!(left, *after, "the turns one by one leave something else");
             self.note_turns(call, &turns);
+        }
+    }
+
+    fn note_kind(&mut self, call: &Call, arguments: Arguments, found: &Lent, reply: Reply) {
+        let (kind, accepted) = (kind_of_book(found.fine as u64), reply.refusal() == 0);
+        self.add(call, Event::Found { kind, accepted });
+        if call.name.starts_with("start") {
+            self.add(call, Event::Asked { kind: kind_of_book(arguments[3]), found: kind, accepted });
+        }
+    }
+
+    /// A call on a fine book: where it is a booking or the preview of one that comes to the rule, it is tried on a plain book too.
+    fn note_fine(&mut self, call: &Call, form: Form, arguments: Arguments, s: &Switch, reply: Reply) {
+        let (operation, number, [i, j, ..]) = (call.previewed().unwrap_or(call.name), reply.refusal(), arguments);
+        if !operation.starts_with("book") || ![0, 15].contains(&number) {
+            return;
+        }
+        let (mut plain, d) = (s.clone(), counts_as(operation, s, arguments));
+        plain.clock.fine = false;
+        self.add(call, Event::OnFine { number, plain: (call.by_second)(&mut plain, form, arguments).refusal() });
+        if d == 0 {
+            self.add(call, Event::CountsAsNone(number));
+        }
+        let unfit = unfit(s, (i, j), d);
+        let asked: Vec<_> = unfit.iter().filter(|&&(place, booked)| booked && place != Place::Elsewhere).map(|&(place, _)| place).collect();
+        match (number, &asked[..]) {
+            (0, []) => unfit.into_iter().for_each(|(place, _)| self.add(call, Event::NotAsked(place))),
+            (15, &[place]) => self.add(call, Event::OnlyBy(place)),
+            (15, [_, ..]) => (),
+            _ => panic!("{} {arguments:?} gave {number} with {asked:?} on {s:?}", call.name),
         }
     }
 
@@ -200,11 +303,11 @@ impl Tally {
     }
 
     fn note_preview(&mut self, call: &Call, arguments: Arguments, s: &Switch, reply: Reply) {
-        let ([i, j, _], number, [row, column]) = (arguments, reply.refusal(), reply.sums);
+        let ([i, j, ..], number, [row, column]) = (arguments, reply.refusal(), reply.sums);
         // under these numbers the pair is one of the switch
         let present = || [bookings(s).row(i), bookings(s).column(j)];
         match number {
-            0 | 8 | 9 => {
+            0 | 8 | 9 | 15 => {
                 self.add(call, Event::Showed { number, row_fits: within_8(row, s.f()), column_fits: within_9(column, s.f()) });
                 let events = [
                     (row != column, Event::SumsDiffer(number)),

@@ -1,10 +1,9 @@
 //! The proved library beside the second program: after every call the result, the clock and every lent word are compared, refused calls too.
 //! KIVDRAG_SEED, KIVDRAG_CALLS and KIVDRAG_LISTS set another seed and other counts.
 
-use compare::calls::{Arguments, Call, Reply, CALLS, MOST_LISTED};
-use compare::tally::{Choice, Event, Headroom, Line, Tally};
+use compare::calls::{any_kind, Arguments, Call, Lent, Reply, CALLS, MOST_LISTED};
+use compare::tally::{counts_as, Choice, Event, Headroom, Line, Place, Tally, KINDS};
 use compare::{rules, setting, Random};
-use second::book::{rate_part, MOST};
 use second::ledger::Ledger;
 use second::switch::{used, EVERY_RUN};
 use second::{Clock, Form, Run, Switch, Words};
@@ -29,18 +28,28 @@ fn named(name: &str) -> &'static Call {
     CALLS.iter().find(|call| call.name == name).expect("a call of this name")
 }
 
+/// The clock's word for the kind of book after a call: an accepted start sets it to 0 or 1, and all else leaves it, whatever it is.
+fn kind_after(call: &Call, [.., fine]: Arguments, reply: &Reply, before: u32) -> u32 {
+    if call.name.starts_with("start") && reply.refusal() == 0 {
+        (fine != 0) as u32
+    } else {
+        before
+    }
+}
+
 /// One call on both; they must agree on all of it.
-fn both(call: &Call, form: Form, arguments: Arguments, s: &mut Switch, tally: &mut Tally) -> Reply {
-    let (before, mut other) = (s.clone(), s.clone());
+fn both(call: &Call, form: Form, arguments: Arguments, s: &mut Lent, tally: &mut Tally) -> Reply {
+    let (before, mut other) = (s.clone(), s.switch.clone());
     let reply = (call.by_library)(s, form, arguments);
     let expected = (call.by_second)(&mut other, form, arguments);
     let said = || format!("{} {form:?} {arguments:?} on {before:?}", call.name);
     assert_eq!(reply, expected, "{}", said());
-    assert_eq!(*s, other, "{}", said());
-    let past_ports = s.n() as usize..;
-    assert_eq!(s.words.given.get(past_ports.clone()), before.words.given.get(past_ports), "words past N stay: {}", said());
+    assert_eq!(s.switch, other, "{}", said());
+    assert_eq!(s.fine, kind_after(call, arguments, &reply, before.fine), "the kind of book: {}", said());
+    let past_ports = s.switch.n() as usize..;
+    assert_eq!(s.switch.words.given.get(past_ports.clone()), before.switch.words.given.get(past_ports), "words past N stay: {}", said());
     if reply.refusal() != 0 {
-        let shows_sums = call.previewed().is_some() && [8, 9].contains(&reply.refusal());
+        let shows_sums = call.previewed().is_some() && [8, 9, 15].contains(&reply.refusal());
         let refused = Reply { sums: if shows_sums { reply.sums } else { [0; 2] }, ..Reply::refused(reply.refusal()) };
         assert_eq!((&*s, reply), (&before, refused), "refused: {}", said());
     }
@@ -57,26 +66,15 @@ fn sums(s: &Switch, i: u64, j: u64) -> [u64; 2] {
     [book.row(i), book.column(j)]
 }
 
-/// What a booking counts as in questions 8 and 9: its slots, or the rise of its pair's booking.
-fn counts_as(operation: &str, s: &Switch, [i, j, amount]: Arguments) -> u64 {
-    let (slots, rate) = (s.words.slots[s.at(i, j)] as u64, s.words.rates[s.at(i, j)] as u64);
-    let booking = |rate| (slots + rate_part(rate, s.f(), s.clock.line as u64)).min(MOST);
-    match operation {
-        "book" => amount,
-        "book_rate" => booking(rate + amount) - booking(rate),
-        _ => panic!("{operation} is asked 8 or 9"),
-    }
-}
-
-/// A preview, and its operation on a copy: the number is the same, and the sums shown are those of the copy where it is accepted, and those
-/// that are asked about where 8 or 9 refuses it.
-fn preview_holds(call: &Call, form: Form, arguments: Arguments, s: &mut Switch, tally: &mut Tally) {
+/// A preview, and its operation on a copy: the number is the same, and the sums shown are those of the copy where it is accepted, and the present
+/// ones with what it counts as where 8, 9 or 15 refuses it.
+fn preview_holds(call: &Call, form: Form, arguments: Arguments, s: &mut Lent, tally: &mut Tally) {
     let shown = both(call, form, arguments, s, tally);
-    let (operation, mut copy, [i, j, _]) = (call.previewed().expect("a preview"), s.clone(), arguments);
+    let (operation, mut copy, [i, j, ..]) = (call.previewed().expect("a preview"), s.clone(), arguments);
     let done = both(named(operation), form, arguments, &mut copy, &mut Tally::default());
     let expected = match done.refusal() {
-        0 => sums(&copy, i, j),
-        8 | 9 => sums(s, i, j).map(|sum| sum + counts_as(operation, s, arguments)),
+        0 => sums(&copy.switch, i, j),
+        8 | 9 | 15 => sums(&s.switch, i, j).map(|sum| sum + counts_as(operation, &s.switch, arguments)),
         _ => [0; 2],
     };
     assert_eq!((shown.refusal(), shown.sums), (done.refusal(), expected), "{} {form:?} {arguments:?} on {s:?}", call.name);
@@ -112,7 +110,7 @@ fn any_given(r: &mut Random, n: u64, length: usize) -> Vec<u32> {
     (0..length).map(|_| word(r)).collect()
 }
 
-/// A clock of any contents, also where the level in force does not look.
+/// A clock of any contents, also where the level in force does not look. Its book is plain: `Lent` sets the kind of book.
 fn any_clock(r: &mut Random) -> Clock {
     Clock {
         ports: if r.one_in(10) { r.of(&[0, 33, u32::MAX]) } else { r.of(&[1, 2, 3, 4, 5, 8, 16, 31, 32]) },
@@ -123,7 +121,7 @@ fn any_clock(r: &mut Random) -> Clock {
             _ => r.within(0, 200) as u32,
         },
         line: if r.one_in(3) { r.of(&[0, 100_000_001, u32::MAX]) } else { r.of(&[1, 7, 1_000, 1_000, 99_999_999, 100_000_000]) },
-        fine: r.one_in(2),
+        fine: false,
         islip: r.one_in(2),
         since: if r.one_in(3) { r.next() as u32 } else { r.within(0, 200) as u32 },
         before: if r.one_in(3) { r.next() as u32 } else { r.within(0, 20) as u32 },
@@ -145,7 +143,7 @@ fn near_limits(r: &mut Random, clock: &Clock, run: Run, length: usize) -> Vec<u3
 }
 
 /// A clock and words that nobody has to have come by through calls.
-fn any_switch(r: &mut Random) -> Switch {
+fn any_switch(r: &mut Random) -> Lent {
     let mut s = Switch { rules: rules(), clock: any_clock(r), words: Words::default() };
     let n = s.n().min(40);
     let kind = r.within(1, 20);
@@ -154,13 +152,13 @@ fn any_switch(r: &mut Random) -> Switch {
         let short = words.saturating_sub(1);
         let length = if r.one_in(40) { r.of(&[short, short, short / 2, 0]) } else { words + r.of(&[0, 0, 1, 5]) };
         *s.words.run_mut(run) = match (run, kind) {
-            (Run::Slots | Run::Rates, 1..=10) => near_limits(r, &s.clock, run, length),
-            (Run::Slots | Run::Rates, 11) => vec![u32::MAX; length],
+            (Run::Slots | Run::Rates, 1..=12) => near_limits(r, &s.clock, run, length),
+            (Run::Slots | Run::Rates, 13) => vec![u32::MAX; length],
             (Run::Given, _) => any_given(r, n, length),
             _ => any_run(r, n, length),
         };
     }
-    s
+    Lent::new(s, any_kind(r) as u32)
 }
 
 #[test]
@@ -175,7 +173,7 @@ fn any_words_and_any_clock() {
         }
         let form = r.of(&FORMS);
         let call = drawn(&mut r, form, |call| call.weights[0]);
-        let arguments = (call.any)(&mut r, &s);
+        let arguments = (call.any)(&mut r, &s.switch);
         if call.previewed().is_some() {
             preview_holds(call, form, arguments, &mut s, &mut tally);
         } else {
@@ -197,8 +195,9 @@ fn told(booked: bool, headroom: Headroom) -> Event {
 }
 
 /// Every call gave every number that it has, and often; rates changed without their bookings, and were read with line rates of every kind;
-/// headrooms were of every kind, the lowest of all too; previews showed and hid sums of every kind; and outputs were taken in turn from words of
-/// every kind, and too few of these words mattered to starts and ticks, and to no other call.
+/// headrooms were of every kind, the lowest of all too; previews showed and hid sums of every kind; outputs were taken in turn from words of
+/// every kind, and too few of these words mattered to starts and ticks, and to no other call; and every call met books of both kinds, a fine one
+/// by words above 1 too, and was accepted and refused there.
 fn enough_is_met(tally: &Tally) {
     for call in &CALLS {
         [0].iter().chain(call.questions).for_each(|&number| tally.at_least_one_in(100, call.name, Event::Gave(number)));
@@ -219,6 +218,8 @@ fn enough_is_met(tally: &Tally) {
     }
     tally.at_least_one_in(3_000, "headroom", told(true, Headroom::Lowest));
     previews_are_met(tally);
+    fine_books_are_met(tally);
+    kinds_of_book_are_met(tally);
     turns_are_met(tally, 100);
     outside_words_are_met(tally);
     for call in &CALLS {
@@ -226,6 +227,9 @@ fn enough_is_met(tally: &Tally) {
         tally.at_least_one_in(1_000, call.name, event);
         let other = if call.form.is_some() { Event::GivenNotAsked } else { Event::GivenTooShort };
         assert_eq!(tally.count(call.name, other), 0, "{}: {other:?}", call.name);
+    }
+    for name in ["book_rate", "preview_book_rate"] {
+        tally.at_least_one_in(100, name, Event::CountsAsNone(15));
     }
     for name in PREVIEWS {
         tally.at_least_one_in(100, name, Event::SumAboveWord);
@@ -293,33 +297,82 @@ fn previews_are_met(tally: &Tally) {
     }
 }
 
-/// A switch of one pair before its first slot.
-fn one_pair(frame: u32, line: u32, slots: u32, rate: u32) -> Switch {
+const BOOKINGS: [&str; 4] = ["book", "book_rate", "preview_book", "preview_book_rate"];
+
+/// On fine books bookings and their previews gave 0 and 15 where a plain book would have given 0, 8 and 9; gave 15 by the pair itself, by one on
+/// its input and by one on its output alone; and were accepted beside pairs that do not fit and are not asked. Rates that count as 0 were accepted,
+/// and sums that differ were shown beside 15.
+fn fine_books_are_met(tally: &Tally) {
+    for name in BOOKINGS {
+        for (number, plain) in [0, 15].into_iter().flat_map(|number| [0, 8, 9].map(|plain| (number, plain))) {
+            tally.at_least_one_in(1_000, name, Event::OnFine { number, plain });
+        }
+        [0, 15].into_iter().for_each(|number| tally.at_least_one_in(50, name, Event::Gave(number)));
+        places_are_met(tally, 500, name);
+    }
+    for name in ["preview_book", "preview_book_rate"] {
+        tally.at_least_one_in(50, name, Event::SumsDiffer(15));
+    }
+    for name in ["book_rate", "preview_book_rate"] {
+        tally.at_least_one_in(200, name, Event::CountsAsNone(0));
+    }
+}
+
+/// 15 was given by pairs of each place that is asked, alone; and 0 beside pairs of each that is not, or not where they have no booking.
+fn places_are_met(tally: &Tally, many: u64, name: &'static str) {
+    for place in [Place::Itself, Place::OnInput, Place::OnOutput] {
+        tally.at_least_one_in(many, name, Event::OnlyBy(place));
+    }
+    for place in [Place::OnInput, Place::OnOutput, Place::Elsewhere] {
+        tally.at_least_one_in(many, name, Event::NotAsked(place));
+    }
+}
+
+/// Every call met every kind of book, and was accepted and refused there; and starts were asked for every kind where they found every kind.
+fn kinds_of_book_are_met(tally: &Tally) {
+    let kinds = KINDS.into_iter().flat_map(|kind| [(kind, true), (kind, false)]);
+    for (call, (kind, accepted)) in CALLS.iter().flat_map(|call| kinds.clone().map(move |kind| (call, kind))) {
+        tally.at_least_one_in(100, call.name, Event::Found { kind, accepted });
+        if call.name.starts_with("start") {
+            KINDS.into_iter().for_each(|found| tally.at_least_one_in(200, call.name, Event::Asked { kind, found, accepted }));
+        }
+    }
+}
+
+/// A switch before its first slot, with nothing booked.
+fn small(ports: u32, frame: u32, line: u32) -> Switch {
     let mut s = Switch::off(rules());
     for run in EVERY_RUN {
-        s.words.run_mut(run).truncate(most_used(1, run) + 1);
+        s.words.run_mut(run).truncate(most_used(ports as u64, run) + 1);
     }
-    (s.clock.ports, s.clock.frame, s.clock.line) = (1, frame, line);
-    (s.words.slots[0], s.words.rates[0]) = (slots, rate);
+    (s.clock.ports, s.clock.frame, s.clock.line) = (ports, frame, line);
     s
+}
+
+/// A switch of one pair, with a plain book and with a fine one.
+fn one_pair(frame: u32, line: u32, slots: u32, rate: u32) -> [Lent; 2] {
+    let mut s = small(1, frame, line);
+    (s.words.slots[0], s.words.rates[0]) = (slots, rate);
+    [0, 7].map(|fine| Lent::new(s.clone(), fine))
 }
 
 /// Every call on the book and its preview with every amount that is in range and one on either side, the headrooms, and both readings of the
 /// book.
-fn every_amount(s: &Switch, tally: &mut Tally) {
-    for (name, most) in [("book", s.clock.frame), ("release", s.clock.frame), ("book_rate", s.clock.line), ("release_rate", s.clock.line)] {
+fn every_amount(s: &Lent, tally: &mut Tally) {
+    let Clock { frame, line, .. } = s.switch.clock;
+    for (name, most) in [("book", frame), ("release", frame), ("book_rate", line), ("release_rate", line)] {
         let (call, preview) = (named(name), named(&format!("preview_{name}")));
         for amount in 0..=most as u64 + 1 {
-            preview_holds(preview, Form::Direct, [1, 1, amount], &mut s.clone(), tally);
-            both(call, Form::Direct, [1, 1, amount], &mut s.clone(), tally);
+            preview_holds(preview, Form::Direct, [1, 1, amount, 0], &mut s.clone(), tally);
+            both(call, Form::Direct, [1, 1, amount, 0], &mut s.clone(), tally);
         }
     }
-    for pair in [[1, 1, 0], [0, 1, 0], [1, 2, 0]] {
+    for pair in [[1, 1, 0, 0], [0, 1, 0, 0], [1, 2, 0, 0]] {
         both(named("headroom"), Form::Direct, pair, &mut s.clone(), tally);
     }
     for form in FORMS {
         let tick = CALLS.iter().find(|call| call.form == Some(form) && call.name.starts_with("tick")).expect("the form's tick");
-        both(tick, form, [0; 3], &mut s.clone(), tally);
+        both(tick, form, [0; 4], &mut s.clone(), tally);
     }
 }
 
@@ -329,14 +382,15 @@ fn every_small_book() {
     let mut tally = Tally::default();
     for (frame, line) in [1, 2, 3, 5, 8, 13].into_iter().flat_map(|frame| (0..=16).map(move |line| (frame, line))) {
         for (slots, rate) in (0..=3).flat_map(|slots| (0..=line + 1).map(move |rate| (slots, rate))) {
-            every_amount(&one_pair(frame, line, slots, rate), &mut tally);
+            one_pair(frame, line, slots, rate).iter().for_each(|s| every_amount(s, &mut tally));
         }
     }
     println!("small books; how often each call met what: {tally:?}");
-    for (name, numbers) in [("book", [0, 6, 8]), ("book_rate", [0, 6, 8]), ("release", [0, 6, 10]), ("release_rate", [0, 6, 10])] {
-        numbers.into_iter().for_each(|number| tally.at_least_one_in(50, name, Event::Gave(number)));
+    let booking = [0, 6, 8, 15];
+    for (name, numbers) in [("book", &booking[..]), ("book_rate", &booking), ("release", &[0, 6, 10]), ("release_rate", &[0, 6, 10])] {
+        numbers.iter().for_each(|&number| tally.at_least_one_in(50, name, Event::Gave(number)));
         let preview = named(&format!("preview_{name}")).name;
-        numbers.into_iter().for_each(|number| tally.at_least_one_in(50, preview, Event::Gave(number)));
+        numbers.iter().for_each(|&number| tally.at_least_one_in(50, preview, Event::Gave(number)));
     }
     for name in ["book_rate", "release_rate"] {
         tally.at_least_one_in(50, name, Event::NoBookingChanged);
@@ -349,11 +403,46 @@ fn every_small_book() {
     }
 }
 
+/// Every book of two ports in which each pair holds up to half a frame, or more than a frame; plain and fine, with every booking for each pair: by
+/// slots, and by a rate of as many.
+#[test]
+fn every_book_of_two_ports() {
+    let mut tally = Tally::default();
+    for (frame, book) in (1..=6).flat_map(|frame: u32| (0..(frame / 2 + 2).pow(4)).map(move |book| (frame, book))) {
+        let (mut s, words) = (small(2, frame, 10 * frame), frame / 2 + 2);
+        for (pair, word) in s.words.slots[..4].iter_mut().enumerate() {
+            let held = book / words.pow(pair as u32) % words;
+            *word = if held > frame / 2 { frame + 1 } else { held };
+        }
+        for mut lent in [0, 1].map(|fine| Lent::new(s.clone(), fine)) {
+            for ((i, j), d) in s.pairs().into_iter().flat_map(|pair| (1..=frame as u64).map(move |d| (pair, d))) {
+                preview_holds(named("preview_book"), Form::Direct, [i, j, d, 0], &mut lent, &mut tally);
+                preview_holds(named("preview_book_rate"), Form::Direct, [i, j, 10 * d, 0], &mut lent, &mut tally);
+            }
+        }
+    }
+    println!("books of two ports; how often each call met what: {tally:?}");
+    for name in ["preview_book", "preview_book_rate"] {
+        [0, 8, 9, 15].into_iter().for_each(|number| tally.at_least_one_in(100, name, Event::Gave(number)));
+        places_are_met(&tally, 300, name);
+    }
+}
+
+/// A booking in a list that a plain book has accepted: a fine book with the same bookings accepts it too. Tells whether it was one.
+fn fine_accepts_too(call: &Call, form: Form, arguments: Arguments, found: &Lent, reply: &Reply) -> bool {
+    let accepted = call.name.starts_with("book") && found.fine == 0 && reply.refusal() == 0;
+    if accepted {
+        let mut fine = Lent::new(found.switch.clone(), 1);
+        assert_eq!(both(call, form, arguments, &mut fine, &mut Tally::default()).refusal(), 0, "{} {arguments:?} on {fine:?}", call.name);
+    }
+    accepted
+}
+
 /// A headroom in a list of calls, which is at least 0 where the ledger has a booking of the pair; tells whether it has.
-fn headroom_in_list(form: Form, arguments: Arguments, s: &mut Switch, ledgers: &[Ledger], tally: &mut Tally) -> bool {
+fn headroom_in_list(form: Form, arguments: Arguments, s: &mut Lent, ledgers: &[Ledger], tally: &mut Tally) -> bool {
     let reply = both(named("headroom"), form, arguments, s, tally);
-    let ([i, j, _], ledger) = (arguments, ledgers.last().expect("a list opens with an accepted start"));
-    let booked = reply.refusal() == 0 && ledger.booked(s.at(i, j), 0, s.f() as usize) > 0;
+    let ([i, j, ..], ledger) = (arguments, ledgers.last().expect("a list opens with an accepted start"));
+    let booked = reply.refusal() == 0 && ledger.booked(s.switch.at(i, j), 0, s.switch.f() as usize) > 0;
     assert!(!booked || reply.headroom >= 0, "({i}, {j}) is booked, with a headroom of {}, on {s:?}", reply.headroom);
     booked
 }
@@ -363,30 +452,32 @@ fn long_lists_keep_demand_3_headroom_and_previews() {
     let mut r = Random::new(setting("KIVDRAG_SEED", 1) ^ 0x5EED);
     let lists = setting("KIVDRAG_LISTS", 400);
     let mut tally = Tally::default();
-    let (mut claims, mut binding, mut booked) = (0usize, 0usize, 0u64);
+    let (mut claims, mut binding, mut booked, mut too) = (0usize, 0usize, 0u64, 0u64);
     for _ in 0..lists {
         let form = r.of(&FORMS);
         let mut s = any_switch(&mut r);
         for run in EVERY_RUN {
-            s.words.run_mut(run).resize(most_used(MOST_LISTED, run) + 3, 7);
+            s.switch.words.run_mut(run).resize(most_used(MOST_LISTED, run) + 3, 7);
         }
         let films = r.one_in(2);
         let mut ledgers = Vec::new();
         let mut call = CALLS.iter().find(|call| call.form == Some(form)).expect("the form's start");
         for _ in 0..=r.within(20, 400) {
-            let arguments = (call.listed)(&mut r, &s, films);
+            let arguments = (call.listed)(&mut r, &s.switch, films);
             if call.name == "headroom" {
                 booked += headroom_in_list(form, arguments, &mut s, &ledgers, &mut tally) as u64;
             } else if call.previewed().is_some() {
                 preview_holds(call, form, arguments, &mut s, &mut tally);
             } else {
+                let found = s.clone();
                 let reply = both(call, form, arguments, &mut s, &mut tally);
+                too += fine_accepts_too(call, form, arguments, &found, &reply) as u64;
                 (call.noted)(&mut ledgers, form, reply.answer, arguments);
             }
             call = drawn(&mut r, form, |call| call.weights[1]);
         }
-        for (i, j) in s.pairs() {
-            booked += headroom_in_list(form, [i, j, 0], &mut s, &ledgers, &mut tally) as u64;
+        for (i, j) in s.switch.pairs() {
+            booked += headroom_in_list(form, [i, j, 0, 0], &mut s, &ledgers, &mut tally) as u64;
         }
         for claim in ledgers.iter().flat_map(|ledger| ledger.claims()) {
             assert!(claim.holds(), "{claim:?} {form:?}");
@@ -394,13 +485,16 @@ fn long_lists_keep_demand_3_headroom_and_previews() {
             binding += claim.binds() as usize;
         }
     }
-    println!("{lists} lists, {claims} claims, {binding} bind, {booked} headrooms of booked pairs; how often each call met what: {tally:?}");
+    println!("{lists} lists, {claims} claims, {binding} bind, {booked} headrooms of booked pairs, {too} bookings of plain books that fine ones take");
+    println!("how often each call met what: {tally:?}");
     assert!(binding * 100 > claims, "few claims say anything: {binding} of {claims}");
+    assert!(too > lists, "few bookings of a plain book: {too} in {lists} lists");
     assert_eq!(booked, tally.count("headroom", told(true, Headroom::Zero)) + tally.count("headroom", told(true, Headroom::AboveZero)));
     if lists >= 100 {
         rates_are_met(&tally);
         headrooms_are_met(&tally);
         previews_are_met(&tally);
+        fine_books_are_met(&tally);
         turns_are_met(&tally, 400);
     }
 }

@@ -1,7 +1,7 @@
 // Starts of both forms, on runs with 7 in every word. Each line has the clock afterwards and, of each run, its length, its first word, the last that 32 ports
 // use, and the one beyond.
-use crate::show::clock;
 use crate::show::clock_of;
+use crate::show::clock_of_kind;
 use crate::show::number;
 use crate::show::refused;
 use crate::show::text;
@@ -10,14 +10,15 @@ use starts::start_direct;
 use starts::start_pipelined;
 use wsgs::StartResult;
 
-// What a start is given: the number of ports, the length of a frame and the rate of a line.
-struct Sizes(u64, u64, u64);
+// What a start is given: the number of ports, the length of a frame, the rate of a line, and whether the book is fine.
+struct Sizes(u64, u64, u64, bool);
 
 // Prints what a start was given, and what it answers.
 fn show_start(name: &[u8], sizes: Sizes, started: StartResult) {
     number(name, sizes.0);
     number(b" ", sizes.1);
     number(b" ", sizes.2);
+    number(b" ", sizes.3 as u64);
     refused(started.refusal);
     clock_of(started.clock);
 }
@@ -52,7 +53,8 @@ fn direct_on(
         sizes.0,
         sizes.1,
         sizes.2,
-        clock(5, 6, 8),
+        sizes.3,
+        clock_of_kind(5, 6, 8, 7),
         slots,
         rates,
         credits,
@@ -112,26 +114,29 @@ fn direct_shorter(sizes: Sizes) {
     direct_on(sizes, &mut one, &mut two, &mut three, &mut four, &mut few);
 }
 
-// Sizes at and past their ends, then runs too short, and both; then line rates at and past their end, alone and with the others.
+// Sizes at and past their ends, then runs too short, and both; then line rates at and past their end, alone and with the others; then a
+// fine book, accepted and refused.
 pub fn direct() {
-    direct_exact(Sizes(32, 10_000, 0));
-    direct_longer(Sizes(32, 10_000, 1_000));
-    direct_exact(Sizes(1, 1, 1));
-    direct_exact(Sizes(0, 10_000, 0));
-    direct_exact(Sizes(33, 10_000, 0));
-    direct_exact(Sizes(18_446_744_073_709_551_615, 10_000, 0));
-    direct_exact(Sizes(32, 0, 0));
-    direct_exact(Sizes(32, 10_001, 0));
-    direct_exact(Sizes(32, 18_446_744_073_709_551_615, 0));
-    direct_exact(Sizes(33, 10_001, 0));
-    direct_shorter(Sizes(32, 10_000, 0));
-    direct_shorter(Sizes(33, 10_001, 0));
-    direct_exact(Sizes(32, 10_000, 100_000_000));
-    direct_exact(Sizes(32, 10_000, 100_000_001));
-    direct_exact(Sizes(32, 10_000, 18_446_744_073_709_551_615));
-    direct_exact(Sizes(33, 10_000, 100_000_001));
-    direct_exact(Sizes(32, 10_001, 100_000_001));
-    direct_shorter(Sizes(32, 10_000, 100_000_001));
+    direct_exact(Sizes(32, 10_000, 0, false));
+    direct_longer(Sizes(32, 10_000, 1_000, false));
+    direct_exact(Sizes(1, 1, 1, false));
+    direct_exact(Sizes(0, 10_000, 0, false));
+    direct_exact(Sizes(33, 10_000, 0, false));
+    direct_exact(Sizes(18_446_744_073_709_551_615, 10_000, 0, false));
+    direct_exact(Sizes(32, 0, 0, false));
+    direct_exact(Sizes(32, 10_001, 0, false));
+    direct_exact(Sizes(32, 18_446_744_073_709_551_615, 0, false));
+    direct_exact(Sizes(33, 10_001, 0, false));
+    direct_shorter(Sizes(32, 10_000, 0, false));
+    direct_shorter(Sizes(33, 10_001, 0, false));
+    direct_exact(Sizes(32, 10_000, 100_000_000, false));
+    direct_exact(Sizes(32, 10_000, 100_000_001, false));
+    direct_exact(Sizes(32, 10_000, 18_446_744_073_709_551_615, false));
+    direct_exact(Sizes(33, 10_000, 100_000_001, false));
+    direct_exact(Sizes(32, 10_001, 100_000_001, false));
+    direct_shorter(Sizes(32, 10_000, 100_000_001, false));
+    direct_longer(Sizes(32, 10_000, 1_000, true));
+    direct_exact(Sizes(32, 0, 0, true));
 }
 
 fn pipelined_on(
@@ -148,7 +153,8 @@ fn pipelined_on(
         sizes.0,
         sizes.1,
         sizes.2,
-        clock(5, 6, 8),
+        sizes.3,
+        clock_of_kind(5, 6, 8, 7),
         slots,
         rates,
         credits,
@@ -287,23 +293,26 @@ fn given_shorter(sizes: Sizes) {
     );
 }
 
-// Sizes at and past their ends, then runs too short, and both; then line rates at and past their end, alone and with the others.
+// Sizes at and past their ends, then runs too short, and both; then line rates at and past their end, alone and with the others; then a
+// fine book, accepted and refused.
 pub fn pipelined() {
-    pipelined_exact(Sizes(32, 10_000, 0));
-    pipelined_longer(Sizes(32, 10_000, 1_000));
-    pipelined_exact(Sizes(32, 32, 0));
-    pipelined_exact(Sizes(32, 31, 0));
-    pipelined_exact(Sizes(33, 10_000, 0));
-    pipelined_exact(Sizes(32, 10_001, 0));
-    pipelined_exact(Sizes(33, 1, 0));
-    pipelined_shorter(Sizes(32, 10_000, 0));
-    flight_shorter(Sizes(32, 10_000, 0));
-    given_shorter(Sizes(32, 10_000, 0));
-    pipelined_shorter(Sizes(32, 31, 0));
-    flight_shorter(Sizes(32, 31, 0));
-    given_shorter(Sizes(32, 31, 0));
-    pipelined_exact(Sizes(32, 10_000, 100_000_000));
-    pipelined_exact(Sizes(32, 10_000, 100_000_001));
-    pipelined_exact(Sizes(32, 31, 100_000_001));
-    flight_shorter(Sizes(32, 10_000, 100_000_001));
+    pipelined_exact(Sizes(32, 10_000, 0, false));
+    pipelined_longer(Sizes(32, 10_000, 1_000, false));
+    pipelined_exact(Sizes(32, 32, 0, false));
+    pipelined_exact(Sizes(32, 31, 0, false));
+    pipelined_exact(Sizes(33, 10_000, 0, false));
+    pipelined_exact(Sizes(32, 10_001, 0, false));
+    pipelined_exact(Sizes(33, 1, 0, false));
+    pipelined_shorter(Sizes(32, 10_000, 0, false));
+    flight_shorter(Sizes(32, 10_000, 0, false));
+    given_shorter(Sizes(32, 10_000, 0, false));
+    pipelined_shorter(Sizes(32, 31, 0, false));
+    flight_shorter(Sizes(32, 31, 0, false));
+    given_shorter(Sizes(32, 31, 0, false));
+    pipelined_exact(Sizes(32, 10_000, 100_000_000, false));
+    pipelined_exact(Sizes(32, 10_000, 100_000_001, false));
+    pipelined_exact(Sizes(32, 31, 100_000_001, false));
+    flight_shorter(Sizes(32, 10_000, 100_000_001, false));
+    pipelined_longer(Sizes(32, 10_000, 1_000, true));
+    pipelined_exact(Sizes(32, 31, 0, true));
 }

@@ -1,5 +1,6 @@
 // Prints what starts, bookings, releases and arrivals answer and leave at the edges of what they accept, a line for each case. `stdout` was worked
 // out by hand from the rules.
+mod fine;
 mod forms;
 mod matrices;
 mod pairs;
@@ -19,6 +20,9 @@ fn main() {
     summed::streams();
     summed::slots_and_rates();
     summed::garbage();
+    fine::whole_lines();
+    fine::sharing();
+    fine::garbage();
     matrices::last_pair();
     matrices::largest_words();
 }

@@ -1,13 +1,18 @@
 // Printing names, numbers and words, and the clock that the cases begin with.
 use wsgs::Clock;
 
-// A clock that has run nine slots.
+// A clock that has run nine slots, with a plain book; and with a word of its own for the kind of the book.
 pub fn clock(ports: u32, frame: u32, line: u32) -> Clock {
+    clock_of_kind(ports, frame, line, 0)
+}
+
+pub fn clock_of_kind(ports: u32, frame: u32, line: u32, fine: u32) -> Clock {
     Clock {
         ports,
         frame,
         slot: 9,
         line,
+        fine,
     }
 }
 
@@ -40,6 +45,7 @@ pub fn clock_of(clock: Clock) {
     number(b" ", clock.frame as u64);
     number(b" ", clock.slot as u64);
     number(b" ", clock.line as u64);
+    number(b" ", clock.fine as u64);
 }
 
 // Prints a refusal.

@@ -13,6 +13,7 @@ use Rattle.wsgs.specs.Bookings.{book-of}
 use Rattle.wsgs.specs.Questions.{effect}
 use Rattle.wsgs.specs.Headroom.{headroom-result}
 use Rattle.wsgs.specs.Preview.{preview-of, slots-booking, rate-booking, slots-release, rate-release}
+use Rattle.wsgs.specs.Clocks.{is-fine}
 use Rattle.wsgs.specs.Answers.{direct-runs-of, pipelined-runs-of, start-outcome, tick-outcome}
 use Rattle.wsgs.specs.Switch.{direct, pipelined, start, book, book-rate, release, release-rate, headroom, arrive, tick, apply, of-direct, of-pipelined, of-book, of-asking, of-queues}
 use Rattle.wsgs.proofs.Calls
@@ -35,16 +36,16 @@ use Rattle.kivdrag_c.proofs.kivdrag_tick_pipelined as c-tick-pipelined
 use Rattle.calls.specs.Says.{Says, switch-of, PreviewTold, start-told, tick-told}
 
 module _ {M : Type 1} (𝓤 : URA M) (H : Heap 𝓤) (A : Atoms 𝓤) (mem : Memory → SProp 𝓤) (run : Routine → Fun 𝓤) where
-  -- `kivdrag_start_direct`, `kivdrag_start_pipelined`: ports, frame, line, clock, and the runs
+  -- `kivdrag_start_direct`, `kivdrag_start_pipelined`: ports, frame, line, the kind of the book, clock, and the runs
   pub start-direct : Says 𝓤 c-start-direct.ended (c-start-direct.clauses 𝓤 H A mem run) (λ κs a r e. (copy flight : List ℕ)
-      → let s = switch-of (clock-in-words (a .1 .1 .1 .0 .now)) (a .1 .1 .1 .1 .0 .now) (a .1 .1 .1 .1 .1 .0 .now) (a .1 .1 .1 .1 .1 .1 .0 .now) (a .1 .1 .1 .1 .1 .1 .1 .0 .now) (a .1 .1 .1 .1 .1 .1 .1 .1 .0 .now) copy flight in
-      of-direct s (start-outcome (start-told (c-start r (e .1 .1 .1 .0 .now) (direct-runs-of (e .1 .1 .1 .1 .0 .now) (e .1 .1 .1 .1 .1 .0 .now) (e .1 .1 .1 .1 .1 .1 .0 .now) (e .1 .1 .1 .1 .1 .1 .1 .0 .now) (e .1 .1 .1 .1 .1 .1 .1 .1 .0 .now))))) ≡ apply (start direct (a .0) (a .1 .0) (a .1 .1 .0)) s)
-  start-direct κs a g r e = fact-mono 𝓤 _ _ (λ h copy flight. Calls.start-direct _ _ _ _ _ (ap start-told h))
+      → let s = switch-of (clock-in-words (a .1 .1 .1 .1 .0 .now)) (a .1 .1 .1 .1 .1 .0 .now) (a .1 .1 .1 .1 .1 .1 .0 .now) (a .1 .1 .1 .1 .1 .1 .1 .0 .now) (a .1 .1 .1 .1 .1 .1 .1 .1 .0 .now) (a .1 .1 .1 .1 .1 .1 .1 .1 .1 .0 .now) copy flight in
+      of-direct s (start-outcome (start-told (c-start r (e .1 .1 .1 .1 .0 .now) (direct-runs-of (e .1 .1 .1 .1 .1 .0 .now) (e .1 .1 .1 .1 .1 .1 .0 .now) (e .1 .1 .1 .1 .1 .1 .1 .0 .now) (e .1 .1 .1 .1 .1 .1 .1 .1 .0 .now) (e .1 .1 .1 .1 .1 .1 .1 .1 .1 .0 .now))))) ≡ apply (start direct (a .0) (a .1 .0) (a .1 .1 .0) (is-fine (a .1 .1 .1 .0))) s)
+  start-direct κs a g r e = fact-mono 𝓤 _ _ (λ h copy flight. Calls.start-direct _ _ _ _ _ _ (ap start-told h))
 
   pub start-pipelined : Says 𝓤 c-start-pipelined.ended (c-start-pipelined.clauses 𝓤 H A mem run) (λ κs a r e.
-      let s = switch-of (clock-in-words (a .1 .1 .1 .0 .now)) (a .1 .1 .1 .1 .0 .now) (a .1 .1 .1 .1 .1 .0 .now) (a .1 .1 .1 .1 .1 .1 .0 .now) (a .1 .1 .1 .1 .1 .1 .1 .0 .now) (a .1 .1 .1 .1 .1 .1 .1 .1 .0 .now) (a .1 .1 .1 .1 .1 .1 .1 .1 .1 .0 .now) (a .1 .1 .1 .1 .1 .1 .1 .1 .1 .1 .0 .now) in
-      of-pipelined (start-outcome (start-told (c-start r (e .1 .1 .1 .0 .now) (pipelined-runs-of (e .1 .1 .1 .1 .0 .now) (e .1 .1 .1 .1 .1 .0 .now) (e .1 .1 .1 .1 .1 .1 .0 .now) (e .1 .1 .1 .1 .1 .1 .1 .0 .now) (e .1 .1 .1 .1 .1 .1 .1 .1 .0 .now) (e .1 .1 .1 .1 .1 .1 .1 .1 .1 .0 .now) (e .1 .1 .1 .1 .1 .1 .1 .1 .1 .1 .0 .now))))) ≡ apply (start pipelined (a .0) (a .1 .0) (a .1 .1 .0)) s)
-  start-pipelined κs a g r e = fact-mono 𝓤 _ _ (λ h. Calls.start-pipelined _ _ _ _ _ (ap start-told h))
+      let s = switch-of (clock-in-words (a .1 .1 .1 .1 .0 .now)) (a .1 .1 .1 .1 .1 .0 .now) (a .1 .1 .1 .1 .1 .1 .0 .now) (a .1 .1 .1 .1 .1 .1 .1 .0 .now) (a .1 .1 .1 .1 .1 .1 .1 .1 .0 .now) (a .1 .1 .1 .1 .1 .1 .1 .1 .1 .0 .now) (a .1 .1 .1 .1 .1 .1 .1 .1 .1 .1 .0 .now) (a .1 .1 .1 .1 .1 .1 .1 .1 .1 .1 .1 .0 .now) in
+      of-pipelined (start-outcome (start-told (c-start r (e .1 .1 .1 .1 .0 .now) (pipelined-runs-of (e .1 .1 .1 .1 .1 .0 .now) (e .1 .1 .1 .1 .1 .1 .0 .now) (e .1 .1 .1 .1 .1 .1 .1 .0 .now) (e .1 .1 .1 .1 .1 .1 .1 .1 .0 .now) (e .1 .1 .1 .1 .1 .1 .1 .1 .1 .0 .now) (e .1 .1 .1 .1 .1 .1 .1 .1 .1 .1 .0 .now) (e .1 .1 .1 .1 .1 .1 .1 .1 .1 .1 .1 .0 .now))))) ≡ apply (start pipelined (a .0) (a .1 .0) (a .1 .1 .0) (is-fine (a .1 .1 .1 .0))) s)
+  start-pipelined κs a g r e = fact-mono 𝓤 _ _ (λ h. Calls.start-pipelined _ _ _ _ _ _ (ap start-told h))
 
   -- `kivdrag_book`, `kivdrag_book_rate`, `kivdrag_release`, `kivdrag_release_rate`: clock, slots, rates, input, output, and the amount or rate
   pub books : Says 𝓤 c-book.ended (c-book.clauses 𝓤 H A mem run) (λ κs a r e. (credits queues given copy flight : List ℕ)

@@ -39,16 +39,16 @@ use Rattle.clock.proofs.step_pipelined as clock-step-pipelined
 use Rattle.calls.specs.Says.{Says, switch-of, PreviewTold}
 
 module _ {M : Type 1} (𝓤 : URA M) (H : Heap 𝓤) (A : Atoms 𝓤) (mem : Memory → SProp 𝓤) (run : Routine → Fun 𝓤) where
-  -- `starts::start_direct`, `starts::start_pipelined`: ports, frame, line, clock, and the runs
+  -- `starts::start_direct`, `starts::start_pipelined`: ports, frame, line, the kind of the book, clock, and the runs
   pub start-direct : Says 𝓤 starts-direct.ended (starts-direct.clauses 𝓤 H A mem run) (λ κs a r e. (copy flight : List ℕ)
-      → let s = switch-of (a .1 .1 .1 .0) (a .1 .1 .1 .1 .0 .now) (a .1 .1 .1 .1 .1 .0 .now) (a .1 .1 .1 .1 .1 .1 .0 .now) (a .1 .1 .1 .1 .1 .1 .1 .0 .now) (a .1 .1 .1 .1 .1 .1 .1 .1 .0 .now) copy flight in
-      of-direct s (start-outcome (effect r (direct-runs-of (e .1 .1 .1 .1 .0 .now) (e .1 .1 .1 .1 .1 .0 .now) (e .1 .1 .1 .1 .1 .1 .0 .now) (e .1 .1 .1 .1 .1 .1 .1 .0 .now) (e .1 .1 .1 .1 .1 .1 .1 .1 .0 .now)))) ≡ apply (start direct (a .0) (a .1 .0) (a .1 .1 .0)) s)
-  start-direct κs a g r e = fact-mono 𝓤 _ _ (λ h copy flight. Calls.start-direct _ _ _ _ _ h)
+      → let s = switch-of (a .1 .1 .1 .1 .0) (a .1 .1 .1 .1 .1 .0 .now) (a .1 .1 .1 .1 .1 .1 .0 .now) (a .1 .1 .1 .1 .1 .1 .1 .0 .now) (a .1 .1 .1 .1 .1 .1 .1 .1 .0 .now) (a .1 .1 .1 .1 .1 .1 .1 .1 .1 .0 .now) copy flight in
+      of-direct s (start-outcome (effect r (direct-runs-of (e .1 .1 .1 .1 .1 .0 .now) (e .1 .1 .1 .1 .1 .1 .0 .now) (e .1 .1 .1 .1 .1 .1 .1 .0 .now) (e .1 .1 .1 .1 .1 .1 .1 .1 .0 .now) (e .1 .1 .1 .1 .1 .1 .1 .1 .1 .0 .now)))) ≡ apply (start direct (a .0) (a .1 .0) (a .1 .1 .0) (a .1 .1 .1 .0)) s)
+  start-direct κs a g r e = fact-mono 𝓤 _ _ (λ h copy flight. Calls.start-direct _ _ _ _ _ _ h)
 
   pub start-pipelined : Says 𝓤 starts-pipelined.ended (starts-pipelined.clauses 𝓤 H A mem run) (λ κs a r e.
-      let s = switch-of (a .1 .1 .1 .0) (a .1 .1 .1 .1 .0 .now) (a .1 .1 .1 .1 .1 .0 .now) (a .1 .1 .1 .1 .1 .1 .0 .now) (a .1 .1 .1 .1 .1 .1 .1 .0 .now) (a .1 .1 .1 .1 .1 .1 .1 .1 .0 .now) (a .1 .1 .1 .1 .1 .1 .1 .1 .1 .0 .now) (a .1 .1 .1 .1 .1 .1 .1 .1 .1 .1 .0 .now) in
-      of-pipelined (start-outcome (effect r (pipelined-runs-of (e .1 .1 .1 .1 .0 .now) (e .1 .1 .1 .1 .1 .0 .now) (e .1 .1 .1 .1 .1 .1 .0 .now) (e .1 .1 .1 .1 .1 .1 .1 .0 .now) (e .1 .1 .1 .1 .1 .1 .1 .1 .0 .now) (e .1 .1 .1 .1 .1 .1 .1 .1 .1 .0 .now) (e .1 .1 .1 .1 .1 .1 .1 .1 .1 .1 .0 .now)))) ≡ apply (start pipelined (a .0) (a .1 .0) (a .1 .1 .0)) s)
-  start-pipelined κs a g r e = fact-mono 𝓤 _ _ (λ h. Calls.start-pipelined _ _ _ _ _ h)
+      let s = switch-of (a .1 .1 .1 .1 .0) (a .1 .1 .1 .1 .1 .0 .now) (a .1 .1 .1 .1 .1 .1 .0 .now) (a .1 .1 .1 .1 .1 .1 .1 .0 .now) (a .1 .1 .1 .1 .1 .1 .1 .1 .0 .now) (a .1 .1 .1 .1 .1 .1 .1 .1 .1 .0 .now) (a .1 .1 .1 .1 .1 .1 .1 .1 .1 .1 .0 .now) (a .1 .1 .1 .1 .1 .1 .1 .1 .1 .1 .1 .0 .now) in
+      of-pipelined (start-outcome (effect r (pipelined-runs-of (e .1 .1 .1 .1 .1 .0 .now) (e .1 .1 .1 .1 .1 .1 .0 .now) (e .1 .1 .1 .1 .1 .1 .1 .0 .now) (e .1 .1 .1 .1 .1 .1 .1 .1 .0 .now) (e .1 .1 .1 .1 .1 .1 .1 .1 .1 .0 .now) (e .1 .1 .1 .1 .1 .1 .1 .1 .1 .1 .0 .now) (e .1 .1 .1 .1 .1 .1 .1 .1 .1 .1 .1 .0 .now)))) ≡ apply (start pipelined (a .0) (a .1 .0) (a .1 .1 .0) (a .1 .1 .1 .0)) s)
+  start-pipelined κs a g r e = fact-mono 𝓤 _ _ (λ h. Calls.start-pipelined _ _ _ _ _ _ h)
 
   -- `book::book`, `book::book_rate`, `book::release`, `book::release_rate`: clock, slots, rates, input, output, and the amount or rate
   pub books : Says 𝓤 book-book.ended (book-book.clauses 𝓤 H A mem run) (λ κs a r e. (credits queues given copy flight : List ℕ)

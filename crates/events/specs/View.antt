@@ -5,6 +5,7 @@ use mathlib.Core.List.{List, []}
 use Prim.Native.Nat.{ℕ}
 use lib.ListN.{length}
 use Rattle.wsgs.specs.Clocks.{first-clock}
+use Rattle.wsgs.specs.Switch.{plain}
 use Rattle.wsgs.specs.Program.{slot-text}
 use Rattle.lines.specs.Lines.{with-text, TextWritten}
 use Rattle.machine.specs.declared.Machine.{Machine}
@@ -58,7 +59,7 @@ moved-progress k m left =
 abbrev pub first-progress : Progress
 first-progress =
     record {
-      machine = record { running = false; pipelined = false; clock = first-clock 0 0 0 };
+      machine = record { running = false; pipelined = false; clock = first-clock 0 0 0 plain };
       «past_heading» = false;
       «after_cr» = false;
       count = 0;

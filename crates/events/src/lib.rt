@@ -51,6 +51,7 @@ pub fn begin() -> Progress
         frame: 0,
         slot: 0,
         line: 0,
+        fine: 0,
     };
     let machine = Machine {
         running: false,

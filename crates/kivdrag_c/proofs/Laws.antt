@@ -1,4 +1,4 @@
--- Laws of the words that hold a clock: a clock comes back from its words, four words come back from their clock, and a refused call leaves
+-- Laws of the words that hold a clock: a clock comes back from its words, five words come back from their clock, and a refused call leaves
 -- them; and of what C has after a start and a tick. Assumes nothing.
 use mathlib.Core.Path.{_≡_, refl, ap, _∙_}
 use mathlib.Core.List.{List, [], _∷_}
@@ -18,22 +18,23 @@ use Rattle.kivdrag_c.specs.Results.{c-start, c-tick}
 pub clock-of-words : (c : Clock) → clock-in-words (clock-words c) ≡ c
 clock-of-words c = refl
 
-pub words-of-clock : (w : List ℕ) → length w ≡ 4 → clock-words (clock-in-words w) ≡ w
+pub words-of-clock : (w : List ℕ) → length w ≡ 5 → clock-words (clock-in-words w) ≡ w
 words-of-clock [] h = absurd (omega arith)
 words-of-clock (a ∷ []) h = absurd (omega arith)
 words-of-clock (a ∷ b ∷ []) h = absurd (omega arith)
 words-of-clock (a ∷ b ∷ c ∷ []) h = absurd (omega arith)
-words-of-clock (a ∷ b ∷ c ∷ d ∷ []) h = refl
-words-of-clock (a ∷ b ∷ c ∷ d ∷ e ∷ es) h = absurd (omega arith)
+words-of-clock (a ∷ b ∷ c ∷ d ∷ []) h = absurd (omega arith)
+words-of-clock (a ∷ b ∷ c ∷ d ∷ e ∷ []) h = refl
+words-of-clock (a ∷ b ∷ c ∷ d ∷ e ∷ g ∷ gs) h = absurd (omega arith)
 
--- A refused call of a switch whose clock is in four words leaves these words.
+-- A refused call of a switch whose clock is in five words leaves these words.
 pub words-stay : (c : Call) (s : Switch) (w : List ℕ)
-    → length w ≡ 4
+    → length w ≡ 5
     → s .clock ≡ clock-in-words w
     → apply c s .refusal ≢ 0
     → clock-words (apply c s .after .clock) ≡ w
-words-stay c s w four e not-0 =
-    ap (λ x. clock-words (x .clock)) (refused-changes-nothing c s not-0 .0) ∙ ap clock-words e ∙ words-of-clock w four
+words-stay c s w five e not-0 =
+    ap (λ x. clock-words (x .clock)) (refused-changes-nothing c s not-0 .0) ∙ ap clock-words e ∙ words-of-clock w five
 
 -- What C has after a start, of which the clock is written into its words.
 pub start-written : {Runs : Type 0} {s : StartResult} {runs : Runs} {x : Effect StartResult Runs} {w : List ℕ}

@@ -1,6 +1,7 @@
-// The calls of a switch as C has them (include/kivdrag.h). Each is the proved call of its name, on a clock that is lent as four words.
+// The calls of a switch as C has them (include/kivdrag.h). Each is the proved call of its name, on a clock that is lent as five words.
 ghost use mathlib.Core.Path.{_≡_};
 ghost use Rattle.wsgs.specs.Questions.{effect};
+ghost use Rattle.wsgs.specs.Clocks.{is-fine};
 ghost use Rattle.wsgs.specs.Bookings.{book-of};
 ghost use Rattle.wsgs.specs.Answers.{direct-runs-of, pipelined-runs-of};
 ghost use Rattle.wsgs.specs.Direct;
@@ -22,17 +23,19 @@ use previews::preview_release;
 use previews::preview_release_rate;
 use results::put_preview;
 use results::put_result;
+use starts::start_direct;
 use wsgs::BookedSlots;
 use wsgs::Input;
 use wsgs::Output;
 
-// Starts a direct switch.
+// Starts a direct switch, with a plain book where `fine` is 0, and else with a fine one.
 #[no_mangle]
 pub extern "C" fn kivdrag_start_direct(
     ports: u64,
     frame: u64,
     line: u64,
-    clock: &mut [u32; 4],
+    fine: u32,
+    clock: &mut [u32; 5],
     slots: &mut [u32],
     rates: &mut [u32],
     credits: &mut [u32],
@@ -41,22 +44,24 @@ pub extern "C" fn kivdrag_start_direct(
 ) -> u32
     ensures outcome { λ r. ⌜ c-start r (now (clock .exit))
         (direct-runs-of (now (slots .exit)) (now (rates .exit)) (now (credits .exit)) (now (queues .exit)) (now (given .exit)))
-        ≡ c-start-of (Direct.start ports frame line (clock-in-words (now (clock .entry)))
+        ≡ c-start-of (Direct.start ports frame line (is-fine fine) (clock-in-words (now (clock .entry)))
         (direct-runs-of (now (slots .entry)) (now (rates .entry)) (now (credits .entry)) (now (queues .entry)) (now (given .entry)))) ⌝ }
 {
     let at = clock_in(clock);
-    let result = starts::start_direct(ports, frame, line, at, slots, rates, credits, queues, given);
+    let kind = fine != 0;
+    let result = start_direct(ports, frame, line, kind, at, slots, rates, credits, queues, given);
     put_clock(clock, result.clock);
     result.refusal
 }
 
-// Starts a pipelined switch.
+// Starts a pipelined switch, with a book of either kind.
 #[no_mangle]
 pub extern "C" fn kivdrag_start_pipelined(
     ports: u64,
     frame: u64,
     line: u64,
-    clock: &mut [u32; 4],
+    fine: u32,
+    clock: &mut [u32; 5],
     slots: &mut [u32],
     rates: &mut [u32],
     credits: &mut [u32],
@@ -68,7 +73,7 @@ pub extern "C" fn kivdrag_start_pipelined(
     ensures outcome { λ r. ⌜ c-start r (now (clock .exit))
         (pipelined-runs-of (now (slots .exit)) (now (rates .exit)) (now (credits .exit)) (now (queues .exit))
         (now (given .exit)) (now (copy .exit)) (now (flight .exit)))
-        ≡ c-start-of (Pipelined.start ports frame line (clock-in-words (now (clock .entry)))
+        ≡ c-start-of (Pipelined.start ports frame line (is-fine fine) (clock-in-words (now (clock .entry)))
         (pipelined-runs-of (now (slots .entry)) (now (rates .entry)) (now (credits .entry)) (now (queues .entry))
         (now (given .entry)) (now (copy .entry)) (now (flight .entry)))) ⌝ }
 {
@@ -77,6 +82,7 @@ pub extern "C" fn kivdrag_start_pipelined(
         ports,
         frame,
         line,
+        fine != 0,
         before,
         slots,
         rates,
@@ -93,7 +99,7 @@ pub extern "C" fn kivdrag_start_pipelined(
 // Books slots of each frame for a pair.
 #[no_mangle]
 pub extern "C" fn kivdrag_book(
-    clock: &[u32; 4],
+    clock: &[u32; 5],
     slots: &mut [u32],
     rates: &[u32],
     input: u64,
@@ -112,7 +118,7 @@ pub extern "C" fn kivdrag_book(
 // Books a rate for a pair, in kbit/s.
 #[no_mangle]
 pub extern "C" fn kivdrag_book_rate(
-    clock: &[u32; 4],
+    clock: &[u32; 5],
     slots: &[u32],
     rates: &mut [u32],
     input: u64,
@@ -130,7 +136,7 @@ pub extern "C" fn kivdrag_book_rate(
 // Takes slots that were booked by slots off a pair again.
 #[no_mangle]
 pub extern "C" fn kivdrag_release(
-    clock: &[u32; 4],
+    clock: &[u32; 5],
     slots: &mut [u32],
     rates: &[u32],
     input: u64,
@@ -149,7 +155,7 @@ pub extern "C" fn kivdrag_release(
 // Takes a rate off a pair again, in kbit/s.
 #[no_mangle]
 pub extern "C" fn kivdrag_release_rate(
-    clock: &[u32; 4],
+    clock: &[u32; 5],
     slots: &[u32],
     rates: &mut [u32],
     input: u64,
@@ -167,7 +173,7 @@ pub extern "C" fn kivdrag_release_rate(
 // Tells how far a pair is from inequality (2) of the paper. The number is written beside a refusal too, as 0.
 #[no_mangle]
 pub extern "C" fn kivdrag_headroom(
-    clock: &[u32; 4],
+    clock: &[u32; 5],
     slots: &[u32],
     rates: &[u32],
     input: u64,
@@ -188,7 +194,7 @@ pub extern "C" fn kivdrag_headroom(
 // Tells what booking slots would give, and the sums that would follow.
 #[no_mangle]
 pub extern "C" fn kivdrag_preview_book(
-    clock: &[u32; 4],
+    clock: &[u32; 5],
     slots: &[u32],
     rates: &[u32],
     input: u64,
@@ -210,7 +216,7 @@ pub extern "C" fn kivdrag_preview_book(
 // Tells what booking a rate would give.
 #[no_mangle]
 pub extern "C" fn kivdrag_preview_book_rate(
-    clock: &[u32; 4],
+    clock: &[u32; 5],
     slots: &[u32],
     rates: &[u32],
     input: u64,
@@ -231,7 +237,7 @@ pub extern "C" fn kivdrag_preview_book_rate(
 // Tells what a release of slots would give.
 #[no_mangle]
 pub extern "C" fn kivdrag_preview_release(
-    clock: &[u32; 4],
+    clock: &[u32; 5],
     slots: &[u32],
     rates: &[u32],
     input: u64,
@@ -253,7 +259,7 @@ pub extern "C" fn kivdrag_preview_release(
 // Tells what a release of a rate would give.
 #[no_mangle]
 pub extern "C" fn kivdrag_preview_release_rate(
-    clock: &[u32; 4],
+    clock: &[u32; 5],
     slots: &[u32],
     rates: &[u32],
     input: u64,
@@ -274,7 +280,7 @@ pub extern "C" fn kivdrag_preview_release_rate(
 // Adds packets that arrived to a pair's queue.
 #[no_mangle]
 pub extern "C" fn kivdrag_arrive(
-    clock: &[u32; 4],
+    clock: &[u32; 5],
     queues: &mut [u32],
     input: u64,
     output: u64,
@@ -290,7 +296,7 @@ pub extern "C" fn kivdrag_arrive(
 // Runs the next slot of a direct switch.
 #[no_mangle]
 pub extern "C" fn kivdrag_tick_direct(
-    clock: &mut [u32; 4],
+    clock: &mut [u32; 5],
     slots: &[u32],
     rates: &[u32],
     credits: &mut [u32],
@@ -312,7 +318,7 @@ pub extern "C" fn kivdrag_tick_direct(
 // Runs the next tick of a pipelined switch: every input has its turns for slots ahead, and the pairs of the next slot are handed out.
 #[no_mangle]
 pub extern "C" fn kivdrag_tick_pipelined(
-    clock: &mut [u32; 4],
+    clock: &mut [u32; 5],
     slots: &[u32],
     rates: &[u32],
     credits: &mut [u32],

@@ -9,7 +9,7 @@ use wsgs::TickResult;
 // Writes the clock, the outputs and the pass-one word of a tick, and gives its refusal.
 pub fn put_result(
     result: TickResult,
-    clock: &mut [u32; 4],
+    clock: &mut [u32; 5],
     outputs: &mut [u8; 32],
     first_pass: &mut u32,
 ) -> u32

@@ -1,5 +1,6 @@
 -- Laws of starts: what a refused one leaves, and what an accepted one does. Assumes nothing.
 use mathlib.Core.Path.{_≡_, sym, _∙_}
+use mathlib.Core.Bool.{Bool}
 use mathlib.Core.Logic.{_≢_}
 use mathlib.Core.List.{List}
 use Prim.Native.Nat.{ℕ, _*_}
@@ -20,20 +21,20 @@ pub start-stays : {Runs : Type 0} (r refusal : ℕ) (c : Clock) (w : Runs) (done
 start-stays r refusal c w done e h = rw (ne-eqb refusal 0 (λ d. h (e ∙ d)), e)
 
 -- DIRECT
-module _ (n f b : ℕ) (w : Direct.Runs) (c : Clock) where
+module _ (n f b : ℕ) (g : Bool) (w : Direct.Runs) (c : Clock) where
   -- what a refused one leaves
   pub direct-stays : (r : ℕ) → r ≡ Direct.start-refusal n f b w → r ≢ 0
-      → effect (record { refusal = r; clock = c }) w ≡ start-effect (Direct.start n f b c w)
+      → effect (record { refusal = r; clock = c }) w ≡ start-effect (Direct.start n f b g c w)
   unfolding Direct.start
-  direct-stays r = start-stays r _ c w (Direct.started n f b w)
+  direct-stays r = start-stays r _ c w (Direct.started n f b g w)
 
   -- and an accepted one
   pub direct-clears : 0 ≡ Direct.start-refusal n f b w
-      → (clock : Clock) → clock ≡ first-clock n f b
+      → (clock : Clock) → clock ≡ first-clock n f b g
       → (s r k q v : List ℕ)
       → (s ≡ clear-words (n * n) (w .book .slots)) × ((r ≡ clear-words (n * n) (w .book .rates))
       × ((k ≡ clear-words (n * n) (w .credits)) × ((q ≡ clear-words (n * n) (w .queues)) × (v ≡ clear-words n (w .given)))))
-      → effect (record { refusal = 0; clock = clock }) (direct-runs-of s r k q v) ≡ start-effect (Direct.start n f b c w)
+      → effect (record { refusal = 0; clock = clock }) (direct-runs-of s r k q v) ≡ start-effect (Direct.start n f b g c w)
   unfolding Direct.start
   direct-clears e clock h s r k q v l =
       let long = direct-asked n f b w e .1 in
@@ -42,24 +43,24 @@ module _ (n f b : ℕ) (w : Direct.Runs) (c : Clock) where
       (rw (clear-fits _ _ (long .given))))
 
 -- PIPELINED
-module _ (n f b : ℕ) (w : Pipelined.Runs) (c : Clock) where
+module _ (n f b : ℕ) (g : Bool) (w : Pipelined.Runs) (c : Clock) where
   -- what a refused one leaves
   pub pipelined-stays : (r : ℕ) → r ≡ Pipelined.start-refusal n f b w → r ≢ 0
-      → effect (record { refusal = r; clock = c }) w ≡ start-effect (Pipelined.start n f b c w)
+      → effect (record { refusal = r; clock = c }) w ≡ start-effect (Pipelined.start n f b g c w)
   unfolding Pipelined.start
-  pipelined-stays r = start-stays r _ c w (Pipelined.started n f b w)
+  pipelined-stays r = start-stays r _ c w (Pipelined.started n f b g w)
 
   -- and an accepted one
   pub pipelined-clears : 0 ≡ Pipelined.start-refusal n f b w
-      → (clock : Clock) → clock ≡ first-clock n f b
+      → (clock : Clock) → clock ≡ first-clock n f b g
       → (s r k q v p t : List ℕ)
       → (s ≡ clear-words (n * n) (w .book .slots)) × ((r ≡ clear-words (n * n) (w .book .rates))
       × ((k ≡ clear-words (n * n) (w .credits)) × ((q ≡ clear-words (n * n) (w .queues)) × (v ≡ clear-words n (w .given)))))
       → (p ≡ clear-words (n * n) (w .copy)) × (t ≡ clear-words (2 * n * n) (w .flight))
-      → effect (record { refusal = 0; clock = clock }) (pipelined-runs-of s r k q v p t) ≡ start-effect (Pipelined.start n f b c w)
+      → effect (record { refusal = 0; clock = clock }) (pipelined-runs-of s r k q v p t) ≡ start-effect (Pipelined.start n f b g c w)
   unfolding Pipelined.start
-  pipelined-clears e clock h s r k q v p t l g =
+  pipelined-clears e clock h s r k q v p t l m =
       let long = pipelined-asked n f b w e .2 in
-      rw (h, l .0, l .1 .0, l .1 .1 .0, l .1 .1 .1 .0, l .1 .1 .1 .1, g .0, g .1, eq-eqb (Pipelined.start-refusal n f b w) 0 (sym e))
+      rw (h, l .0, l .1 .0, l .1 .1 .0, l .1 .1 .1 .0, l .1 .1 .1 .1, m .0, m .1, eq-eqb (Pipelined.start-refusal n f b w) 0 (sym e))
       (rw (clear-fits _ _ (long .slots), clear-fits _ _ (long .rates), clear-fits _ _ (long .sized .credits))
       (rw (clear-fits _ _ (long .sized .queues), clear-fits _ _ (long .sized .given), clear-fits _ _ (long .copy), clear-fits _ _ (long .sized .flight))))

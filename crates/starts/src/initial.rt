@@ -7,16 +7,17 @@ ghost use Rattle.questions.specs.Refusals.{StartInRange};
 use words::clear_words;
 use wsgs::Clock;
 
-// The clock of numbers in range, before the first slot.
-pub fn first_clock(ports: u64, frame: u64, line: u64) -> Clock
+// The clock of numbers in range, before the first slot, with the word for the kind of the book.
+pub fn first_clock(ports: u64, frame: u64, line: u64, fine: bool) -> Clock
     requires start_in_range { ⌜ StartInRange ports frame line ⌝ }
-    ensures result { λ r. ⌜ r ≡ first-clock ports frame line ⌝ }
+    ensures result { λ r. ⌜ r ≡ first-clock ports frame line fine ⌝ }
 {
     Clock {
         ports: ports as u32,
         frame: frame as u32,
         slot: 0,
         line: line as u32,
+        fine: fine as u32,
     }
 }
 

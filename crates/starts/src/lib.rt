@@ -15,11 +15,12 @@ use questions::pipelined_start_refusal;
 use wsgs::Clock;
 use wsgs::StartResult;
 
-// Starts a direct switch.
+// Starts a direct switch, with a plain book or a fine one.
 pub fn start_direct(
     ports: u64,
     frame: u64,
     line: u64,
+    fine: bool,
     clock: Clock,
     slots: &mut [u32],
     rates: &mut [u32],
@@ -29,7 +30,7 @@ pub fn start_direct(
 ) -> StartResult
     ensures outcome { λ r. ⌜ effect r
         (direct-runs-of (now (slots .exit)) (now (rates .exit)) (now (credits .exit)) (now (queues .exit)) (now (given .exit)))
-        ≡ start-effect (Direct.start ports frame line clock
+        ≡ start-effect (Direct.start ports frame line fine clock
         (direct-runs-of (now (slots .entry)) (now (rates .entry)) (now (credits .entry)) (now (queues .entry)) (now (given .entry)))) ⌝ }
 {
     let refusal = direct_start_refusal(ports, frame, line, slots, rates, credits, queues, given);
@@ -39,15 +40,16 @@ pub fn start_direct(
     clear_runs(ports, slots, rates, credits, queues, given);
     StartResult {
         refusal: 0,
-        clock: first_clock(ports, frame, line),
+        clock: first_clock(ports, frame, line, fine),
     }
 }
 
-// Starts a pipelined switch.
+// Starts a pipelined switch, with a plain book or a fine one.
 pub fn start_pipelined(
     ports: u64,
     frame: u64,
     line: u64,
+    fine: bool,
     clock: Clock,
     slots: &mut [u32],
     rates: &mut [u32],
@@ -60,7 +62,7 @@ pub fn start_pipelined(
     ensures outcome { λ r. ⌜ effect r
         (pipelined-runs-of (now (slots .exit)) (now (rates .exit)) (now (credits .exit)) (now (queues .exit))
         (now (given .exit)) (now (copy .exit)) (now (flight .exit)))
-        ≡ start-effect (Pipelined.start ports frame line clock
+        ≡ start-effect (Pipelined.start ports frame line fine clock
         (pipelined-runs-of (now (slots .entry)) (now (rates .entry)) (now (credits .entry)) (now (queues .entry))
         (now (given .entry)) (now (copy .entry)) (now (flight .entry)))) ⌝ }
 {
@@ -83,6 +85,6 @@ pub fn start_pipelined(
     clear_pipeline(ports, copy, flight);
     StartResult {
         refusal: 0,
-        clock: first_clock(ports, frame, line),
+        clock: first_clock(ports, frame, line, fine),
     }
 }

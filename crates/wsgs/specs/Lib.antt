@@ -5,8 +5,8 @@ pub mod Words
 pub mod Bookings
 pub mod Frames
 pub mod Steps
-pub mod Rule
 pub mod Questions
+pub mod Rule
 pub mod Book
 pub mod Headroom
 pub mod Preview

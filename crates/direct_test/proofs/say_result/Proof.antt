@@ -5,10 +5,10 @@ use Rattle.direct_test.proofs.say_result.Statement.{statement}
 use Rattle.direct_test.proofs.say_result.Tie as tie
 
 abbrev Inv-loop : tie.InvT-loop
-Inv-loop outputs first-pass place₀ t8 place = place ≤ 32
+Inv-loop outputs first-pass place₀ t10 place = place ≤ 32
 
 abbrev μ-loop : tie.MeasureT-loop
-μ-loop outputs first-pass place₀ t8 place = 32 - place
+μ-loop outputs first-pass place₀ t10 place = 32 - place
 
 slice-aggregate-say-number : tie.Need-slice-aggregate-say-number Inv-loop μ-loop
 slice-aggregate-say-number c = search needs
@@ -27,6 +27,15 @@ cast-say-number-2 c = search needs
 
 say-number-requires-2 : tie.Need-say-number-requires-2 Inv-loop μ-loop
 say-number-requires-2 c κs = search needs
+
+slice-aggregate-say-number-3 : tie.Need-slice-aggregate-say-number-3 Inv-loop μ-loop
+slice-aggregate-say-number-3 c = search needs
+
+cast-say-number-3 : tie.Need-cast-say-number-3 Inv-loop μ-loop
+cast-say-number-3 c = search needs
+
+say-number-requires-3 : tie.Need-say-number-requires-3 Inv-loop μ-loop
+say-number-requires-3 c κs = search needs
 
 slice-aggregate-say : tie.Need-slice-aggregate-say Inv-loop μ-loop
 slice-aggregate-say c = search needs
@@ -52,14 +61,14 @@ loop-less c = search needs
 loop-again : tie.Need-loop-again Inv-loop μ-loop
 loop-again c = search needs
 
-slice-aggregate-say-number-3 : tie.Need-slice-aggregate-say-number-3 Inv-loop μ-loop
-slice-aggregate-say-number-3 c = search needs
+slice-aggregate-say-number-4 : tie.Need-slice-aggregate-say-number-4 Inv-loop μ-loop
+slice-aggregate-say-number-4 c = search needs
 
-cast-say-number-3 : tie.Need-cast-say-number-3 Inv-loop μ-loop
-cast-say-number-3 c = search needs
+cast-say-number-4 : tie.Need-cast-say-number-4 Inv-loop μ-loop
+cast-say-number-4 c = search needs
 
-say-number-requires-3 : tie.Need-say-number-requires-3 Inv-loop μ-loop
-say-number-requires-3 c κs = search needs
+say-number-requires-4 : tie.Need-say-number-requires-4 Inv-loop μ-loop
+say-number-requires-4 c κs = search needs
 
 returns : tie.Need-returns Inv-loop μ-loop
 returns c = search needs
@@ -76,6 +85,9 @@ say-result-spec =
     slice-aggregate-say-number-2
     cast-say-number-2
     say-number-requires-2
+    slice-aggregate-say-number-3
+    cast-say-number-3
+    say-number-requires-3
     slice-aggregate-say
     say-requires
     loop-holds
@@ -84,7 +96,7 @@ say-result-spec =
     add-place
     loop-less
     loop-again
-    slice-aggregate-say-number-3
-    cast-say-number-3
-    say-number-requires-3
+    slice-aggregate-say-number-4
+    cast-say-number-4
+    say-number-requires-4
     returns)

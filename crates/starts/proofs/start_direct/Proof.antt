@@ -45,7 +45,7 @@ same-length-5 : tie.Need-same-length-5
 same-length-5 c = search needs
 
 returns : tie.Need-returns
-returns c = direct-stays _ _ _ (runs (start (c .before))) _ _ (c .before .direct-start-refusal .ensures) (c .if1 .taken)
+returns c = direct-stays _ _ _ _ (runs (start (c .before))) _ _ (c .before .direct-start-refusal .ensures) (c .if1 .taken)
 
 clear-runs-requires : tie.Need-clear-runs-requires
 clear-runs-requires c κs = numbers (c .before .before .before .before .before) .sizes .ports .1
@@ -72,7 +72,7 @@ returns-2 : tie.Need-returns-2
 returns-2 c =
     let w = c .before .before .before .before .before .before .before .before .before .before .before in
     let e = asked w in
-    direct-clears _ _ _ (runs (start (e .before))) _ (passed e) _ (c .first-clock .ensures) _ _ _ _ _ (w .clear-runs .ensures)
+    direct-clears _ _ _ _ (runs (start (e .before))) _ (passed e) _ (c .first-clock .ensures) _ _ _ _ _ (w .clear-runs .ensures)
 
 pub start-direct-spec : {M : Type 1} → statement M
 start-direct-spec =

@@ -56,7 +56,7 @@ same-length-7 : tie.Need-same-length-7
 same-length-7 c = search needs
 
 returns : tie.Need-returns
-returns c = pipelined-stays _ _ _ (runs (start (c .before))) _ _ (c .before .pipelined-start-refusal .ensures) (c .if1 .taken)
+returns c = pipelined-stays _ _ _ _ (runs (start (c .before))) _ _ (c .before .pipelined-start-refusal .ensures) (c .if1 .taken)
 
 clear-runs-requires : tie.Need-clear-runs-requires
 clear-runs-requires c κs = numbers (c .before .before .before .before .before) .sizes .ports .1
@@ -93,7 +93,7 @@ returns-2 c =
     let v = c .before .before .before .before .before in
     let w = shared v in
     let e = asked w in
-    pipelined-clears _ _ _ (runs (start (e .before))) _ (passed e) _ (c .first-clock .ensures)
+    pipelined-clears _ _ _ _ (runs (start (e .before))) _ (passed e) _ (c .first-clock .ensures)
     _ _ _ _ _ _ _ (w .clear-runs .ensures) (v .clear-pipeline .ensures)
 
 pub start-pipelined-spec : {M : Type 1} → statement M

@@ -11,8 +11,7 @@ use lib.Dec.{T, eqb, leb, leb→le, le→leb}
 use borrow.Author.Tests.{eq-eqb, ne-eqb}
 use Rattle.wsgs.specs.Basics.{pick, Port, sum, sum-without, all-of, updated₂}
 use Rattle.wsgs.specs.Bookings.{row-sum, column-sum}
-use Rattle.wsgs.specs.Rule.{with-more, booked-fits, sharing-fit}
-use Rattle.wsgs.specs.Questions.{Question, rule}
+use Rattle.wsgs.specs.Rule.{with-more, booked-fits, sharing-fit, rule}
 use Rattle.wsgs.specs.Claims.{Fits, Admits}
 use Rattle.wsgs.proofs.Laws.Tests.{both, join}
 use Rattle.wsgs.proofs.Laws.Sums.{sum-le, sum-ext, sum-zero, sum-parts, row-changed, column-changed}
