@@ -5,6 +5,8 @@ mod plain;
 mod switch;
 
 use compare::calls::exported::*;
+use compare::Random;
+use std::collections::BTreeSet;
 use std::fmt::Write;
 use std::hint::black_box;
 use std::time::Instant;
@@ -170,7 +172,7 @@ fn frame_ticks(pipelined: bool, n: usize, reads: bool, rates: bool) -> [Work<'st
     [Box::new(by_library), Box::new(by_hand)]
 }
 
-/// The calls on the book that take the sums of an input and of an output.
+/// The calls on the book that take sums of bookings.
 #[derive(Clone, Copy)]
 enum OnSums {
     BySlots,
@@ -179,72 +181,121 @@ enum OnSums {
     Preview,
 }
 
-/// Accepted calls, on a book without rates and on one with a rate for every pair.
+const KINDS: [(u32, &str); 2] = [(0, "plain"), (1, "fine")];
+
+/// What each pair of a book holds: slots, a rate, and how that is named.
+type Held = (u32, u32, &'static str);
+
+const HELD: [Held; 3] = [(0, 0, "nothing"), (100, 0, "slots"), (0, 1_000, "a rate")];
+
+/// Accepted calls, on plain books and on fine ones; headroom, which does not ask for the kind, on plain ones.
 fn bookings() -> Table {
     let mut table = Table::new(
-        "| call | rates in the book | N | proved, million a second | plain Rust, million a second | ratio |",
-        "call,rates,ports,proved_ns,plain_ns",
+        "| call | book | each pair holds | N | proved, million a second | plain Rust, million a second | ratio |",
+        "call,book,held,ports,proved_ns,plain_ns",
     );
     let calls = [
-        (OnSums::BySlots, "booking by slots"),
-        (OnSums::ByRate, "booking by rate"),
-        (OnSums::Headroom, "headroom"),
-        (OnSums::Preview, "preview of a booking by slots"),
+        (OnSums::BySlots, "booking by slots", &KINDS[..]),
+        (OnSums::ByRate, "booking by rate", &KINDS),
+        (OnSums::Headroom, "headroom", &KINDS[..1]),
+        (OnSums::Preview, "preview of a booking by slots", &KINDS),
     ];
-    for (call, name) in calls {
-        for (held, rates) in [(0, "none"), (1_000, "all pairs")] {
+    for (call, name, kinds) in calls {
+        for (&(fine, kind), held) in kinds.iter().flat_map(|kind| HELD.map(|held| (kind, held))) {
             for n in PORTS {
-                let t = calls_on_sums(n, call, held);
-                writeln!(table.markdown, "| {name} | {rates} | {n} | {:.1} | {:.1} | {:.2} |", 1e3 / t[0], 1e3 / t[1], t[1] / t[0]).unwrap();
-                writeln!(table.values, "{name},{rates},{n},{:.1},{:.1}", t[0], t[1]).unwrap();
+                let t = calls_on_sums([n as u32, 10_000, 0, LINE, fine], call, held);
+                let row = format!("{name} | {kind} | {} | {n}", held.2);
+                writeln!(table.markdown, "| {row} | {:.1} | {:.1} | {:.2} |", 1e3 / t[0], 1e3 / t[1], t[1] / t[0]).unwrap();
+                writeln!(table.values, "{},{:.1},{:.1}", row.replace(" | ", ","), t[0], t[1]).unwrap();
             }
         }
     }
     table
 }
 
-/// The number of a call that answers more, which goes to its place.
-fn both<T>((refusal, answer): (u32, T), place: &mut T) -> u32 {
-    *place = answer;
-    refusal
+/// Slots and rates.
+type Book = (Vec<u32>, Vec<u32>);
+
+/// What a call on the book gives: the number, a headroom, and the sums of a preview; 0 for what it has not.
+type Reply = (u32, i64, [u64; 2]);
+
+#[inline(always)]
+fn on_book_by_library(call: OnSums, clock: &plain::Clock, (slots, rates): &mut Book, [i, j, amount]: [u64; 3]) -> Reply {
+    let (clock, u, v) = (clock.as_ptr(), slots.len(), rates.len());
+    let (mut headroom, mut row, mut column) = (0, 0, 0);
+    let refusal = unsafe {
+        match call {
+            OnSums::BySlots => kivdrag_book(clock, slots.as_mut_ptr(), u, rates.as_ptr(), v, i, j, amount),
+            OnSums::ByRate => kivdrag_book_rate(clock, slots.as_ptr(), u, rates.as_mut_ptr(), v, i, j, amount),
+            OnSums::Headroom => kivdrag_headroom(clock, slots.as_ptr(), u, rates.as_ptr(), v, i, j, &mut headroom),
+            OnSums::Preview => kivdrag_preview_book(clock, slots.as_ptr(), u, rates.as_ptr(), v, i, j, amount, &mut row, &mut column),
+        }
+    };
+    (refusal, headroom, [row, column])
 }
 
-/// Nanoseconds of a call for the pair (1, 1), whose words are set back before each: proved, and plain. Every pair holds the rate.
-fn calls_on_sums(n: usize, call: OnSums, held: u32) -> Vec<f64> {
-    let clock = [n as u32, 10_000, 0, LINE];
-    let book = (vec![0u32; n * n], vec![held; n * n]);
+#[inline(always)]
+fn on_book_by_hand(call: OnSums, clock: &plain::Clock, (slots, rates): &mut Book, [i, j, amount]: [u64; 3]) -> Reply {
+    match call {
+        OnSums::BySlots => (plain::book(clock, slots, rates, i, j, amount), 0, [0; 2]),
+        OnSums::ByRate => (plain::book_rate(clock, slots, rates, i, j, amount), 0, [0; 2]),
+        OnSums::Headroom => {
+            let (refusal, headroom) = plain::headroom(clock, slots, rates, i, j);
+            (refusal, headroom, [0; 2])
+        }
+        OnSums::Preview => {
+            let (refusal, sums) = plain::preview_book(clock, slots, rates, i, j, amount);
+            (refusal, 0, sums)
+        }
+    }
+}
+
+/// Library and plain Rust give the same replies and words for some thousand calls on a book that fills up and from which pairs are taken again.
+fn agree_on_book(r: &mut Random, n: u64, fine: u32) {
+    let (clock, pairs) = ([n as u32, 40, 0, 4_000, fine], (n * n) as usize);
+    let (mut a, mut met): (Book, _) = ((vec![0; pairs], vec![0; pairs]), BTreeSet::new());
+    for _ in 0..5_000 {
+        let (call, slots) = (r.of(&[OnSums::BySlots, OnSums::ByRate, OnSums::Headroom, OnSums::Preview]), r.within(1, 12));
+        let amount = if matches!(call, OnSums::ByRate) { 100 * slots - r.within(0, 99) } else { slots };
+        let (request, mut b) = ([r.within(1, n), r.within(1, n), amount], a.clone());
+        let (x, y) = (on_book_by_library(call, &clock, &mut a, request), on_book_by_hand(call, &clock, &mut b, request));
+        assert!((x, &a) == (y, &b));
+        met.insert(x.0);
+        if r.one_in(3) {
+            let at = r.within(1, pairs as u64) as usize - 1;
+            (a.0[at], a.1[at]) = (0, 0);
+        }
+    }
+    let numbers = match (fine, n) {
+        (0, 1) => vec![0, 8],
+        (0, _) => vec![0, 8, 9],
+        _ => vec![0, 15],
+    };
+    assert!(met.into_iter().eq(numbers));
+}
+
+/// Nanoseconds of a call for the pair (1, 1), whose words are set back before each: proved, and plain. Every pair holds the same.
+fn calls_on_sums(clock: plain::Clock, call: OnSums, (slots, rate, _): Held) -> Vec<f64> {
+    let n = clock[0] as u64;
+    let book = (vec![slots; (n * n) as usize], vec![rate; (n * n) as usize]);
+    let request = [1, 1, if matches!(call, OnSums::ByRate) { 950 } else { 9 }];
     let (mut a, mut b) = (book.clone(), book);
     let mut by_library = || {
-        (a.0[0], a.1[0]) = (0, held);
-        let (slots, rates, mut headroom, mut row, mut column) = (&mut a.0, &mut a.1, 0, 0, 0);
-        let (k, u, v) = (clock.as_ptr(), slots.len(), rates.len());
-        let refusal = unsafe {
-            match call {
-                OnSums::BySlots => kivdrag_book(k, slots.as_mut_ptr(), u, rates.as_ptr(), v, 1, 1, 9),
-                OnSums::ByRate => kivdrag_book_rate(k, slots.as_ptr(), u, rates.as_mut_ptr(), v, 1, 1, 950),
-                OnSums::Headroom => kivdrag_headroom(k, slots.as_ptr(), u, rates.as_ptr(), v, 1, 1, &mut headroom),
-                OnSums::Preview => kivdrag_preview_book(k, slots.as_ptr(), u, rates.as_ptr(), v, 1, 1, 9, &mut row, &mut column),
-            }
-        };
-        black_box((refusal, slots[0], rates[0], headroom, [row, column]))
+        (a.0[0], a.1[0]) = (slots, rate);
+        let reply = on_book_by_library(call, black_box(&clock), black_box(&mut a), request);
+        black_box((reply, a.0[0], a.1[0]))
     };
     let mut by_hand = || {
-        (b.0[0], b.1[0]) = (0, held);
-        let (mut headroom, mut sums) = (0, [0; 2]);
-        let refusal = match call {
-            OnSums::BySlots => plain::book(&clock, &mut b.0, &b.1, 1, 1, 9),
-            OnSums::ByRate => plain::book_rate(&clock, &b.0, &mut b.1, 1, 1, 950),
-            OnSums::Headroom => both(plain::headroom(&clock, &b.0, &b.1, 1, 1), &mut headroom),
-            OnSums::Preview => both(plain::preview_book(&clock, &b.0, &b.1, 1, 1, 9), &mut sums),
-        };
-        black_box((refusal, b.0[0], b.1[0], headroom, sums))
+        (b.0[0], b.1[0]) = (slots, rate);
+        let reply = on_book_by_hand(call, black_box(&clock), black_box(&mut b), request);
+        black_box((reply, b.0[0], b.1[0]))
     };
-    let booked = (held as u64 * 10_000).div_ceil(LINE as u64);
+    let booked = slots as u64 + (rate as u64 * 10_000).div_ceil(LINE as u64);
     let expected = match call {
-        OnSums::BySlots => (0, 9, held, 0, [0; 2]),
-        OnSums::ByRate => (0, 0, held + 950, 0, [0; 2]),
-        OnSums::Headroom => (0, 0, held, 10_000 - ((2 * n as u64 - 1) * booked) as i64, [0; 2]),
-        OnSums::Preview => (0, 0, held, 0, [n as u64 * booked + 9; 2]),
+        OnSums::BySlots => ((0, 0, [0; 2]), slots + 9, rate),
+        OnSums::ByRate => ((0, 0, [0; 2]), slots, rate + 950),
+        OnSums::Headroom => ((0, 10_000 - ((2 * n - 1) * booked) as i64, [0; 2]), slots, rate),
+        OnSums::Preview => ((0, 0, [n * booked + 9; 2]), slots, rate),
     };
     assert_eq!((by_library(), by_hand()), (expected, expected));
     nanoseconds(20_000, vec![vec![Box::new(|| _ = by_library()), Box::new(|| _ = by_hand())]])
@@ -252,6 +303,8 @@ fn calls_on_sums(n: usize, call: OnSums, held: u32) -> Vec<f64> {
 
 fn main() {
     let folder = std::env::args().nth(1).expect("usage: bench FOLDER");
+    let mut r = Random::new(1);
+    [1, 2, 4, 8, 32].into_iter().flat_map(|n| KINDS.map(|(fine, _)| (n, fine))).for_each(|(n, fine)| agree_on_book(&mut r, n, fine));
     warm_up();
     ticks().write(&folder, "ticks");
     frames().write(&folder, "frames");

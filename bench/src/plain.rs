@@ -1,6 +1,7 @@
 //! A plain Rust scheduler of the same rules on the same words, written for speed as one would by hand: masks of free outputs, rows as
 //! slices swept once for words above 0, no loop over outputs, no row in flight read where nothing is asked for, no check twice, no division for a
-//! pair without a rate. It answers what the proved library answers; main.rs compares them before it measures.
+//! pair without a rate, no sums of all rows and columns where a fine book holds nothing else on the two ports. It answers what the proved library
+//! answers; main.rs compares them before it measures.
 
 pub struct Answer {
     pub refusal: u32,
@@ -14,8 +15,8 @@ fn refused(refusal: u32) -> Answer {
     Answer { refusal, ..NOTHING }
 }
 
-/// Ports, frame, last slot run, line rate.
-pub type Clock = [u32; 4];
+/// Ports, frame, last slot run, line rate, kind of book.
+pub type Clock = [u32; 5];
 
 fn sizes(clock: &Clock) -> u32 {
     match clock {
@@ -266,7 +267,7 @@ fn column_sum(clock: &Clock, slots: &[u32], rates: &[u32], j: usize) -> u64 {
     sum(clock, slots[j..n * n].iter().step_by(n), rates[j..n * n].iter().step_by(n))
 }
 
-/// The questions on these sums, with d more.
+/// The questions of a plain book on these sums, with d more.
 #[inline(always)]
 fn sums_admit(clock: &Clock, slots: &[u32], rates: &[u32], (i, j): (usize, usize), d: u64) -> Result<(), u32> {
     let limit = clock[1] as u64 + 1;
@@ -279,12 +280,63 @@ fn sums_admit(clock: &Clock, slots: &[u32], rates: &[u32], (i, j): (usize, usize
     Ok(())
 }
 
+/// The sums of all rows and of all columns, for which each word is read once; the compiler makes vector instructions of rows without a rate.
+fn all_sums(clock: &Clock, slots: &[u32], rates: &[u32]) -> [[u64; 32]; 2] {
+    let n = clock[0] as usize;
+    let [mut rows, mut columns] = [[0; 32]; 2];
+    for ((slots, rates), row) in slots.chunks_exact(n).zip(rates.chunks_exact(n)).zip(&mut rows[..n]) {
+        let mut add = |y: usize, a: u64| {
+            *row += a;
+            columns[y] += a;
+        };
+        if any_rate(rates.iter()) {
+            (0..n).for_each(|y| add(y, booking(clock, slots[y], rates[y])));
+        } else {
+            (0..n).for_each(|y| add(y, slots[y] as u64));
+        }
+    }
+    [rows, columns]
+}
+
+/// Whether the words of row i and of column j are 0 beside the one in both.
+fn nothing_else(n: usize, words: &[u32], (i, j): (usize, usize)) -> bool {
+    let (row, column) = (words[i * n..(i + 1) * n].iter(), words[j..n * n].iter().step_by(n));
+    row.enumerate().all(|(y, &word)| y == j || word == 0) && column.enumerate().all(|(x, &word)| x == i || word == 0)
+}
+
+/// Whether a fine book admits d more, and the sums of row i and of column j with it.
+fn fine_admits(clock: &Clock, slots: &[u32], rates: &[u32], (i, j): (usize, usize), d: u64) -> (bool, [u64; 2]) {
+    let (n, f) = (clock[0] as usize, clock[1] as u64);
+    if nothing_else(n, slots, (i, j)) && nothing_else(n, rates, (i, j)) {
+        let after = booking(clock, slots[i * n + j], rates[i * n + j]) + d;
+        return (after <= f, [after; 2]);
+    }
+    let [rows, columns] = all_sums(clock, slots, rates);
+    let a = |x: usize, y: usize| booking(clock, slots[x * n + y], rates[x * n + y]);
+    let fits = |x: usize, y: usize, a: u64| rows[x] + columns[y] - a + d <= f;
+    let booked_fits = |x, y| a(x, y) == 0 || fits(x, y, a(x, y));
+    let admits = fits(i, j, a(i, j)) && (0..n).all(|y| booked_fits(i, y)) && (0..n).all(|x| booked_fits(x, j));
+    (admits, [rows[i] + d, columns[j] + d])
+}
+
+/// The questions of the book's rule on d more.
+#[inline(always)]
+fn rule(clock: &Clock, slots: &[u32], rates: &[u32], pair: (usize, usize), d: u64) -> Result<(), u32> {
+    if clock[4] == 0 {
+        sums_admit(clock, slots, rates, pair, d)
+    } else if fine_admits(clock, slots, rates, pair, d).0 {
+        Ok(())
+    } else {
+        Err(15)
+    }
+}
+
 fn try_book(clock: &Clock, slots: &mut [u32], rates: &[u32], input: u64, output: u64, amount: u64) -> Result<(), u32> {
     let (i, j) = on_pair(clock, slots, rates, input, output)?;
     if amount == 0 || amount > clock[1] as u64 {
         return Err(6);
     }
-    sums_admit(clock, slots, rates, (i, j), amount)?;
+    rule(clock, slots, rates, (i, j), amount)?;
     slots[i * clock[0] as usize + j] += amount as u32;
     Ok(())
 }
@@ -296,7 +348,7 @@ fn try_book_rate(clock: &Clock, slots: &[u32], rates: &mut [u32], input: u64, ou
     }
     let at = i * clock[0] as usize + j;
     let rise = with_rate(clock, slots[at], rates[at] as u64 + rate) - booking(clock, slots[at], rates[at]);
-    sums_admit(clock, slots, rates, (i, j), rise)?;
+    rule(clock, slots, rates, (i, j), rise)?;
     rates[at] += rate as u32;
     Ok(())
 }
@@ -321,6 +373,10 @@ fn try_preview_book(clock: &Clock, slots: &[u32], rates: &[u32], input: u64, out
     let (i, j) = on_pair(clock, slots, rates, input, output)?;
     if amount == 0 || amount > clock[1] as u64 {
         return Err(6);
+    }
+    if clock[4] != 0 {
+        let (admits, sums) = fine_admits(clock, slots, rates, (i, j), amount);
+        return Ok((if admits { 0 } else { 15 }, sums));
     }
     let sums = [row_sum(clock, slots, rates, i) + amount, column_sum(clock, slots, rates, j) + amount];
     let [row_fits, column_fits] = sums.map(|sum| 2 * sum <= clock[1] as u64 + 1);

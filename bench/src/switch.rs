@@ -26,7 +26,7 @@ impl Switch {
     fn new(n: usize) -> Switch {
         let run = || vec![0; n * n];
         Switch {
-            clock: [n as u32, FRAME, 0, LINE],
+            clock: [n as u32, FRAME, 0, LINE, 0],
             slots: run(),
             rates: run(),
             credits: run(),
@@ -122,7 +122,8 @@ pub fn by_hand(pipelined: bool, s: &mut Switch) -> plain::Answer {
 /// The second program's switch of the same contents, at the level in force.
 pub fn of_second(s: &Switch) -> second::Switch {
     let mut other = second::Switch::off(compare::rules());
-    [other.clock.ports, other.clock.frame, other.clock.last, other.clock.line] = s.clock;
+    [other.clock.ports, other.clock.frame, other.clock.last, other.clock.line, _] = s.clock;
+    other.clock.fine = s.clock[4] != 0;
     let w = &mut other.words;
     (w.slots, w.rates, w.credits, w.queues) = (s.slots.clone(), s.rates.clone(), s.credits.clone(), s.queues.clone());
     (w.given, w.copy, w.flight) = (s.given.clone(), s.copy.clone(), s.flight.clone());

@@ -2,10 +2,11 @@
 //!
 //! The list opens with an accepted start; its starts and ticks are direct for an even seed, pipelined for an odd one. The lines are:
 //!
-//! - `clock N F SLOT LINE` and `run NAME WORD ..`: the switch that the list finds, of any words, in runs for three ports;
+//! - `clock N F SLOT LINE FINE` and `run NAME WORD ..`: the switch that the list finds, of any words, in runs for three ports;
 //! - `call REFUSAL CALL`: the calls in turn, written as crates/wsgs/specs/Switch.antt has them;
 //! - `lowest TICKS CLAIMS`: how many of the ticks would answer otherwise, and how many of the claims would be others, if each turn took the lowest
 //!   output that it may take;
+//! - `fine BOOKINGS`: how many bookings were accepted that a plain book would have refused;
 //! - `claim I J FIRST A M B SERVED`: every pair in every frame since the last accepted start;
 //! - `headroom I J REFUSAL NUMBER`: every pair after the last call, and two that the switch has not;
 //! - `preview OPERATION I J AMOUNT REFUSAL ROW COLUMN`: ten operations after the last call, of every kind.
@@ -43,6 +44,11 @@ impl Random {
 
     fn of<T: Copy>(&mut self, choices: &[T]) -> T {
         choices[self.within(0, choices.len() as u64 - 1) as usize]
+    }
+
+    /// Other numbers: what a level adds is drawn from these, so that what is drawn after it stays that of the level before.
+    fn apart(&self) -> Random {
+        Random(!self.0)
     }
 }
 
@@ -100,7 +106,7 @@ impl Operation {
 
 #[derive(Clone, Copy)]
 enum Call {
-    Start { form: Form, ports: u64, frame: u64, line: u64 },
+    Start { form: Form, ports: u64, frame: u64, line: u64, fine: bool },
     Book { input: u64, output: u64, slots: u64 },
     BookRate { input: u64, output: u64, rate: u64 },
     Release { input: u64, output: u64, slots: u64 },
@@ -121,7 +127,9 @@ fn name(form: Form) -> &'static str {
 impl fmt::Display for Call {
     fn fmt(&self, to: &mut fmt::Formatter) -> fmt::Result {
         match *self {
-            Call::Start { form, ports, frame, line } => write!(to, "start {} {ports} {frame} {line}", name(form)),
+            Call::Start { form, ports, frame, line, fine } => {
+                write!(to, "start {} {ports} {frame} {line} {}", name(form), if fine { "fine" } else { "plain" })
+            }
             Call::Book { input, output, slots } => write!(to, "book {input} {output} {slots}"),
             Call::BookRate { input, output, rate } => write!(to, "book-rate {input} {output} {rate}"),
             Call::Release { input, output, slots } => write!(to, "release {input} {output} {slots}"),
@@ -130,6 +138,26 @@ impl fmt::Display for Call {
             Call::Preview { operation, pair: (input, output), amount } => write!(to, "preview {operation} {input} {output} {amount}"),
             Call::Arrive { input, output, packets } => write!(to, "arrive {input} {output} {packets}"),
             Call::Tick { form } => write!(to, "tick {}", name(form)),
+        }
+    }
+}
+
+impl Call {
+    /// The call on a switch of this form.
+    fn on(self, form: Form, s: &mut Switch) -> Answer {
+        let number = |refusal| Answer { refusal, ..Answer::nobody() };
+        match self {
+            Call::Start { form: Form::Direct, ports, frame, line, fine } => number(s.start_direct(ports, frame, line, fine, false)),
+            Call::Start { form: Form::Pipelined, ports, frame, line, fine } => number(s.start_pipelined(ports, frame, line, fine)),
+            Call::Book { input, output, slots } => number(s.book(form, input, output, slots)),
+            Call::BookRate { input, output, rate } => number(s.book_rate(form, input, output, 0, rate)),
+            Call::Release { input, output, slots } => number(s.release(input, output, slots)),
+            Call::ReleaseRate { input, output, rate } => number(s.release_rate(input, output, rate)),
+            Call::Headroom { input, output } => number(s.headroom(input, output).0),
+            Call::Preview { operation, pair, amount } => number(operation.preview(form, s, pair, amount).refusal),
+            Call::Arrive { input, output, packets } => number(s.arrive(input, output, packets)),
+            Call::Tick { form: Form::Direct } => s.tick_direct(),
+            Call::Tick { form: Form::Pipelined } => s.tick_pipelined(),
         }
     }
 }
@@ -146,24 +174,12 @@ struct List {
 impl List {
     /// The call on the switch; the ledger is fed its arguments and its answer.
     fn put(&mut self, call: Call) {
-        let (form, s) = (self.form, &mut self.switch);
-        let number = |refusal| Answer { refusal, ..Answer::nobody() };
-        let answer = match call {
-            Call::Start { form: Form::Direct, ports, frame, line } => number(s.start_direct(ports, frame, line, false, false)),
-            Call::Start { form: Form::Pipelined, ports, frame, line } => number(s.start_pipelined(ports, frame, line, false)),
-            Call::Book { input, output, slots } => number(s.book(form, input, output, slots)),
-            Call::BookRate { input, output, rate } => number(s.book_rate(form, input, output, 0, rate)),
-            Call::Release { input, output, slots } => number(s.release(input, output, slots)),
-            Call::ReleaseRate { input, output, rate } => number(s.release_rate(input, output, rate)),
-            Call::Headroom { input, output } => number(s.headroom(input, output).0),
-            Call::Preview { operation, pair, amount } => number(operation.preview(form, s, pair, amount).refusal),
-            Call::Arrive { input, output, packets } => number(s.arrive(input, output, packets)),
-            Call::Tick { form: Form::Direct } => s.tick_direct(),
-            Call::Tick { form: Form::Pipelined } => s.tick_pipelined(),
-        };
+        let answer = call.on(self.form, &mut self.switch);
         let no = answer.refusal;
         match (call, &mut self.ledger) {
-            (Call::Start { form, ports, frame, line }, ledger) if no == 0 => *ledger = Some(Ledger::start(s.rules, form, ports, frame, line)),
+            (Call::Start { form, ports, frame, line, .. }, ledger) if no == 0 => {
+                *ledger = Some(Ledger::start(self.switch.rules, form, ports, frame, line))
+            }
             (Call::Start { .. }, _) => (),
             (_, None) => panic!("a list opens with an accepted start"),
             (Call::Book { input, output, slots }, Some(l)) => l.book(no, input, output, slots),
@@ -188,13 +204,14 @@ impl List {
         if self.random.one_in(4) { self.random.within(1, most) } else { 1 }
     }
 
-    /// A line rate of 0 seldom.
+    /// A line rate of 0 seldom; a fine book as often as a plain one.
     fn start(&mut self) {
+        let fine = self.random.apart().one_in(2);
         let ports = self.random.of(&[1, 2, 2, MOST_PORTS, MOST_PORTS]);
         let shortest = if self.form == Form::Pipelined { ports } else { self.random.of(&[1, 2, 3]) };
         let frame = self.random.within(shortest, LONGEST_FRAME);
         let line = if self.random.one_in(8) { 0 } else { self.random.of(&[7, 1_000, 1_000, 99_999_999, MAX_LINE_RATE]) };
-        self.put(Call::Start { form: self.form, ports, frame, line });
+        self.put(Call::Start { form: self.form, ports, frame, line, fine });
     }
 
     /// A rate of a third of a slot or more, or a little above, within the line rate.
@@ -257,9 +274,10 @@ impl List {
         self.put(Call::Arrive { input, output, packets });
     }
 
-    /// A call with a number out of range.
+    /// A call with a number out of range; a start asks for the other kind of book.
     fn out_of_range(&mut self) {
         let (form, n, f, line) = (self.form, self.switch.n(), self.switch.f(), self.switch.clock.line as u64);
+        let fine = !self.switch.clock.fine;
         let (input, output) = (self.port(), self.port());
         let r = &mut self.random;
         let far = r.of(&[0, n + 1, (1 << 32) + 1]);
@@ -268,10 +286,10 @@ impl List {
         let operation = r.of(&OPERATIONS);
         let (most, pair) = (operation.most(&self.switch), (input, output));
         let call = match r.within(0, 16) {
-            0 => Call::Start { form, ports: r.of(&[0, MAX_PORTS + 1]), frame: f, line },
-            1 => Call::Start { form, ports: n, frame: r.of(&[0, short, short, MAX_FRAME + 1]), line },
-            2 => Call::Start { form, ports: r.within(MOST_PORTS + 1, MAX_PORTS), frame: MAX_PORTS, line },
-            3 => Call::Start { form, ports: n, frame: f, line: MAX_LINE_RATE + 1 },
+            0 => Call::Start { form, ports: r.of(&[0, MAX_PORTS + 1]), frame: f, line, fine },
+            1 => Call::Start { form, ports: n, frame: r.of(&[0, short, short, MAX_FRAME + 1]), line, fine },
+            2 => Call::Start { form, ports: r.within(MOST_PORTS + 1, MAX_PORTS), frame: MAX_PORTS, line, fine },
+            3 => Call::Start { form, ports: n, frame: f, line: MAX_LINE_RATE + 1, fine },
             4 => Call::Book { input: i, output: j, slots: 1 },
             5 => Call::Book { input, output, slots: r.of(&[0, f + 1]) },
             6 => Call::BookRate { input: i, output: j, rate: 1 },
@@ -365,11 +383,14 @@ fn claims(list: &List) -> Vec<[u64; 7]> {
     list.ledger.as_ref().expect("a list opens with an accepted start").claims().into_iter().map(numbers).collect()
 }
 
-/// How many ticks of the list, and how many of its claims, are not as the lowest output would have them on the switch that the list found.
+/// How many ticks of the list, and how many of its claims, are not as the lowest output would have them on the switch that the list found. Only the
+/// ticks go by those rules, so that the book is the list's own.
 fn not_by_lowest(list: &List, found: &Switch) -> (usize, usize) {
-    let switch = Switch { rules: LOWEST, ..found.clone() };
-    let mut other = List { random: Random(0), form: list.form, switch, ledger: None, calls: Vec::new() };
-    list.calls.iter().for_each(|&(call, _)| other.put(call));
+    let mut other = List { random: Random(0), form: list.form, switch: found.clone(), ledger: None, calls: Vec::new() };
+    for &(call, _) in &list.calls {
+        other.switch.rules = if matches!(call, Call::Tick { .. }) { LOWEST } else { found.rules };
+        other.put(call);
+    }
     let otherwise = |((call, answer), (_, by_lowest)): &(&(Call, Answer), &(Call, Answer))| matches!(call, Call::Tick { .. }) && answer != by_lowest;
     let ticks = list.calls.iter().zip(&other.calls).filter(otherwise);
     let (is, by_lowest) = (claims(list), claims(&other));
@@ -377,10 +398,20 @@ fn not_by_lowest(list: &List, found: &Switch) -> (usize, usize) {
     (ticks.count(), is.iter().zip(&by_lowest).filter(|(is, by_lowest)| is != by_lowest).count())
 }
 
-/// A clock and words that no calls have to have left: the runs of both forms at the level, with something in each word. The last given outputs
-/// are drawn apart, so that the calls drawn after them are those of the level before.
+/// How many bookings of the list are accepted where a plain book would have refused them.
+fn above_plain(list: &List, found: &Switch) -> usize {
+    let (mut s, mut count) = (found.clone(), 0);
+    for &(call, _) in &list.calls {
+        let mut plain = Switch { clock: Clock { fine: false, ..s.clock }, ..s.clone() };
+        let accepted = [call.on(list.form, &mut s), call.on(list.form, &mut plain)].map(|answer| answer.refusal == 0);
+        count += (matches!(call, Call::Book { .. } | Call::BookRate { .. }) && accepted == [true, false]) as usize;
+    }
+    count
+}
+
+/// A clock and words that no calls have to have left: the runs of both forms at the level, with something in each word.
 fn any_switch(r: &mut Random, rules: Rules) -> Switch {
-    let mut apart = Random(!r.0);
+    let mut apart = r.apart();
     let (ports, frame, last) = (r.of(&[0, 1, 2, 3, 9, 33]), r.of(&[0, 1, 2, 5, 10_001]), r.of(&[0, 1, 5, 77, 4_000_000_000]));
     let line = r.of(&[0, 1, 1_000, 100_000_001]);
     let mut words = Words::default();
@@ -388,7 +419,7 @@ fn any_switch(r: &mut Random, rules: Rules) -> Switch {
         let r = if run == Run::Given { &mut apart } else { &mut *r };
         *words.run_mut(run) = (0..length(rules, run)).map(|_| r.of(&[1, 1, 2, 2, 3, 4, 7, 101, 102, 103, 104])).collect();
     }
-    Switch { rules, clock: Clock { ports, frame, last, line, ..Clock::default() }, words }
+    Switch { rules, clock: Clock { ports, frame, last, line, fine: apart.one_in(2), ..Clock::default() }, words }
 }
 
 /// How many words of a run a switch of either form uses.
@@ -401,8 +432,9 @@ fn main() {
     let &[level, seed] = &arguments[..] else { panic!("usage: ledgers LEVEL SEED") };
     let mut random = Random(seed);
     let switch = any_switch(&mut random, Rules { upto: level as u32 });
-    let Clock { ports, frame, last, line, .. } = switch.clock;
-    println!("clock {ports} {frame} {last} {line}");
+    let Clock { ports, frame, last, line, fine, .. } = switch.clock;
+    // a fine book by another word than a start sets
+    println!("clock {ports} {frame} {last} {line} {}", if fine { 7 } else { 0 });
     for run in EVERY_RUN.into_iter().filter(|&run| !switch.words.run(run).is_empty()) {
         let words: Vec<String> = switch.words.run(run).iter().map(u32::to_string).collect();
         println!("run {} {}", format!("{run:?}").to_lowercase(), words.join(" "));
@@ -422,6 +454,7 @@ fn main() {
     }
     let (ticks, others) = not_by_lowest(&list, &found);
     println!("lowest {ticks} {others}");
+    println!("fine {}", above_plain(&list, &found));
     for [i, j, first, booked, others, waited, served] in claims(&list) {
         println!("claim {i} {j} {first} {booked} {others} {waited} {served}");
     }

@@ -5,11 +5,14 @@ ghost use Rattle.wsgs.specs.Bookings.{book-of};
 ghost use Rattle.wsgs.specs.Book.{book-effect, rate-effect, release-effect, release-rate-effect, arrive-effect};
 
 mod admission;
+mod afterwards;
+mod all_sums;
 pub mod pair_sums;
 mod pairs;
 mod queues;
 mod rates;
 pub mod refusals;
+mod sharing;
 mod sums;
 
 use pairs::add_to_word;

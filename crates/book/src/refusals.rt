@@ -5,7 +5,7 @@ ghost use Rattle.wsgs.specs.Questions.{holds-book};
 ghost use Rattle.wsgs.specs.Book.{book-refusal, rate-refusal, release-refusal, release-rate-refusal, arrive-refusal};
 ghost use Rattle.questions.specs.Refusals.{pair-refusal};
 use crate::admission::held_refusal;
-use crate::admission::sums_refusal;
+use crate::admission::rule_refusal;
 use crate::queues::queue_refusal;
 use crate::rates::rate_in_range;
 use crate::rates::rate_rise;
@@ -53,7 +53,7 @@ pub fn book_refusal(
     if !is_between(1, clock.frame as u64, amount.0) {
         return 6;
     }
-    sums_refusal(clock, slots, rates, input, output, amount)
+    rule_refusal(clock, slots, rates, input, output, amount)
 }
 
 // Of a booking by rate, which counts as the rise of the pair's booking.
@@ -76,7 +76,7 @@ pub fn rate_refusal(
         return 6;
     }
     let more = rate_rise(clock, slots, rates, input, output, rate);
-    sums_refusal(clock, slots, rates, input, output, more)
+    rule_refusal(clock, slots, rates, input, output, more)
 }
 
 // Of a release of slots.

@@ -7,11 +7,14 @@ use book::pair_sums::PairSums;
 use questions::is_between;
 use wsgs::PreviewResult;
 
-// Whether the sums are shown beside a number: where there is none, and beside 8 and 9.
+// Whether the sums are shown beside a number: where there is none, and beside those of the book's rule, 8, 9 and 15.
 pub fn shows_sums(refusal: u32) -> bool
     ensures result { λ r. ⌜ r ≡ shows-sums refusal ⌝ }
 {
     if refusal == 0 {
+        return true;
+    }
+    if refusal == 15 {
         return true;
     }
     is_between(8, 9, refusal as u64)

@@ -20,9 +20,13 @@ abbrev pub with-more : (bookings : ℕ → ℕ → ℕ) (input output more : ℕ
 with-more a i j d = updated₂ a i j (a i j + d)
 
 -- inequality (2) of the paper, for a pair with a booking: its row and its column, in which its own booking is counted once, fit the frame
+abbrev pub pair-fits : (frame own row column : ℕ) → Bool
+pair-fits f own row column = eqb own 0 || leb (row + column - own) f
+
+-- so it is with the pair (x, y) of the bookings
 unfoldable pub booked-fits : (ports frame : ℕ) (bookings : ℕ → ℕ → ℕ) → ℕ → ℕ → Bool
 unfolding row-sum column-sum
-booked-fits n f a x y = eqb (a x y) 0 || leb (row-sum n a x + column-sum n a y - a x y) f
+booked-fits n f a x y = pair-fits f (a x y) (row-sum n a x) (column-sum n a y)
 
 -- each pair that shares the input i, and each that shares the output j
 unfoldable pub sharing-fit : (ports frame : ℕ) (bookings : ℕ → ℕ → ℕ) (input output : ℕ) → Bool

@@ -9,11 +9,11 @@ use native.Mathlib.Omega.{arith}
 use borrow.Author.Tests.{ne-eqb}
 use Rattle.wsgs.specs.declared.Clock.{Clock}
 use Rattle.wsgs.specs.Bookings.{Book}
-use Rattle.wsgs.specs.Questions.{Question, first-no, slots-in-range, packets-in-range, rate-in-range, enough-held, queue-can-take, holds-pairs, holds-book, on-pair, on-sums, accepted, effect}
-use Rattle.wsgs.specs.Book.{book-refusal, rise, rate-refusal, release-refusal, release-rate-refusal, arrive-refusal}
+use Rattle.wsgs.specs.Questions.{Question, first-no, slots-in-range, packets-in-range, rate-in-range, enough-held, queue-can-take, holds-pairs, holds-book, on-pair, accepted, effect}
+use Rattle.wsgs.specs.Book.{on-rule, book-refusal, rise, rate-refusal, release-refusal, release-rate-refusal, arrive-refusal}
 use Rattle.wsgs.proofs.Laws.Questions.{asked-no, asked-yes, rest-decides, some-no}
 use Rattle.questions.specs.Refusals.{pair-refusal}
-use Rattle.book.specs.Refusals.{sums-refusal, held-refusal, queue-refusal}
+use Rattle.book.specs.Refusals.{rule-refusal, held-refusal, queue-refusal}
 
 -- the number of a call: where the pair is refused, where the amount is, and else that of the rest
 pub record Decides (pair : ℕ) (amount : Question) (rest call : ℕ) : Type 0 where
@@ -39,13 +39,13 @@ module _ (c : Clock) (m : Book) (i j d : ℕ) where
   abbrev pair : ℕ
   pair = pair-refusal c (holds-book (c .ports) m) i j
 
-  pub book-decides : Decides pair (slots-in-range (c .frame) d) (sums-refusal c m i j d) (book-refusal c m i j d)
-  unfolding book-refusal sums-refusal
-  book-decides = decides c (holds-book (c .ports) m) i j (slots-in-range (c .frame) d) (on-sums c m i j d) (omega arith)
+  pub book-decides : Decides pair (slots-in-range (c .frame) d) (rule-refusal c m i j d) (book-refusal c m i j d)
+  unfolding book-refusal rule-refusal
+  book-decides = decides c (holds-book (c .ports) m) i j (slots-in-range (c .frame) d) (on-rule c m i j d) (omega arith)
 
-  pub rate-decides : Decides pair (rate-in-range (c .line) d) (sums-refusal c m i j (rise c m i j d)) (rate-refusal c m i j d)
-  unfolding rate-refusal sums-refusal
-  rate-decides = decides c (holds-book (c .ports) m) i j (rate-in-range (c .line) d) (on-sums c m i j (rise c m i j d)) (omega arith)
+  pub rate-decides : Decides pair (rate-in-range (c .line) d) (rule-refusal c m i j (rise c m i j d)) (rate-refusal c m i j d)
+  unfolding rate-refusal rule-refusal
+  rate-decides = decides c (holds-book (c .ports) m) i j (rate-in-range (c .line) d) (on-rule c m i j (rise c m i j d)) (omega arith)
 
   pub release-decides : Decides pair (slots-in-range (c .frame) d) (held-refusal (c .ports) (m .slots) i j d) (release-refusal c m i j d)
   unfolding release-refusal held-refusal

@@ -44,14 +44,14 @@ is-between-requires c κs = search needs
 returns-2 : tie.Need-returns-2
 returns-2 c = book-decides _ _ _ _ _ .at-amount (passed (c .before .before .before)) (said-no (c .before .is-between .ensures) (c .if2 .taken))
 
-sums-refusal-requires : tie.Need-sums-refusal-requires
-sums-refusal-requires c κs =
+rule-refusal-requires : tie.Need-rule-refusal-requires
+rule-refusal-requires c κs =
     let a = start (asked c) .args in
     let r = pair-asked _ _ _ _ (passed (asked c)) in
     (r, omega (arith, amount-few (a .clock .frame) (a .amount .0) (in-range c), r .frame))
 
 returns-3 : tie.Need-returns-3
-returns-3 c = c .sums-refusal .ensures ∙ book-decides _ _ _ _ _ .at-rest (passed (asked (c .before))) (in-range (c .before))
+returns-3 c = c .rule-refusal .ensures ∙ book-decides _ _ _ _ _ .at-rest (passed (asked (c .before))) (in-range (c .before))
 
 pub book-refusal-spec : {M : Type 1} → statement M
 book-refusal-spec =
@@ -62,5 +62,5 @@ book-refusal-spec =
     cast-is-between
     is-between-requires
     returns-2
-    sums-refusal-requires
+    rule-refusal-requires
     returns-3)

@@ -2,7 +2,7 @@
 use mathlib.Core.Path.{_≡_, sym, _∙_, ap}
 use mathlib.Core.Bool.{true}
 use native.Mathlib.Omega.{arith}
-use Rattle.book.specs.Refusals.{sums-refusal}
+use Rattle.book.specs.Refusals.{rule-refusal}
 use Rattle.book.proofs.Laws.Amounts.{rate-asked}
 use Rattle.wsgs.specs.Questions.{rate-in-range, holds-book}
 use Rattle.wsgs.specs.Bookings.{book-of}
@@ -50,16 +50,16 @@ rate-rise-requires c κs =
     let a = start (asked c) .args in
     (pair-asked _ _ _ _ (passed (asked c)), omega (arith, rate-asked (a .clock .line) (a .rate) (in-range c)))
 
-sums-refusal-requires : tie.Need-sums-refusal-requires
-sums-refusal-requires c κs = (pair-asked _ _ _ _ (passed (asked (c .before))), c .rate-rise .ensures .1)
+rule-refusal-requires : tie.Need-rule-refusal-requires
+rule-refusal-requires c κs = (pair-asked _ _ _ _ (passed (asked (c .before))), c .rate-rise .ensures .1)
 
 returns-3 : tie.Need-returns-3
 returns-3 c =
     let w = c .before in
     let e = w .before in
     let a = start (asked e) .args in
-    c .sums-refusal .ensures
-    ∙ ap (sums-refusal (a .clock) (book-of (a .slots .now) (a .rates .now)) (a .input .0) (a .output .0)) (w .rate-rise .ensures .0)
+    c .rule-refusal .ensures
+    ∙ ap (rule-refusal (a .clock) (book-of (a .slots .now) (a .rates .now)) (a .input .0) (a .output .0)) (w .rate-rise .ensures .0)
     ∙ rate-decides _ _ _ _ _ .at-rest (passed (asked e)) (in-range e)
 
 pub rate-refusal-spec : {M : Type 1} → statement M
@@ -72,5 +72,5 @@ rate-refusal-spec =
     rate-in-range-requires
     returns-2
     rate-rise-requires
-    sums-refusal-requires
+    rule-refusal-requires
     returns-3)
