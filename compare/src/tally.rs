@@ -47,7 +47,7 @@ pub enum Event {
     CountsAsNone(u32),
     /// a booking gave 15, and of the pairs that are asked only those in this place do not fit
     OnlyBy(Place),
-    /// a booking was accepted on a fine book where a pair that is not asked, in this place, does not fit
+    /// a booking was accepted on a fine book where a pair in this place does not fit, and is not asked: one without a booking, or elsewhere
     NotAsked(Place),
 }
 
@@ -74,8 +74,6 @@ pub enum Place {
     Elsewhere,
 }
 
-pub const PLACES: [Place; 4] = [Place::Itself, Place::OnInput, Place::OnOutput, Place::Elsewhere];
-
 fn place((i, j): (u64, u64), (x, y): (u64, u64)) -> Place {
     match (x == i, y == j) {
         (true, true) => Place::Itself,
@@ -85,7 +83,7 @@ fn place((i, j): (u64, u64), (x, y): (u64, u64)) -> Place {
     }
 }
 
-/// The places of pairs of which inequality (2) does not hold after a booking that counts as d, with bookings and without.
+/// The places of pairs of which inequality (2) does not hold after a booking that counts as d, and whether they have a booking.
 fn unfit(s: &Switch, (i, j): (u64, u64), d: u64) -> BTreeSet<(Place, bool)> {
     let (present, n) = (bookings(s), s.n());
     let book = Book::new(n, |x, y| present.pair(x, y) + if (x, y) == (i, j) { d } else { 0 });
@@ -275,11 +273,13 @@ impl Tally {
         }
         let unfit = unfit(s, (i, j), d);
         let asked: Vec<_> = unfit.iter().filter(|&&(place, booked)| booked && place != Place::Elsewhere).map(|&(place, _)| place).collect();
-        match (number, &asked[..]) {
-            (0, []) => unfit.into_iter().for_each(|(place, _)| self.add(call, Event::NotAsked(place))),
-            (15, &[place]) => self.add(call, Event::OnlyBy(place)),
-            (15, [_, ..]) => (),
-            _ => panic!("{} {arguments:?} gave {number} with {asked:?} on {s:?}", call.name),
+        assert_eq!(number == 15, !asked.is_empty(), "{} {arguments:?} on {s:?}", call.name);
+        if let [place] = asked[..] {
+            self.add(call, Event::OnlyBy(place));
+        }
+        if asked.is_empty() {
+            let others = unfit.into_iter().filter(|&(place, booked)| booked == (place == Place::Elsewhere));
+            others.for_each(|(place, _)| self.add(call, Event::NotAsked(place)));
         }
     }
 

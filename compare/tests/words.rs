@@ -231,6 +231,9 @@ fn enough_is_met(tally: &Tally) {
     for name in ["book_rate", "preview_book_rate"] {
         tally.at_least_one_in(100, name, Event::CountsAsNone(15));
     }
+    for name in BOOKINGS {
+        tally.at_least_one_in(500, name, Event::NotAsked(Place::Elsewhere));
+    }
     for name in PREVIEWS {
         tally.at_least_one_in(100, name, Event::SumAboveWord);
         tally.at_least_one_in(300, name, Event::PairAboveWord);
@@ -300,8 +303,8 @@ fn previews_are_met(tally: &Tally) {
 const BOOKINGS: [&str; 4] = ["book", "book_rate", "preview_book", "preview_book_rate"];
 
 /// On fine books bookings and their previews gave 0 and 15 where a plain book would have given 0, 8 and 9; gave 15 by the pair itself, by one on
-/// its input and by one on its output alone; and were accepted beside pairs that do not fit and are not asked. Rates that count as 0 were accepted,
-/// and sums that differ were shown beside 15.
+/// its input and by one on its output alone; and were accepted beside pairs on both that do not fit and have no booking. Rates that count as 0 were
+/// accepted, and sums that differ were shown beside 15.
 fn fine_books_are_met(tally: &Tally) {
     for name in BOOKINGS {
         for (number, plain) in [0, 15].into_iter().flat_map(|number| [0, 8, 9].map(|plain| (number, plain))) {
@@ -318,12 +321,12 @@ fn fine_books_are_met(tally: &Tally) {
     }
 }
 
-/// 15 was given by pairs of each place that is asked, alone; and 0 beside pairs of each that is not, or not where they have no booking.
+/// 15 was given by pairs in each place that is asked, alone; and 0 beside pairs on input and output that are not asked, as they have no booking.
 fn places_are_met(tally: &Tally, many: u64, name: &'static str) {
     for place in [Place::Itself, Place::OnInput, Place::OnOutput] {
         tally.at_least_one_in(many, name, Event::OnlyBy(place));
     }
-    for place in [Place::OnInput, Place::OnOutput, Place::Elsewhere] {
+    for place in [Place::OnInput, Place::OnOutput] {
         tally.at_least_one_in(many, name, Event::NotAsked(place));
     }
 }
@@ -425,6 +428,7 @@ fn every_book_of_two_ports() {
     for name in ["preview_book", "preview_book_rate"] {
         [0, 8, 9, 15].into_iter().for_each(|number| tally.at_least_one_in(100, name, Event::Gave(number)));
         places_are_met(&tally, 300, name);
+        tally.at_least_one_in(300, name, Event::NotAsked(Place::Elsewhere));
     }
 }
 
@@ -512,8 +516,8 @@ fn headrooms_are_met(tally: &Tally) {
 
 /// Rates were booked, released and read, and refused with every number that a list can lead to.
 fn rates_are_met(tally: &Tally) {
-    for (name, numbers) in [("book_rate", &[0, 6, 8, 9][..]), ("release_rate", &[0, 6, 10])] {
-        numbers.iter().for_each(|&number| tally.at_least_one_in(50, name, Event::Gave(number)));
+    for (name, numbers) in [("book_rate", &[0, 6, 8, 9, 15][..]), ("release_rate", &[0, 6, 10])] {
+        numbers.iter().for_each(|&number| tally.at_least_one_in(100, name, Event::Gave(number)));
         tally.at_least_one_in(20, name, Event::NoBookingChanged);
     }
     for name in ["tick_direct", "tick_pipelined"] {

@@ -49,7 +49,18 @@ pub extern "C" fn kivdrag_start_direct(
 {
     let at = clock_in(clock);
     let kind = fine != 0;
-    let result = start_direct(ports, frame, line, kind, at, slots, rates, credits, queues, given);
+    let result = start_direct(
+        ports,
+        frame,
+        line,
+        kind,
+        at,
+        slots,
+        rates,
+        credits,
+        queues,
+        given,
+    );
     put_clock(clock, result.clock);
     result.refusal
 }

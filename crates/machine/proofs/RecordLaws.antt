@@ -7,7 +7,7 @@ use native.Mathlib.Decide.{ℕ-discrete}
 use borrow.Author.Tests.{eq-eqb, ne-eqb}
 use Rattle.wsgs.specs.declared.Refusal.{Refusal}
 use Rattle.wsgs.specs.declared.StartResult.{StartResult}
-use Rattle.wsgs.specs.Switch.{Switch, Call, start, Outcome, apply}
+use Rattle.wsgs.specs.Switch.{Switch, Call, start, Outcome, apply, plain}
 use Rattle.wsgs.specs.Program.{RecordOutcome, with-switch, refusal-of, run-start, run-call}
 use Rattle.wsgs.specs.Program
 use Rattle.wsgs.proofs.Refusals.{unchanged}
@@ -29,14 +29,14 @@ module _ (m : Machine) (s r c q g p f : List ℕ) (x y : ℕ) (form : Bool) wher
   M = machine-of m s r c q g p f
 
   abbrev o : Outcome
-  o = apply (start (form-of form) x y 0) (M .switch)
+  o = apply (start (form-of form) x y 0 plain) (M .switch)
 
   decided : Dec (o .refusal ≡ 0)
       → left (started-machine m form (start-result o)) (machine-refusal m x y (o .refusal)) (o .after) ≡ run-start M (form-of form) x y
   unfolding run-start
   decided (yes e) = rw (eq-eqb (o .refusal) 0 e)
   decided (no d) =
-      rw (ne-eqb (o .refusal) 0 d) (ap (left m (machine-refusal m x y (o .refusal))) (unchanged (start (form-of form) x y 0) (M .switch) d .0))
+      rw (ne-eqb (o .refusal) 0 d) (ap (left m (machine-refusal m x y (o .refusal))) (unchanged (start (form-of form) x y 0 plain) (M .switch) d .0))
 
   pub started : {after : Machine} {refusal : Refusal} {given : Outcome} → after ≡ started-machine m form (start-result given)
       → refusal ≡ machine-refusal m x y (given .refusal) → given ≡ o → left after refusal (given .after) ≡ run-start M (form-of form) x y

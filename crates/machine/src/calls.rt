@@ -19,8 +19,10 @@ ghost use Rattle.machine.specs.View.{machine-of, record-outcome-of, star
 // The most slots that a tick record asks for.
 const MAX_TICK_SLOTS: u64 = 10_000;
 
-// The rate of a line that a start or pipe record gives: none, since no record books by rate.
+// The rate of a line that a start or pipe record gives: none, since no record books by rate. And the kind of book: plain.
 const LINE_RATE: u64 = 0;
+
+const FINE: bool = false;
 
 // The machine after a start or pipe.
 fn after_start(machine: Machine, pipelined: bool, started: StartResult) -> Machine
@@ -59,7 +61,7 @@ fn obey_start(
         ports,
         frame,
         LINE_RATE,
-        false,
+        FINE,
         clock,
         slots,
         rates,
@@ -100,7 +102,7 @@ fn obey_pipe(
         ports,
         frame,
         LINE_RATE,
-        false,
+        FINE,
         clock,
         slots,
         rates,

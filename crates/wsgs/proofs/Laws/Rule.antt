@@ -73,8 +73,8 @@ module _ (n f : ℕ) (a : ℕ → ℕ → ℕ) (i j d : ℕ) (pi : Port n i) (pj
   admits-rule false h = (le→leb _ _ (h .0), (le→leb _ _ (h .1), tt))
   admits-rule true h = (
     join (all-of (λ v. booked-fits n f after i v) n) (all-of (λ u. booked-fits n f after u j) n)
-    (every-all _ n (λ v pv. is-fits n f after i v (h i v pi pv (inl refl))))
-    (every-all _ n (λ u pu. is-fits n f after u j (h u j pu pj (inr refl)))),
+        (every-all _ n (λ v pv. is-fits n f after i v (h i v pi pv (inl refl))))
+        (every-all _ n (λ u pu. is-fits n f after u j (h u j pu pj (inr refl)))),
     tt,
   )
 

@@ -44,7 +44,7 @@ returns c =
     let a = call .before .before .before .before .before .before .before .before .before .before .before .before .before .before .before .before .args in
     λ z.
     started (a .machine) (a .slots .now) (a .rates .now) (a .credits .now) (a .queues .now) (a .given .now) (a .copy .now) (a .flight .now) _ _ true (c .before .after-start .ensures) (c .refusal .ensures)
-    (start-pipelined _ _ _ _ _ (call .start-pipelined .ensures))
+    (start-pipelined _ _ _ _ _ _ (call .start-pipelined .ensures))
 
 pub obey-pipe-spec : {M : Type 1} → statement M
 obey-pipe-spec =

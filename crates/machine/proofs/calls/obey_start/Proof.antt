@@ -38,7 +38,7 @@ returns c =
     let a = call .before .before .before .before .before .before .before .before .before .before .before .before .args in
     λ z p f.
     started (a .machine) (a .slots .now) (a .rates .now) (a .credits .now) (a .queues .now) (a .given .now) p f _ _ false (c .before .after-start .ensures) (c .refusal .ensures)
-    (start-direct _ _ _ _ _ (call .start-direct .ensures))
+    (start-direct _ _ _ _ _ _ (call .start-direct .ensures))
 
 pub obey-start-spec : {M : Type 1} → statement M
 obey-start-spec =
