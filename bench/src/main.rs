@@ -282,12 +282,12 @@ fn calls_on_sums(clock: plain::Clock, call: OnSums, (slots, rate, _): Held) -> V
     let (mut a, mut b) = (book.clone(), book);
     let mut by_library = || {
         (a.0[0], a.1[0]) = (slots, rate);
-        let reply = on_book_by_library(call, black_box(&clock), black_box(&mut a), request);
+        let reply = on_book_by_library(call, &clock, &mut a, request);
         black_box((reply, a.0[0], a.1[0]))
     };
     let mut by_hand = || {
         (b.0[0], b.1[0]) = (slots, rate);
-        let reply = on_book_by_hand(call, black_box(&clock), black_box(&mut b), request);
+        let reply = on_book_by_hand(call, &clock, &mut b, request);
         black_box((reply, b.0[0], b.1[0]))
     };
     let booked = slots as u64 + (rate as u64 * 10_000).div_ceil(LINE as u64);

@@ -228,6 +228,7 @@ pub fn tick_pipelined(
 }
 
 /// The questions on ports, frame, runs and pair; or where the pair stands.
+#[inline(always)]
 fn on_pair(clock: &Clock, slots: &[u32], rates: &[u32], input: u64, output: u64) -> Result<(usize, usize), u32> {
     let no = sizes(clock);
     if no != 0 {
@@ -331,6 +332,7 @@ fn rule(clock: &Clock, slots: &[u32], rates: &[u32], pair: (usize, usize), d: u6
     }
 }
 
+#[inline(always)]
 fn try_book(clock: &Clock, slots: &mut [u32], rates: &[u32], input: u64, output: u64, amount: u64) -> Result<(), u32> {
     let (i, j) = on_pair(clock, slots, rates, input, output)?;
     if amount == 0 || amount > clock[1] as u64 {
@@ -341,6 +343,7 @@ fn try_book(clock: &Clock, slots: &mut [u32], rates: &[u32], input: u64, output:
     Ok(())
 }
 
+#[inline(always)]
 fn try_book_rate(clock: &Clock, slots: &[u32], rates: &mut [u32], input: u64, output: u64, rate: u64) -> Result<(), u32> {
     let (i, j) = on_pair(clock, slots, rates, input, output)?;
     if clock[3] == 0 || clock[3] > 100_000_000 || rate == 0 || rate > clock[3] as u64 {
@@ -353,14 +356,17 @@ fn try_book_rate(clock: &Clock, slots: &[u32], rates: &mut [u32], input: u64, ou
     Ok(())
 }
 
+#[inline(always)]
 pub fn book(clock: &Clock, slots: &mut [u32], rates: &[u32], input: u64, output: u64, amount: u64) -> u32 {
     try_book(clock, slots, rates, input, output, amount).err().unwrap_or(0)
 }
 
+#[inline(always)]
 pub fn book_rate(clock: &Clock, slots: &[u32], rates: &mut [u32], input: u64, output: u64, rate: u64) -> u32 {
     try_book_rate(clock, slots, rates, input, output, rate).err().unwrap_or(0)
 }
 
+#[inline(always)]
 fn try_headroom(clock: &Clock, slots: &[u32], rates: &[u32], input: u64, output: u64) -> Result<i64, u32> {
     let (i, j) = on_pair(clock, slots, rates, input, output)?;
     let at = i * clock[0] as usize + j;
@@ -369,6 +375,7 @@ fn try_headroom(clock: &Clock, slots: &[u32], rates: &[u32], input: u64, output:
 }
 
 /// The sums are added up once, for the questions and for the answer.
+#[inline(always)]
 fn try_preview_book(clock: &Clock, slots: &[u32], rates: &[u32], input: u64, output: u64, amount: u64) -> Result<(u32, [u64; 2]), u32> {
     let (i, j) = on_pair(clock, slots, rates, input, output)?;
     if amount == 0 || amount > clock[1] as u64 {
@@ -384,10 +391,12 @@ fn try_preview_book(clock: &Clock, slots: &[u32], rates: &[u32], input: u64, out
     Ok((number, sums))
 }
 
+#[inline(always)]
 pub fn preview_book(clock: &Clock, slots: &[u32], rates: &[u32], input: u64, output: u64, amount: u64) -> (u32, [u64; 2]) {
     try_preview_book(clock, slots, rates, input, output, amount).unwrap_or_else(|no| (no, [0; 2]))
 }
 
+#[inline(always)]
 pub fn headroom(clock: &Clock, slots: &[u32], rates: &[u32], input: u64, output: u64) -> (u32, i64) {
     try_headroom(clock, slots, rates, input, output).map_or_else(|no| (no, 0), |number| (0, number))
 }

@@ -8,6 +8,7 @@ use Rattle.wsgs.specs.Clocks.{clock-of}
 use Rattle.wsgs.specs.Basics.{sum, some-of, first-from}
 use Rattle.wsgs.specs.Words.{word, port-word}
 use Rattle.wsgs.specs.Bookings.{book-of, booking, bookings, row-sum, column-sum}
+use Rattle.wsgs.specs.Rule.{sharing-fit}
 use Rattle.wsgs.specs.Frames.{into-frame}
 use Rattle.wsgs.specs.Book.{book-words, rate-words, release-words, release-rate-words, arrive-words}
 use Rattle.wsgs.specs.Headroom.{headroom-over, pair-headroom, headroom-refusal, headroom-result}
@@ -15,7 +16,7 @@ use Rattle.wsgs.specs.Preview
 use Rattle.wsgs.specs.Preview.{slots-booking, rate-booking, slots-release, rate-release}
 use Rattle.wsgs.specs.Direct
 use Rattle.wsgs.specs.Pipelined
-use Rattle.wsgs.specs.Switch.{direct, pipelined, start, book, book-rate, release, release-rate, headroom, preview, arrive, tick, apply, entries, final}
+use Rattle.wsgs.specs.Switch.{direct, pipelined, plain, fine, start, book, book-rate, release, release-rate, headroom, preview, arrive, tick, apply, entries, final}
 use Rattle.agreement.specs.Ledgers.{claim, told, showing, Case, first-wrong, first-wrong-headroom, first-wrong-preview}
 
 abbrev list-1 : Case
@@ -23,7 +24,7 @@ list-1 =
     record {
       switch =
           record {
-            clock = clock-of 33 10001 0 100000001;
+            clock = clock-of 33 10001 0 100000001 0;
             book = book-of (101 ∷ 1 ∷ 1 ∷ 2 ∷ 1 ∷ 2 ∷ 101 ∷ 4 ∷ 1 ∷ []) (1 ∷ 104 ∷ 104 ∷ 103 ∷ 1 ∷ 104 ∷ 2 ∷ 1 ∷ 4 ∷ []);
             credits = 2 ∷ 1 ∷ 2 ∷ 7 ∷ 4 ∷ 102 ∷ 103 ∷ 7 ∷ 1 ∷ [];
             queues = 7 ∷ 4 ∷ 101 ∷ 4 ∷ 101 ∷ 101 ∷ 1 ∷ 1 ∷ 102 ∷ [];
@@ -32,7 +33,7 @@ list-1 =
             flight = 1 ∷ 101 ∷ 103 ∷ 2 ∷ 102 ∷ 2 ∷ 101 ∷ 3 ∷ 102 ∷ 7 ∷ 101 ∷ 1 ∷ 7 ∷ 3 ∷ 104 ∷ 7 ∷ 1 ∷ 103 ∷ [];
           };
       calls =
-          start pipelined 2 7 7
+          start pipelined 2 7 7 plain
           ∷ book 2 1 1
           ∷ book-rate 2 2 1
           ∷ book-rate 2 2 1
@@ -68,14 +69,14 @@ list-1 =
           ∷ release-rate 1 2 1
           ∷ preview slots-booking 1 1 1
           ∷ release-rate 2 1 1
-          ∷ start pipelined 2 7 100000001
+          ∷ start pipelined 2 7 100000001 fine
           ∷ tick pipelined
           ∷ arrive 2 2 73
           ∷ headroom 1 2
           ∷ headroom 2 2
           ∷ tick pipelined
           ∷ tick pipelined
-          ∷ start pipelined 33 7 7
+          ∷ start pipelined 33 7 7 fine
           ∷ release 1 1 0
           ∷ arrive 1 1 51
           ∷ tick pipelined
@@ -102,7 +103,7 @@ list-1 =
           ∷ tick pipelined
           ∷ book 1 1 1
           ∷ headroom 2 2
-          ∷ start pipelined 20 32 7
+          ∷ start pipelined 20 32 7 fine
           ∷ tick pipelined
           ∷ [];
       expected =
@@ -142,15 +143,15 @@ list-1 =
     }
 
 pub agrees-1 : first-wrong list-1 ≡ 0
-unfolding first-wrong entries apply Direct.start Direct.tick Pipelined.start Pipelined.tick book-words rate-words release-words release-rate-words headroom-refusal Preview.preview arrive-words into-frame booking bookings row-sum column-sum sum first-from some-of word port-word
+unfolding first-wrong entries apply Direct.start Direct.tick Pipelined.start Pipelined.tick book-words rate-words release-words release-rate-words headroom-refusal Preview.preview arrive-words into-frame sharing-fit booking bookings row-sum column-sum sum first-from some-of word port-word
 agrees-1 = refl
 
 pub headroom-1 : first-wrong-headroom list-1 ≡ 0
-unfolding first-wrong-headroom final headroom-result pair-headroom headroom-over apply Direct.start Direct.tick Pipelined.start Pipelined.tick book-words rate-words release-words release-rate-words headroom-refusal Preview.preview arrive-words into-frame booking bookings row-sum column-sum sum first-from some-of word port-word
+unfolding first-wrong-headroom final headroom-result pair-headroom headroom-over apply Direct.start Direct.tick Pipelined.start Pipelined.tick book-words rate-words release-words release-rate-words headroom-refusal Preview.preview arrive-words into-frame sharing-fit booking bookings row-sum column-sum sum first-from some-of word port-word
 headroom-1 = refl
 
 pub preview-1 : first-wrong-preview list-1 ≡ 0
-unfolding first-wrong-preview final apply Direct.start Direct.tick Pipelined.start Pipelined.tick book-words rate-words release-words release-rate-words headroom-refusal Preview.preview arrive-words into-frame booking bookings row-sum column-sum sum first-from some-of word port-word
+unfolding first-wrong-preview final apply Direct.start Direct.tick Pipelined.start Pipelined.tick book-words rate-words release-words release-rate-words headroom-refusal Preview.preview arrive-words into-frame sharing-fit booking bookings row-sum column-sum sum first-from some-of word port-word
 preview-1 = refl
 
 abbrev list-2 : Case
@@ -158,7 +159,7 @@ list-2 =
     record {
       switch =
           record {
-            clock = clock-of 9 1 1 0;
+            clock = clock-of 9 1 1 0 7;
             book = book-of (104 ∷ 3 ∷ 101 ∷ 104 ∷ 3 ∷ 3 ∷ 1 ∷ 103 ∷ 2 ∷ []) (103 ∷ 1 ∷ 104 ∷ 104 ∷ 4 ∷ 102 ∷ 7 ∷ 2 ∷ 2 ∷ []);
             credits = 102 ∷ 1 ∷ 4 ∷ 7 ∷ 104 ∷ 1 ∷ 104 ∷ 2 ∷ 3 ∷ [];
             queues = 104 ∷ 7 ∷ 104 ∷ 103 ∷ 2 ∷ 3 ∷ 1 ∷ 4 ∷ 1 ∷ [];
@@ -167,7 +168,7 @@ list-2 =
             flight = 3 ∷ 1 ∷ 2 ∷ 104 ∷ 2 ∷ 7 ∷ 2 ∷ 1 ∷ 104 ∷ 101 ∷ 2 ∷ 101 ∷ 102 ∷ 3 ∷ 103 ∷ 1 ∷ 102 ∷ 3 ∷ [];
           };
       calls =
-          start direct 3 5 1000
+          start direct 3 5 1000 fine
           ∷ book-rate 1 3 67
           ∷ book-rate 1 3 134
           ∷ book-rate 3 2 200
@@ -215,15 +216,15 @@ list-2 =
           claim 1 1 1 0 2 5 0
           ∷ claim 1 1 6 0 3 5 0
           ∷ claim 1 1 11 0 3 5 0
-          ∷ claim 1 1 16 0 3 4 0
+          ∷ claim 1 1 16 0 4 4 0
           ∷ claim 1 2 1 0 5 5 0
           ∷ claim 1 2 6 0 3 5 0
           ∷ claim 1 2 11 0 3 5 0
-          ∷ claim 1 2 16 0 3 4 0
+          ∷ claim 1 2 16 1 3 4 1
           ∷ claim 1 3 1 2 0 0 0
           ∷ claim 1 3 6 3 0 0 0
           ∷ claim 1 3 11 3 0 0 0
-          ∷ claim 1 3 16 3 0 0 0
+          ∷ claim 1 3 16 3 1 0 0
           ∷ claim 2 1 1 0 0 0 0
           ∷ claim 2 1 6 0 0 0 0
           ∷ claim 2 1 11 0 0 0 0
@@ -231,7 +232,7 @@ list-2 =
           ∷ claim 2 2 1 0 3 0 0
           ∷ claim 2 2 6 0 0 0 0
           ∷ claim 2 2 11 0 0 0 0
-          ∷ claim 2 2 16 0 0 0 0
+          ∷ claim 2 2 16 0 1 0 0
           ∷ claim 2 3 1 0 2 4 0
           ∷ claim 2 3 6 0 3 5 0
           ∷ claim 2 3 11 0 3 5 0
@@ -243,49 +244,49 @@ list-2 =
           ∷ claim 3 2 1 3 0 0 0
           ∷ claim 3 2 6 0 0 0 0
           ∷ claim 3 2 11 0 0 0 0
-          ∷ claim 3 2 16 0 0 0 0
+          ∷ claim 3 2 16 0 1 0 0
           ∷ claim 3 3 1 0 5 0 0
           ∷ claim 3 3 6 0 3 3 0
           ∷ claim 3 3 11 0 3 5 0
           ∷ claim 3 3 16 0 3 4 0
           ∷ [];
       headrooms =
-          told 1 1 0 (pos 3)
-          ∷ told 1 2 0 (pos 3)
-          ∷ told 1 3 0 (pos 3)
-          ∷ told 2 1 0 (pos 5)
-          ∷ told 2 2 0 (pos 5)
-          ∷ told 2 3 0 (pos 3)
+          told 1 1 0 (pos 2)
+          ∷ told 1 2 0 (pos 2)
+          ∷ told 1 3 0 (pos 1)
+          ∷ told 2 1 0 (pos 4)
+          ∷ told 2 2 0 (pos 3)
+          ∷ told 2 3 0 (pos 2)
           ∷ told 3 1 0 (pos 5)
-          ∷ told 3 2 0 (pos 5)
-          ∷ told 3 3 0 (pos 3)
+          ∷ told 3 2 0 (pos 4)
+          ∷ told 3 3 0 (pos 2)
           ∷ told 4 1 5 (pos 0)
           ∷ told 1 0 5 (pos 0)
           ∷ [];
       previews =
-          showing slots-booking 3 3 1 0 1 3
-          ∷ showing slots-booking 1 1 2 8 4 2
-          ∷ showing rate-booking 1 2 200 0 3 1
-          ∷ showing rate-booking 3 3 68 0 1 3
+          showing slots-booking 3 3 1 0 1 4
+          ∷ showing slots-booking 1 1 2 15 5 2
+          ∷ showing rate-booking 1 2 200 0 4 2
+          ∷ showing rate-booking 3 3 68 0 1 4
           ∷ showing slots-release 1 3 3 10 0 0
           ∷ showing slots-release 2 1 3 10 0 0
-          ∷ showing rate-release 1 3 67 0 1 1
-          ∷ showing rate-release 1 3 24 0 1 1
+          ∷ showing rate-release 1 3 67 0 2 2
+          ∷ showing rate-release 1 3 24 0 2 2
           ∷ showing rate-release 2 0 1 5 0 0
           ∷ showing slots-release 2 3 6 6 0 0
           ∷ [];
     }
 
 pub agrees-2 : first-wrong list-2 ≡ 0
-unfolding first-wrong entries apply Direct.start Direct.tick Pipelined.start Pipelined.tick book-words rate-words release-words release-rate-words headroom-refusal Preview.preview arrive-words into-frame booking bookings row-sum column-sum sum first-from some-of word port-word
+unfolding first-wrong entries apply Direct.start Direct.tick Pipelined.start Pipelined.tick book-words rate-words release-words release-rate-words headroom-refusal Preview.preview arrive-words into-frame sharing-fit booking bookings row-sum column-sum sum first-from some-of word port-word
 agrees-2 = refl
 
 pub headroom-2 : first-wrong-headroom list-2 ≡ 0
-unfolding first-wrong-headroom final headroom-result pair-headroom headroom-over apply Direct.start Direct.tick Pipelined.start Pipelined.tick book-words rate-words release-words release-rate-words headroom-refusal Preview.preview arrive-words into-frame booking bookings row-sum column-sum sum first-from some-of word port-word
+unfolding first-wrong-headroom final headroom-result pair-headroom headroom-over apply Direct.start Direct.tick Pipelined.start Pipelined.tick book-words rate-words release-words release-rate-words headroom-refusal Preview.preview arrive-words into-frame sharing-fit booking bookings row-sum column-sum sum first-from some-of word port-word
 headroom-2 = refl
 
 pub preview-2 : first-wrong-preview list-2 ≡ 0
-unfolding first-wrong-preview final apply Direct.start Direct.tick Pipelined.start Pipelined.tick book-words rate-words release-words release-rate-words headroom-refusal Preview.preview arrive-words into-frame booking bookings row-sum column-sum sum first-from some-of word port-word
+unfolding first-wrong-preview final apply Direct.start Direct.tick Pipelined.start Pipelined.tick book-words rate-words release-words release-rate-words headroom-refusal Preview.preview arrive-words into-frame sharing-fit booking bookings row-sum column-sum sum first-from some-of word port-word
 preview-2 = refl
 
 abbrev list-3 : Case
@@ -293,7 +294,7 @@ list-3 =
     record {
       switch =
           record {
-            clock = clock-of 3 1 4000000000 100000001;
+            clock = clock-of 3 1 4000000000 100000001 0;
             book = book-of (1 ∷ 103 ∷ 1 ∷ 2 ∷ 2 ∷ 2 ∷ 3 ∷ 2 ∷ 1 ∷ []) (2 ∷ 104 ∷ 104 ∷ 101 ∷ 101 ∷ 1 ∷ 102 ∷ 104 ∷ 1 ∷ []);
             credits = 2 ∷ 1 ∷ 7 ∷ 104 ∷ 101 ∷ 103 ∷ 2 ∷ 103 ∷ 102 ∷ [];
             queues = 4 ∷ 7 ∷ 2 ∷ 7 ∷ 101 ∷ 102 ∷ 101 ∷ 2 ∷ 104 ∷ [];
@@ -302,7 +303,7 @@ list-3 =
             flight = 103 ∷ 1 ∷ 4 ∷ 1 ∷ 102 ∷ 104 ∷ 3 ∷ 103 ∷ 1 ∷ 101 ∷ 102 ∷ 7 ∷ 1 ∷ 3 ∷ 2 ∷ 2 ∷ 2 ∷ 3 ∷ [];
           };
       calls =
-          start pipelined 2 7 99999999
+          start pipelined 2 7 99999999 plain
           ∷ book-rate 1 2 4761904
           ∷ book-rate 1 2 4761904
           ∷ book 1 1 1
@@ -337,7 +338,7 @@ list-3 =
           ∷ release 2 2 0
           ∷ arrive 2 1 2
           ∷ tick pipelined
-          ∷ start pipelined 3 3 1000
+          ∷ start pipelined 3 3 1000 plain
           ∷ book-rate 2 2 111
           ∷ book-rate 2 2 111
           ∷ book-rate 2 2 334
@@ -412,7 +413,7 @@ list-3 =
           ∷ tick pipelined
           ∷ book 3 3 1
           ∷ release 3 3 1
-          ∷ start pipelined 22 32 1000
+          ∷ start pipelined 22 32 1000 fine
           ∷ tick pipelined
           ∷ tick pipelined
           ∷ arrive 1 2 3
@@ -514,15 +515,15 @@ list-3 =
     }
 
 pub agrees-3 : first-wrong list-3 ≡ 0
-unfolding first-wrong entries apply Direct.start Direct.tick Pipelined.start Pipelined.tick book-words rate-words release-words release-rate-words headroom-refusal Preview.preview arrive-words into-frame booking bookings row-sum column-sum sum first-from some-of word port-word
+unfolding first-wrong entries apply Direct.start Direct.tick Pipelined.start Pipelined.tick book-words rate-words release-words release-rate-words headroom-refusal Preview.preview arrive-words into-frame sharing-fit booking bookings row-sum column-sum sum first-from some-of word port-word
 agrees-3 = refl
 
 pub headroom-3 : first-wrong-headroom list-3 ≡ 0
-unfolding first-wrong-headroom final headroom-result pair-headroom headroom-over apply Direct.start Direct.tick Pipelined.start Pipelined.tick book-words rate-words release-words release-rate-words headroom-refusal Preview.preview arrive-words into-frame booking bookings row-sum column-sum sum first-from some-of word port-word
+unfolding first-wrong-headroom final headroom-result pair-headroom headroom-over apply Direct.start Direct.tick Pipelined.start Pipelined.tick book-words rate-words release-words release-rate-words headroom-refusal Preview.preview arrive-words into-frame sharing-fit booking bookings row-sum column-sum sum first-from some-of word port-word
 headroom-3 = refl
 
 pub preview-3 : first-wrong-preview list-3 ≡ 0
-unfolding first-wrong-preview final apply Direct.start Direct.tick Pipelined.start Pipelined.tick book-words rate-words release-words release-rate-words headroom-refusal Preview.preview arrive-words into-frame booking bookings row-sum column-sum sum first-from some-of word port-word
+unfolding first-wrong-preview final apply Direct.start Direct.tick Pipelined.start Pipelined.tick book-words rate-words release-words release-rate-words headroom-refusal Preview.preview arrive-words into-frame sharing-fit booking bookings row-sum column-sum sum first-from some-of word port-word
 preview-3 = refl
 
 abbrev list-4 : Case
@@ -530,7 +531,7 @@ list-4 =
     record {
       switch =
           record {
-            clock = clock-of 9 10001 5 1000;
+            clock = clock-of 9 10001 5 1000 0;
             book = book-of (101 ∷ 4 ∷ 1 ∷ 103 ∷ 104 ∷ 101 ∷ 4 ∷ 103 ∷ 101 ∷ []) (1 ∷ 2 ∷ 102 ∷ 2 ∷ 2 ∷ 103 ∷ 101 ∷ 2 ∷ 3 ∷ []);
             credits = 102 ∷ 2 ∷ 101 ∷ 104 ∷ 1 ∷ 1 ∷ 103 ∷ 4 ∷ 102 ∷ [];
             queues = 103 ∷ 103 ∷ 102 ∷ 2 ∷ 1 ∷ 1 ∷ 1 ∷ 102 ∷ 2 ∷ [];
@@ -539,7 +540,7 @@ list-4 =
             flight = 104 ∷ 7 ∷ 1 ∷ 2 ∷ 104 ∷ 2 ∷ 3 ∷ 4 ∷ 1 ∷ 102 ∷ 104 ∷ 7 ∷ 101 ∷ 3 ∷ 1 ∷ 4 ∷ 1 ∷ 3 ∷ [];
           };
       calls =
-          start direct 3 2 99999999
+          start direct 3 2 99999999 plain
           ∷ book-rate 2 2 49999999
           ∷ book-rate 2 1 33333333
           ∷ book-rate 2 1 33333333
@@ -692,15 +693,15 @@ list-4 =
     }
 
 pub agrees-4 : first-wrong list-4 ≡ 0
-unfolding first-wrong entries apply Direct.start Direct.tick Pipelined.start Pipelined.tick book-words rate-words release-words release-rate-words headroom-refusal Preview.preview arrive-words into-frame booking bookings row-sum column-sum sum first-from some-of word port-word
+unfolding first-wrong entries apply Direct.start Direct.tick Pipelined.start Pipelined.tick book-words rate-words release-words release-rate-words headroom-refusal Preview.preview arrive-words into-frame sharing-fit booking bookings row-sum column-sum sum first-from some-of word port-word
 agrees-4 = refl
 
 pub headroom-4 : first-wrong-headroom list-4 ≡ 0
-unfolding first-wrong-headroom final headroom-result pair-headroom headroom-over apply Direct.start Direct.tick Pipelined.start Pipelined.tick book-words rate-words release-words release-rate-words headroom-refusal Preview.preview arrive-words into-frame booking bookings row-sum column-sum sum first-from some-of word port-word
+unfolding first-wrong-headroom final headroom-result pair-headroom headroom-over apply Direct.start Direct.tick Pipelined.start Pipelined.tick book-words rate-words release-words release-rate-words headroom-refusal Preview.preview arrive-words into-frame sharing-fit booking bookings row-sum column-sum sum first-from some-of word port-word
 headroom-4 = refl
 
 pub preview-4 : first-wrong-preview list-4 ≡ 0
-unfolding first-wrong-preview final apply Direct.start Direct.tick Pipelined.start Pipelined.tick book-words rate-words release-words release-rate-words headroom-refusal Preview.preview arrive-words into-frame booking bookings row-sum column-sum sum first-from some-of word port-word
+unfolding first-wrong-preview final apply Direct.start Direct.tick Pipelined.start Pipelined.tick book-words rate-words release-words release-rate-words headroom-refusal Preview.preview arrive-words into-frame sharing-fit booking bookings row-sum column-sum sum first-from some-of word port-word
 preview-4 = refl
 
 abbrev list-5 : Case
@@ -708,7 +709,7 @@ list-5 =
     record {
       switch =
           record {
-            clock = clock-of 2 10001 77 1;
+            clock = clock-of 2 10001 77 1 7;
             book = book-of (3 ∷ 1 ∷ 102 ∷ 101 ∷ 3 ∷ 104 ∷ 3 ∷ 4 ∷ 4 ∷ []) (2 ∷ 1 ∷ 1 ∷ 1 ∷ 103 ∷ 7 ∷ 7 ∷ 1 ∷ 3 ∷ []);
             credits = 4 ∷ 102 ∷ 1 ∷ 4 ∷ 104 ∷ 101 ∷ 3 ∷ 1 ∷ 3 ∷ [];
             queues = 101 ∷ 2 ∷ 3 ∷ 1 ∷ 101 ∷ 1 ∷ 4 ∷ 102 ∷ 3 ∷ [];
@@ -717,7 +718,7 @@ list-5 =
             flight = 1 ∷ 7 ∷ 101 ∷ 1 ∷ 103 ∷ 101 ∷ 3 ∷ 103 ∷ 2 ∷ 3 ∷ 2 ∷ 4 ∷ 104 ∷ 101 ∷ 2 ∷ 1 ∷ 1 ∷ 1 ∷ [];
           };
       calls =
-          start pipelined 1 3 1000
+          start pipelined 1 3 1000 fine
           ∷ book 1 1 1
           ∷ arrive 1 1 4
           ∷ tick pipelined
@@ -732,7 +733,7 @@ list-5 =
           ∷ release-rate 1 1 1
           ∷ tick pipelined
           ∷ tick pipelined
-          ∷ start pipelined 1 4 7
+          ∷ start pipelined 1 4 7 fine
           ∷ book-rate 1 1 1
           ∷ arrive 1 1 3
           ∷ arrive 1 1 2
@@ -772,7 +773,7 @@ list-5 =
           ∷ arrive 1 1 4
           ∷ book-rate 1 1 1
           ∷ tick pipelined
-          ∷ release-rate 1 1 4
+          ∷ release-rate 1 1 8
           ∷ tick pipelined
           ∷ arrive 1 1 3
           ∷ tick pipelined
@@ -780,41 +781,41 @@ list-5 =
           ∷ [];
       expected =
           claim 1 1 1 0 0 2 0
-          ∷ claim 1 1 5 2 0 4 2
-          ∷ claim 1 1 9 2 0 4 2
-          ∷ claim 1 1 13 1 0 4 1
-          ∷ claim 1 1 17 2 0 4 2
-          ∷ claim 1 1 21 2 0 3 2
+          ∷ claim 1 1 5 3 0 4 3
+          ∷ claim 1 1 9 3 0 4 3
+          ∷ claim 1 1 13 2 0 4 2
+          ∷ claim 1 1 17 3 0 4 3
+          ∷ claim 1 1 21 4 0 3 3
           ∷ [];
       headrooms =
-          told 1 1 0 (pos 2)
+          told 1 1 0 (pos 0)
           ∷ told 2 1 5 (pos 0)
           ∷ told 1 0 5 (pos 0)
           ∷ [];
       previews =
-          showing slots-booking 1 1 1 8 3 3
-          ∷ showing slots-booking 1 1 2 8 4 4
-          ∷ showing rate-booking 1 1 1 8 3 3
-          ∷ showing rate-booking 1 1 1 8 3 3
+          showing slots-booking 1 1 1 15 5 5
+          ∷ showing slots-booking 1 1 2 15 6 6
+          ∷ showing rate-booking 1 1 1 15 5 5
+          ∷ showing rate-booking 1 1 1 15 5 5
           ∷ showing slots-release 1 1 1 10 0 0
           ∷ showing slots-release 1 1 1 10 0 0
-          ∷ showing rate-release 1 1 3 0 0 0
-          ∷ showing rate-release 1 1 3 0 0 0
+          ∷ showing rate-release 1 1 7 0 0 0
+          ∷ showing rate-release 1 1 3 0 3 3
           ∷ showing slots-booking 2 1 1 5 0 0
           ∷ showing slots-release 1 1 5 6 0 0
           ∷ [];
     }
 
 pub agrees-5 : first-wrong list-5 ≡ 0
-unfolding first-wrong entries apply Direct.start Direct.tick Pipelined.start Pipelined.tick book-words rate-words release-words release-rate-words headroom-refusal Preview.preview arrive-words into-frame booking bookings row-sum column-sum sum first-from some-of word port-word
+unfolding first-wrong entries apply Direct.start Direct.tick Pipelined.start Pipelined.tick book-words rate-words release-words release-rate-words headroom-refusal Preview.preview arrive-words into-frame sharing-fit booking bookings row-sum column-sum sum first-from some-of word port-word
 agrees-5 = refl
 
 pub headroom-5 : first-wrong-headroom list-5 ≡ 0
-unfolding first-wrong-headroom final headroom-result pair-headroom headroom-over apply Direct.start Direct.tick Pipelined.start Pipelined.tick book-words rate-words release-words release-rate-words headroom-refusal Preview.preview arrive-words into-frame booking bookings row-sum column-sum sum first-from some-of word port-word
+unfolding first-wrong-headroom final headroom-result pair-headroom headroom-over apply Direct.start Direct.tick Pipelined.start Pipelined.tick book-words rate-words release-words release-rate-words headroom-refusal Preview.preview arrive-words into-frame sharing-fit booking bookings row-sum column-sum sum first-from some-of word port-word
 headroom-5 = refl
 
 pub preview-5 : first-wrong-preview list-5 ≡ 0
-unfolding first-wrong-preview final apply Direct.start Direct.tick Pipelined.start Pipelined.tick book-words rate-words release-words release-rate-words headroom-refusal Preview.preview arrive-words into-frame booking bookings row-sum column-sum sum first-from some-of word port-word
+unfolding first-wrong-preview final apply Direct.start Direct.tick Pipelined.start Pipelined.tick book-words rate-words release-words release-rate-words headroom-refusal Preview.preview arrive-words into-frame sharing-fit booking bookings row-sum column-sum sum first-from some-of word port-word
 preview-5 = refl
 
 abbrev list-6 : Case
@@ -822,7 +823,7 @@ list-6 =
     record {
       switch =
           record {
-            clock = clock-of 2 5 1 0;
+            clock = clock-of 2 5 1 0 7;
             book = book-of (7 ∷ 1 ∷ 103 ∷ 1 ∷ 101 ∷ 1 ∷ 101 ∷ 103 ∷ 1 ∷ []) (102 ∷ 103 ∷ 1 ∷ 4 ∷ 1 ∷ 103 ∷ 1 ∷ 1 ∷ 1 ∷ []);
             credits = 1 ∷ 103 ∷ 1 ∷ 104 ∷ 7 ∷ 7 ∷ 103 ∷ 2 ∷ 7 ∷ [];
             queues = 102 ∷ 1 ∷ 7 ∷ 2 ∷ 103 ∷ 7 ∷ 101 ∷ 2 ∷ 1 ∷ [];
@@ -831,7 +832,7 @@ list-6 =
             flight = 103 ∷ 1 ∷ 3 ∷ 102 ∷ 104 ∷ 103 ∷ 104 ∷ 3 ∷ 7 ∷ 3 ∷ 2 ∷ 1 ∷ 104 ∷ 3 ∷ 1 ∷ 4 ∷ 101 ∷ 1 ∷ [];
           };
       calls =
-          start direct 3 3 100000000
+          start direct 3 3 100000000 plain
           ∷ book-rate 2 3 33333333
           ∷ book-rate 2 3 33333333
           ∷ book-rate 3 2 33333333
@@ -846,13 +847,13 @@ list-6 =
           ∷ arrive 1 1 12
           ∷ release-rate 2 3 66666667
           ∷ book-rate 3 1 11111111
-          ∷ start direct 0 3 100000000
+          ∷ start direct 0 3 100000000 fine
           ∷ book-rate 1 3 0
           ∷ book 3 1 1
           ∷ tick direct
           ∷ tick direct
           ∷ book-rate 2 2 11111112
-          ∷ start direct 3 3 100000001
+          ∷ start direct 3 3 100000001 fine
           ∷ tick direct
           ∷ book-rate 1 3 100000001
           ∷ arrive 2 3 8
@@ -999,15 +1000,15 @@ list-6 =
     }
 
 pub agrees-6 : first-wrong list-6 ≡ 0
-unfolding first-wrong entries apply Direct.start Direct.tick Pipelined.start Pipelined.tick book-words rate-words release-words release-rate-words headroom-refusal Preview.preview arrive-words into-frame booking bookings row-sum column-sum sum first-from some-of word port-word
+unfolding first-wrong entries apply Direct.start Direct.tick Pipelined.start Pipelined.tick book-words rate-words release-words release-rate-words headroom-refusal Preview.preview arrive-words into-frame sharing-fit booking bookings row-sum column-sum sum first-from some-of word port-word
 agrees-6 = refl
 
 pub headroom-6 : first-wrong-headroom list-6 ≡ 0
-unfolding first-wrong-headroom final headroom-result pair-headroom headroom-over apply Direct.start Direct.tick Pipelined.start Pipelined.tick book-words rate-words release-words release-rate-words headroom-refusal Preview.preview arrive-words into-frame booking bookings row-sum column-sum sum first-from some-of word port-word
+unfolding first-wrong-headroom final headroom-result pair-headroom headroom-over apply Direct.start Direct.tick Pipelined.start Pipelined.tick book-words rate-words release-words release-rate-words headroom-refusal Preview.preview arrive-words into-frame sharing-fit booking bookings row-sum column-sum sum first-from some-of word port-word
 headroom-6 = refl
 
 pub preview-6 : first-wrong-preview list-6 ≡ 0
-unfolding first-wrong-preview final apply Direct.start Direct.tick Pipelined.start Pipelined.tick book-words rate-words release-words release-rate-words headroom-refusal Preview.preview arrive-words into-frame booking bookings row-sum column-sum sum first-from some-of word port-word
+unfolding first-wrong-preview final apply Direct.start Direct.tick Pipelined.start Pipelined.tick book-words rate-words release-words release-rate-words headroom-refusal Preview.preview arrive-words into-frame sharing-fit booking bookings row-sum column-sum sum first-from some-of word port-word
 preview-6 = refl
 
 abbrev list-7 : Case
@@ -1015,7 +1016,7 @@ list-7 =
     record {
       switch =
           record {
-            clock = clock-of 3 10001 1 100000001;
+            clock = clock-of 3 10001 1 100000001 0;
             book = book-of (101 ∷ 101 ∷ 1 ∷ 103 ∷ 2 ∷ 102 ∷ 1 ∷ 103 ∷ 103 ∷ []) (1 ∷ 4 ∷ 7 ∷ 1 ∷ 102 ∷ 103 ∷ 7 ∷ 2 ∷ 4 ∷ []);
             credits = 4 ∷ 2 ∷ 3 ∷ 1 ∷ 7 ∷ 3 ∷ 101 ∷ 2 ∷ 104 ∷ [];
             queues = 4 ∷ 2 ∷ 102 ∷ 4 ∷ 103 ∷ 102 ∷ 101 ∷ 3 ∷ 103 ∷ [];
@@ -1024,7 +1025,7 @@ list-7 =
             flight = 2 ∷ 2 ∷ 103 ∷ 3 ∷ 1 ∷ 7 ∷ 104 ∷ 104 ∷ 7 ∷ 103 ∷ 2 ∷ 4 ∷ 1 ∷ 103 ∷ 104 ∷ 101 ∷ 7 ∷ 3 ∷ [];
           };
       calls =
-          start pipelined 2 6 1000
+          start pipelined 2 6 1000 fine
           ∷ book-rate 1 1 56
           ∷ book-rate 1 1 56
           ∷ book-rate 1 1 55
@@ -1055,7 +1056,7 @@ list-7 =
           ∷ book 2 2 1
           ∷ book-rate 1 2 1001
           ∷ tick pipelined
-          ∷ release 2 2 1
+          ∷ release 1 2 1
           ∷ tick pipelined
           ∷ tick pipelined
           ∷ tick pipelined
@@ -1065,34 +1066,34 @@ list-7 =
           ∷ [];
       expected =
           claim 1 1 1 0 0 2 0
-          ∷ claim 1 1 7 2 1 2 2
-          ∷ claim 1 1 13 2 1 2 2
+          ∷ claim 1 1 7 4 1 2 2
+          ∷ claim 1 1 13 4 2 2 2
           ∷ claim 1 2 1 0 0 2 0
-          ∷ claim 1 2 7 1 2 3 1
-          ∷ claim 1 2 13 1 2 0 0
+          ∷ claim 1 2 7 1 4 3 1
+          ∷ claim 1 2 13 2 4 0 0
           ∷ claim 2 1 1 0 0 2 0
-          ∷ claim 2 1 7 0 2 5 0
-          ∷ claim 2 1 13 0 2 0 0
+          ∷ claim 2 1 7 0 4 5 0
+          ∷ claim 2 1 13 0 4 0 0
           ∷ claim 2 2 1 0 0 2 0
           ∷ claim 2 2 7 0 1 6 0
-          ∷ claim 2 2 13 0 1 2 0
+          ∷ claim 2 2 13 0 2 2 0
           ∷ [];
       headrooms =
-          told 1 1 0 (pos 3)
-          ∷ told 1 2 0 (pos 3)
-          ∷ told 2 1 0 (pos 4)
+          told 1 1 0 (pos 1)
+          ∷ told 1 2 0 (pos 1)
+          ∷ told 2 1 0 (pos 2)
           ∷ told 2 2 0 (pos 5)
           ∷ told 3 1 5 (pos 0)
           ∷ told 1 4294967297 5 (pos 0)
           ∷ [];
       previews =
-          showing slots-booking 1 2 2 8 5 3
-          ∷ showing slots-booking 1 1 2 8 5 4
-          ∷ showing rate-booking 1 2 55 8 4 2
-          ∷ showing rate-booking 2 2 468 9 3 4
-          ∷ showing slots-release 1 2 1 0 2 0
-          ∷ showing slots-release 1 2 3 10 0 0
-          ∷ showing rate-release 1 1 166 0 2 1
+          showing slots-booking 1 2 2 15 7 3
+          ∷ showing slots-booking 1 1 2 15 7 6
+          ∷ showing rate-booking 1 2 55 0 5 1
+          ∷ showing rate-booking 2 2 468 15 3 4
+          ∷ showing slots-release 1 1 1 0 4 3
+          ∷ showing slots-release 1 1 3 10 0 0
+          ∷ showing rate-release 1 1 166 0 4 3
           ∷ showing rate-release 1 1 173 10 0 0
           ∷ showing slots-booking 3 1 1 5 0 0
           ∷ showing slots-release 1 1 0 6 0 0
@@ -1100,15 +1101,15 @@ list-7 =
     }
 
 pub agrees-7 : first-wrong list-7 ≡ 0
-unfolding first-wrong entries apply Direct.start Direct.tick Pipelined.start Pipelined.tick book-words rate-words release-words release-rate-words headroom-refusal Preview.preview arrive-words into-frame booking bookings row-sum column-sum sum first-from some-of word port-word
+unfolding first-wrong entries apply Direct.start Direct.tick Pipelined.start Pipelined.tick book-words rate-words release-words release-rate-words headroom-refusal Preview.preview arrive-words into-frame sharing-fit booking bookings row-sum column-sum sum first-from some-of word port-word
 agrees-7 = refl
 
 pub headroom-7 : first-wrong-headroom list-7 ≡ 0
-unfolding first-wrong-headroom final headroom-result pair-headroom headroom-over apply Direct.start Direct.tick Pipelined.start Pipelined.tick book-words rate-words release-words release-rate-words headroom-refusal Preview.preview arrive-words into-frame booking bookings row-sum column-sum sum first-from some-of word port-word
+unfolding first-wrong-headroom final headroom-result pair-headroom headroom-over apply Direct.start Direct.tick Pipelined.start Pipelined.tick book-words rate-words release-words release-rate-words headroom-refusal Preview.preview arrive-words into-frame sharing-fit booking bookings row-sum column-sum sum first-from some-of word port-word
 headroom-7 = refl
 
 pub preview-7 : first-wrong-preview list-7 ≡ 0
-unfolding first-wrong-preview final apply Direct.start Direct.tick Pipelined.start Pipelined.tick book-words rate-words release-words release-rate-words headroom-refusal Preview.preview arrive-words into-frame booking bookings row-sum column-sum sum first-from some-of word port-word
+unfolding first-wrong-preview final apply Direct.start Direct.tick Pipelined.start Pipelined.tick book-words rate-words release-words release-rate-words headroom-refusal Preview.preview arrive-words into-frame sharing-fit booking bookings row-sum column-sum sum first-from some-of word port-word
 preview-7 = refl
 
 abbrev list-8 : Case
@@ -1116,7 +1117,7 @@ list-8 =
     record {
       switch =
           record {
-            clock = clock-of 9 2 0 0;
+            clock = clock-of 9 2 0 0 7;
             book = book-of (3 ∷ 104 ∷ 2 ∷ 4 ∷ 101 ∷ 3 ∷ 1 ∷ 2 ∷ 1 ∷ []) (103 ∷ 101 ∷ 103 ∷ 101 ∷ 103 ∷ 3 ∷ 102 ∷ 103 ∷ 2 ∷ []);
             credits = 4 ∷ 2 ∷ 2 ∷ 7 ∷ 103 ∷ 4 ∷ 2 ∷ 4 ∷ 3 ∷ [];
             queues = 3 ∷ 1 ∷ 103 ∷ 1 ∷ 3 ∷ 1 ∷ 103 ∷ 2 ∷ 104 ∷ [];
@@ -1125,7 +1126,7 @@ list-8 =
             flight = 102 ∷ 2 ∷ 1 ∷ 1 ∷ 103 ∷ 102 ∷ 3 ∷ 1 ∷ 7 ∷ 103 ∷ 101 ∷ 2 ∷ 4 ∷ 101 ∷ 3 ∷ 104 ∷ 103 ∷ 7 ∷ [];
           };
       calls =
-          start direct 2 3 1000
+          start direct 2 3 1000 fine
           ∷ book-rate 2 2 111
           ∷ book 2 2 1
           ∷ book-rate 1 2 111
@@ -1147,76 +1148,76 @@ list-8 =
           ∷ preview rate-release 2 1 1
           ∷ book-rate 2 1 223
           ∷ book-rate 1 2 111
-          ∷ release-rate 2 2 111
+          ∷ release-rate 1 2 111
           ∷ tick direct
           ∷ release 2 2 1
           ∷ tick direct
           ∷ tick direct
-          ∷ start direct 0 3 1000
+          ∷ start direct 0 3 1000 plain
           ∷ tick direct
           ∷ book 2 1 1
           ∷ release 2 1 1
           ∷ release-rate 1 1 1
           ∷ tick direct
-          ∷ tick direct
           ∷ arrive 2 1 66
           ∷ arrive 2 1 52
           ∷ tick direct
+          ∷ tick direct
           ∷ [];
       expected =
-          claim 1 1 1 0 0 3 0
-          ∷ claim 1 1 4 0 0 3 0
-          ∷ claim 1 1 7 0 0 3 0
-          ∷ claim 1 1 10 0 0 3 0
-          ∷ claim 1 1 13 0 0 1 0
-          ∷ claim 1 2 1 0 2 3 0
-          ∷ claim 1 2 4 0 2 3 0
-          ∷ claim 1 2 7 0 1 3 0
-          ∷ claim 1 2 10 0 0 3 0
-          ∷ claim 1 2 13 0 0 1 0
+          claim 1 1 1 0 1 3 0
+          ∷ claim 1 1 4 0 1 3 0
+          ∷ claim 1 1 7 0 1 3 0
+          ∷ claim 1 1 10 0 1 3 0
+          ∷ claim 1 1 13 0 1 1 0
+          ∷ claim 1 2 1 1 2 3 1
+          ∷ claim 1 2 4 1 2 3 1
+          ∷ claim 1 2 7 1 2 3 1
+          ∷ claim 1 2 10 1 1 3 1
+          ∷ claim 1 2 13 1 1 1 1
           ∷ claim 2 1 1 0 2 3 0
           ∷ claim 2 1 4 0 2 3 0
-          ∷ claim 2 1 7 0 1 3 0
-          ∷ claim 2 1 10 0 0 3 0
-          ∷ claim 2 1 13 0 0 1 0
-          ∷ claim 2 2 1 2 0 3 2
-          ∷ claim 2 2 4 2 0 3 2
-          ∷ claim 2 2 7 1 0 3 1
-          ∷ claim 2 2 10 0 0 3 0
-          ∷ claim 2 2 13 0 0 1 0
+          ∷ claim 2 1 7 0 2 3 0
+          ∷ claim 2 1 10 0 1 3 0
+          ∷ claim 2 1 13 0 1 1 0
+          ∷ claim 2 2 1 2 1 3 2
+          ∷ claim 2 2 4 2 1 3 2
+          ∷ claim 2 2 7 2 1 3 2
+          ∷ claim 2 2 10 1 1 3 1
+          ∷ claim 2 2 13 1 1 1 0
           ∷ [];
       headrooms =
-          told 1 1 0 (pos 3)
-          ∷ told 1 2 0 (pos 3)
-          ∷ told 2 1 0 (pos 3)
-          ∷ told 2 2 0 (pos 3)
+          told 1 1 0 (pos 2)
+          ∷ told 1 2 0 (pos 1)
+          ∷ told 2 1 0 (pos 2)
+          ∷ told 2 2 0 (pos 1)
           ∷ told 3 1 5 (pos 0)
           ∷ told 1 0 5 (pos 0)
           ∷ [];
       previews =
-          showing slots-booking 2 2 1 0 1 1
-          ∷ showing slots-booking 1 2 1 0 1 1
-          ∷ showing rate-booking 1 2 333 0 1 1
-          ∷ showing rate-booking 1 2 244 0 1 1
+          showing slots-booking 2 1 1 0 2 1
+          ∷ showing slots-booking 1 2 1 0 2 3
+          ∷ showing rate-booking 1 2 333 0 2 3
+          ∷ showing rate-booking 1 2 244 0 2 3
           ∷ showing slots-release 1 2 1 10 0 0
           ∷ showing slots-release 1 2 1 10 0 0
-          ∷ showing rate-release 1 2 1 10 0 0
-          ∷ showing rate-release 1 1 482 10 0 0
-          ∷ showing slots-release 2 3 1 5 0 0
-          ∷ showing rate-booking 2 2 1001 6 0 0
+          ∷ showing rate-release 2 1 1 10 0 0
+          ∷ showing rate-release 2 2 46 0 1 2
+          ∷ showing rate-release 3 1 1 5 0 0
+          ∷ showing slots-booking 2 1 0 6 0 0
           ∷ [];
     }
 
 pub agrees-8 : first-wrong list-8 ≡ 0
-unfolding first-wrong entries apply Direct.start Direct.tick Pipelined.start Pipelined.tick book-words rate-words release-words release-rate-words headroom-refusal Preview.preview arrive-words into-frame booking bookings row-sum column-sum sum first-from some-of word port-word
+unfolding first-wrong entries apply Direct.start Direct.tick Pipelined.start Pipelined.tick book-words rate-words release-words release-rate-words headroom-refusal Preview.preview arrive-words into-frame sharing-fit booking bookings row-sum column-sum sum first-from some-of word port-word
 agrees-8 = refl
 
 pub headroom-8 : first-wrong-headroom list-8 ≡ 0
-unfolding first-wrong-headroom final headroom-result pair-headroom headroom-over apply Direct.start Direct.tick Pipelined.start Pipelined.tick book-words rate-words release-words release-rate-words headroom-refusal Preview.preview arrive-words into-frame booking bookings row-sum column-sum sum first-from some-of word port-word
+unfolding first-wrong-headroom final headroom-result pair-headroom headroom-over apply Direct.start Direct.tick Pipelined.start Pipelined.tick book-words rate-words release-words release-rate-words headroom-refusal Preview.preview arrive-words into-frame sharing-fit booking bookings row-sum column-sum sum first-from some-of word port-word
 headroom-8 = refl
 
 pub preview-8 : first-wrong-preview list-8 ≡ 0
-unfolding first-wrong-preview final apply Direct.start Direct.tick Pipelined.start Pipelined.tick book-words rate-words release-words release-rate-words headroom-refusal Preview.preview arrive-words into-frame booking bookings row-sum column-sum sum first-from some-of word port-word
+unfolding first-wrong-preview final apply Direct.start Direct.tick Pipelined.start Pipelined.tick book-words rate-words release-words release-rate-words headroom-refusal Preview.preview arrive-words into-frame sharing-fit booking bookings row-sum column-sum sum first-from some-of word port-word
 preview-8 = refl
 
 abbrev list-9 : Case
@@ -1224,7 +1225,7 @@ list-9 =
     record {
       switch =
           record {
-            clock = clock-of 9 1 77 0;
+            clock = clock-of 9 1 77 0 7;
             book = book-of (2 ∷ 1 ∷ 1 ∷ 101 ∷ 101 ∷ 3 ∷ 2 ∷ 1 ∷ 104 ∷ []) (1 ∷ 1 ∷ 2 ∷ 7 ∷ 101 ∷ 7 ∷ 4 ∷ 2 ∷ 1 ∷ []);
             credits = 7 ∷ 1 ∷ 102 ∷ 3 ∷ 7 ∷ 3 ∷ 7 ∷ 4 ∷ 2 ∷ [];
             queues = 3 ∷ 1 ∷ 104 ∷ 3 ∷ 103 ∷ 2 ∷ 104 ∷ 101 ∷ 2 ∷ [];
@@ -1233,7 +1234,7 @@ list-9 =
             flight = 101 ∷ 103 ∷ 102 ∷ 2 ∷ 101 ∷ 2 ∷ 1 ∷ 1 ∷ 3 ∷ 2 ∷ 1 ∷ 2 ∷ 3 ∷ 2 ∷ 103 ∷ 4 ∷ 101 ∷ 4 ∷ [];
           };
       calls =
-          start pipelined 2 6 100000000
+          start pipelined 2 6 100000000 fine
           ∷ book 2 2 1
           ∷ book-rate 2 1 5555555
           ∷ book-rate 2 1 5555555
@@ -1265,7 +1266,7 @@ list-9 =
           ∷ book 2 1 1
           ∷ arrive 2 1 9
           ∷ tick pipelined
-          ∷ release 2 2 1
+          ∷ release 2 1 1
           ∷ tick pipelined
           ∷ preview slots-booking 2 2 1
           ∷ tick pipelined
@@ -1293,19 +1294,19 @@ list-9 =
           ∷ [];
       headrooms =
           told 1 1 0 (pos 3)
-          ∷ told 1 2 0 (pos 5)
-          ∷ told 2 1 0 (pos 3)
-          ∷ told 2 2 0 (pos 4)
+          ∷ told 1 2 0 (pos 4)
+          ∷ told 2 1 0 (pos 2)
+          ∷ told 2 2 0 (pos 3)
           ∷ told 3 1 5 (pos 0)
           ∷ told 1 4294967297 5 (pos 0)
           ∷ [];
       previews =
-          showing slots-booking 2 1 1 9 3 4
-          ∷ showing slots-booking 1 1 3 8 4 6
-          ∷ showing rate-booking 2 1 5555555 0 2 3
-          ∷ showing rate-booking 2 2 35278686 8 5 3
-          ∷ showing slots-release 2 1 1 10 0 0
-          ∷ showing slots-release 1 1 3 10 0 0
+          showing slots-booking 2 1 1 0 4 4
+          ∷ showing slots-booking 1 1 3 15 4 6
+          ∷ showing rate-booking 2 1 5555555 0 3 3
+          ∷ showing rate-booking 2 2 35278686 15 6 4
+          ∷ showing slots-release 2 2 1 0 2 0
+          ∷ showing slots-release 2 2 3 10 0 0
           ∷ showing rate-release 1 1 5555556 10 0 0
           ∷ showing rate-release 2 2 44923899 10 0 0
           ∷ showing rate-booking 2 3 1 5 0 0
@@ -1314,15 +1315,15 @@ list-9 =
     }
 
 pub agrees-9 : first-wrong list-9 ≡ 0
-unfolding first-wrong entries apply Direct.start Direct.tick Pipelined.start Pipelined.tick book-words rate-words release-words release-rate-words headroom-refusal Preview.preview arrive-words into-frame booking bookings row-sum column-sum sum first-from some-of word port-word
+unfolding first-wrong entries apply Direct.start Direct.tick Pipelined.start Pipelined.tick book-words rate-words release-words release-rate-words headroom-refusal Preview.preview arrive-words into-frame sharing-fit booking bookings row-sum column-sum sum first-from some-of word port-word
 agrees-9 = refl
 
 pub headroom-9 : first-wrong-headroom list-9 ≡ 0
-unfolding first-wrong-headroom final headroom-result pair-headroom headroom-over apply Direct.start Direct.tick Pipelined.start Pipelined.tick book-words rate-words release-words release-rate-words headroom-refusal Preview.preview arrive-words into-frame booking bookings row-sum column-sum sum first-from some-of word port-word
+unfolding first-wrong-headroom final headroom-result pair-headroom headroom-over apply Direct.start Direct.tick Pipelined.start Pipelined.tick book-words rate-words release-words release-rate-words headroom-refusal Preview.preview arrive-words into-frame sharing-fit booking bookings row-sum column-sum sum first-from some-of word port-word
 headroom-9 = refl
 
 pub preview-9 : first-wrong-preview list-9 ≡ 0
-unfolding first-wrong-preview final apply Direct.start Direct.tick Pipelined.start Pipelined.tick book-words rate-words release-words release-rate-words headroom-refusal Preview.preview arrive-words into-frame booking bookings row-sum column-sum sum first-from some-of word port-word
+unfolding first-wrong-preview final apply Direct.start Direct.tick Pipelined.start Pipelined.tick book-words rate-words release-words release-rate-words headroom-refusal Preview.preview arrive-words into-frame sharing-fit booking bookings row-sum column-sum sum first-from some-of word port-word
 preview-9 = refl
 
 abbrev list-10 : Case
@@ -1330,7 +1331,7 @@ list-10 =
     record {
       switch =
           record {
-            clock = clock-of 9 10001 77 0;
+            clock = clock-of 9 10001 77 0 0;
             book = book-of (7 ∷ 2 ∷ 1 ∷ 2 ∷ 4 ∷ 2 ∷ 1 ∷ 3 ∷ 7 ∷ []) (1 ∷ 3 ∷ 4 ∷ 3 ∷ 103 ∷ 104 ∷ 2 ∷ 1 ∷ 104 ∷ []);
             credits = 3 ∷ 2 ∷ 101 ∷ 3 ∷ 101 ∷ 2 ∷ 103 ∷ 1 ∷ 3 ∷ [];
             queues = 1 ∷ 1 ∷ 2 ∷ 104 ∷ 4 ∷ 2 ∷ 104 ∷ 1 ∷ 1 ∷ [];
@@ -1339,7 +1340,7 @@ list-10 =
             flight = 101 ∷ 101 ∷ 7 ∷ 4 ∷ 1 ∷ 102 ∷ 101 ∷ 104 ∷ 103 ∷ 1 ∷ 102 ∷ 101 ∷ 1 ∷ 3 ∷ 1 ∷ 7 ∷ 7 ∷ 102 ∷ [];
           };
       calls =
-          start direct 2 7 1000
+          start direct 2 7 1000 plain
           ∷ book-rate 1 2 47
           ∷ book 2 2 1
           ∷ arrive 1 2 1
@@ -1348,7 +1349,7 @@ list-10 =
           ∷ tick direct
           ∷ tick direct
           ∷ tick direct
-          ∷ start direct 2 5 100000000
+          ∷ start direct 2 5 100000000 fine
           ∷ book-rate 1 2 6666666
           ∷ book-rate 1 2 6666667
           ∷ book-rate 1 2 6666666
@@ -1368,11 +1369,11 @@ list-10 =
           ∷ arrive 1 1 75
           ∷ tick direct
           ∷ book 1 2 2
-          ∷ release-rate 1 2 6666666
+          ∷ release-rate 2 2 6666666
           ∷ tick direct
           ∷ tick direct
           ∷ tick direct
-          ∷ release-rate 1 2 20000000
+          ∷ release-rate 1 2 26666666
           ∷ headroom 1 2
           ∷ tick direct
           ∷ arrive 4294967297 1 1
@@ -1411,58 +1412,58 @@ list-10 =
           ∷ [];
       expected =
           claim 1 1 1 0 3 5 0
-          ∷ claim 1 1 6 0 2 5 0
+          ∷ claim 1 1 6 0 3 5 0
           ∷ claim 1 1 11 0 3 5 0
-          ∷ claim 1 1 16 0 3 5 0
-          ∷ claim 1 1 21 0 3 3 0
-          ∷ claim 1 2 1 3 0 5 3
-          ∷ claim 1 2 6 2 0 5 2
-          ∷ claim 1 2 11 3 0 5 3
-          ∷ claim 1 2 16 2 0 5 2
-          ∷ claim 1 2 21 2 0 3 2
-          ∷ claim 2 1 1 0 0 5 0
-          ∷ claim 2 1 6 0 0 5 0
-          ∷ claim 2 1 11 0 0 5 0
-          ∷ claim 2 1 16 1 0 5 1
-          ∷ claim 2 1 21 1 0 3 1
-          ∷ claim 2 2 1 0 3 5 0
-          ∷ claim 2 2 6 0 2 5 0
-          ∷ claim 2 2 11 0 3 5 0
-          ∷ claim 2 2 16 0 3 5 0
-          ∷ claim 2 2 21 0 3 3 0
+          ∷ claim 1 1 16 0 2 5 0
+          ∷ claim 1 1 21 0 2 3 0
+          ∷ claim 1 2 1 3 2 5 3
+          ∷ claim 1 2 6 3 2 5 3
+          ∷ claim 1 2 11 3 2 5 3
+          ∷ claim 1 2 16 2 2 5 2
+          ∷ claim 1 2 21 2 2 3 2
+          ∷ claim 2 1 1 0 2 5 0
+          ∷ claim 2 1 6 0 2 5 0
+          ∷ claim 2 1 11 0 2 5 0
+          ∷ claim 2 1 16 0 2 5 0
+          ∷ claim 2 1 21 0 2 3 0
+          ∷ claim 2 2 1 2 3 5 2
+          ∷ claim 2 2 6 2 3 5 2
+          ∷ claim 2 2 11 2 3 5 2
+          ∷ claim 2 2 16 2 2 5 2
+          ∷ claim 2 2 21 2 2 3 1
           ∷ [];
       headrooms =
-          told 1 1 0 (pos 2)
-          ∷ told 1 2 0 (pos 3)
-          ∷ told 2 1 0 (pos 4)
-          ∷ told 2 2 0 (pos 2)
+          told 1 1 0 (pos 3)
+          ∷ told 1 2 0 (pos 1)
+          ∷ told 2 1 0 (pos 3)
+          ∷ told 2 2 0 (pos 1)
           ∷ told 3 1 5 (pos 0)
           ∷ told 1 4294967297 5 (pos 0)
           ∷ [];
       previews =
-          showing slots-booking 2 2 1 0 2 3
-          ∷ showing slots-booking 1 2 3 8 5 5
-          ∷ showing rate-booking 2 2 6666666 0 2 3
-          ∷ showing rate-booking 2 2 12843574 0 2 3
+          showing slots-booking 2 2 1 0 3 5
+          ∷ showing slots-booking 1 2 3 15 5 7
+          ∷ showing rate-booking 2 2 6666666 0 2 4
+          ∷ showing rate-booking 2 2 12843574 0 3 5
           ∷ showing slots-release 2 2 1 10 0 0
           ∷ showing slots-release 2 1 2 10 0 0
-          ∷ showing rate-release 1 2 6666666 0 1 1
-          ∷ showing rate-release 2 2 5814316 10 0 0
+          ∷ showing rate-release 1 2 6666666 0 2 4
+          ∷ showing rate-release 2 2 5814316 0 2 4
           ∷ showing slots-release 2 0 1 5 0 0
           ∷ showing slots-release 2 1 0 6 0 0
           ∷ [];
     }
 
 pub agrees-10 : first-wrong list-10 ≡ 0
-unfolding first-wrong entries apply Direct.start Direct.tick Pipelined.start Pipelined.tick book-words rate-words release-words release-rate-words headroom-refusal Preview.preview arrive-words into-frame booking bookings row-sum column-sum sum first-from some-of word port-word
+unfolding first-wrong entries apply Direct.start Direct.tick Pipelined.start Pipelined.tick book-words rate-words release-words release-rate-words headroom-refusal Preview.preview arrive-words into-frame sharing-fit booking bookings row-sum column-sum sum first-from some-of word port-word
 agrees-10 = refl
 
 pub headroom-10 : first-wrong-headroom list-10 ≡ 0
-unfolding first-wrong-headroom final headroom-result pair-headroom headroom-over apply Direct.start Direct.tick Pipelined.start Pipelined.tick book-words rate-words release-words release-rate-words headroom-refusal Preview.preview arrive-words into-frame booking bookings row-sum column-sum sum first-from some-of word port-word
+unfolding first-wrong-headroom final headroom-result pair-headroom headroom-over apply Direct.start Direct.tick Pipelined.start Pipelined.tick book-words rate-words release-words release-rate-words headroom-refusal Preview.preview arrive-words into-frame sharing-fit booking bookings row-sum column-sum sum first-from some-of word port-word
 headroom-10 = refl
 
 pub preview-10 : first-wrong-preview list-10 ≡ 0
-unfolding first-wrong-preview final apply Direct.start Direct.tick Pipelined.start Pipelined.tick book-words rate-words release-words release-rate-words headroom-refusal Preview.preview arrive-words into-frame booking bookings row-sum column-sum sum first-from some-of word port-word
+unfolding first-wrong-preview final apply Direct.start Direct.tick Pipelined.start Pipelined.tick book-words rate-words release-words release-rate-words headroom-refusal Preview.preview arrive-words into-frame sharing-fit booking bookings row-sum column-sum sum first-from some-of word port-word
 preview-10 = refl
 
 abbrev list-11 : Case
@@ -1470,7 +1471,7 @@ list-11 =
     record {
       switch =
           record {
-            clock = clock-of 3 0 4000000000 0;
+            clock = clock-of 3 0 4000000000 0 0;
             book = book-of (104 ∷ 101 ∷ 7 ∷ 1 ∷ 7 ∷ 2 ∷ 1 ∷ 4 ∷ 4 ∷ []) (3 ∷ 102 ∷ 2 ∷ 104 ∷ 2 ∷ 1 ∷ 1 ∷ 102 ∷ 2 ∷ []);
             credits = 2 ∷ 102 ∷ 102 ∷ 2 ∷ 102 ∷ 1 ∷ 101 ∷ 1 ∷ 103 ∷ [];
             queues = 102 ∷ 4 ∷ 2 ∷ 104 ∷ 102 ∷ 4 ∷ 102 ∷ 3 ∷ 103 ∷ [];
@@ -1479,7 +1480,7 @@ list-11 =
             flight = 1 ∷ 1 ∷ 4 ∷ 102 ∷ 3 ∷ 4 ∷ 101 ∷ 101 ∷ 1 ∷ 2 ∷ 3 ∷ 104 ∷ 103 ∷ 103 ∷ 101 ∷ 2 ∷ 4 ∷ 1 ∷ [];
           };
       calls =
-          start pipelined 1 5 100000000
+          start pipelined 1 5 100000000 fine
           ∷ book-rate 1 1 6666666
           ∷ book-rate 1 1 6666667
           ∷ arrive 1 1 60
@@ -1488,7 +1489,7 @@ list-11 =
           ∷ tick pipelined
           ∷ tick pipelined
           ∷ tick pipelined
-          ∷ start pipelined 1 5 0
+          ∷ start pipelined 1 5 0 plain
           ∷ book-rate 1 1 1
           ∷ book-rate 1 1 1
           ∷ book-rate 1 1 1
@@ -1535,15 +1536,15 @@ list-11 =
     }
 
 pub agrees-11 : first-wrong list-11 ≡ 0
-unfolding first-wrong entries apply Direct.start Direct.tick Pipelined.start Pipelined.tick book-words rate-words release-words release-rate-words headroom-refusal Preview.preview arrive-words into-frame booking bookings row-sum column-sum sum first-from some-of word port-word
+unfolding first-wrong entries apply Direct.start Direct.tick Pipelined.start Pipelined.tick book-words rate-words release-words release-rate-words headroom-refusal Preview.preview arrive-words into-frame sharing-fit booking bookings row-sum column-sum sum first-from some-of word port-word
 agrees-11 = refl
 
 pub headroom-11 : first-wrong-headroom list-11 ≡ 0
-unfolding first-wrong-headroom final headroom-result pair-headroom headroom-over apply Direct.start Direct.tick Pipelined.start Pipelined.tick book-words rate-words release-words release-rate-words headroom-refusal Preview.preview arrive-words into-frame booking bookings row-sum column-sum sum first-from some-of word port-word
+unfolding first-wrong-headroom final headroom-result pair-headroom headroom-over apply Direct.start Direct.tick Pipelined.start Pipelined.tick book-words rate-words release-words release-rate-words headroom-refusal Preview.preview arrive-words into-frame sharing-fit booking bookings row-sum column-sum sum first-from some-of word port-word
 headroom-11 = refl
 
 pub preview-11 : first-wrong-preview list-11 ≡ 0
-unfolding first-wrong-preview final apply Direct.start Direct.tick Pipelined.start Pipelined.tick book-words rate-words release-words release-rate-words headroom-refusal Preview.preview arrive-words into-frame booking bookings row-sum column-sum sum first-from some-of word port-word
+unfolding first-wrong-preview final apply Direct.start Direct.tick Pipelined.start Pipelined.tick book-words rate-words release-words release-rate-words headroom-refusal Preview.preview arrive-words into-frame sharing-fit booking bookings row-sum column-sum sum first-from some-of word port-word
 preview-11 = refl
 
 abbrev list-12 : Case
@@ -1551,7 +1552,7 @@ list-12 =
     record {
       switch =
           record {
-            clock = clock-of 3 2 77 1;
+            clock = clock-of 3 2 77 1 7;
             book = book-of (3 ∷ 4 ∷ 4 ∷ 1 ∷ 103 ∷ 1 ∷ 7 ∷ 101 ∷ 4 ∷ []) (2 ∷ 1 ∷ 7 ∷ 3 ∷ 102 ∷ 7 ∷ 7 ∷ 101 ∷ 1 ∷ []);
             credits = 103 ∷ 2 ∷ 4 ∷ 2 ∷ 2 ∷ 101 ∷ 3 ∷ 2 ∷ 2 ∷ [];
             queues = 103 ∷ 3 ∷ 4 ∷ 104 ∷ 4 ∷ 7 ∷ 4 ∷ 102 ∷ 1 ∷ [];
@@ -1560,7 +1561,7 @@ list-12 =
             flight = 2 ∷ 7 ∷ 3 ∷ 102 ∷ 2 ∷ 4 ∷ 4 ∷ 103 ∷ 2 ∷ 4 ∷ 1 ∷ 104 ∷ 4 ∷ 2 ∷ 2 ∷ 102 ∷ 1 ∷ 102 ∷ [];
           };
       calls =
-          start direct 1 5 0
+          start direct 1 5 0 fine
           ∷ book-rate 1 1 1
           ∷ arrive 1 1 11
           ∷ tick direct
@@ -1627,15 +1628,15 @@ list-12 =
     }
 
 pub agrees-12 : first-wrong list-12 ≡ 0
-unfolding first-wrong entries apply Direct.start Direct.tick Pipelined.start Pipelined.tick book-words rate-words release-words release-rate-words headroom-refusal Preview.preview arrive-words into-frame booking bookings row-sum column-sum sum first-from some-of word port-word
+unfolding first-wrong entries apply Direct.start Direct.tick Pipelined.start Pipelined.tick book-words rate-words release-words release-rate-words headroom-refusal Preview.preview arrive-words into-frame sharing-fit booking bookings row-sum column-sum sum first-from some-of word port-word
 agrees-12 = refl
 
 pub headroom-12 : first-wrong-headroom list-12 ≡ 0
-unfolding first-wrong-headroom final headroom-result pair-headroom headroom-over apply Direct.start Direct.tick Pipelined.start Pipelined.tick book-words rate-words release-words release-rate-words headroom-refusal Preview.preview arrive-words into-frame booking bookings row-sum column-sum sum first-from some-of word port-word
+unfolding first-wrong-headroom final headroom-result pair-headroom headroom-over apply Direct.start Direct.tick Pipelined.start Pipelined.tick book-words rate-words release-words release-rate-words headroom-refusal Preview.preview arrive-words into-frame sharing-fit booking bookings row-sum column-sum sum first-from some-of word port-word
 headroom-12 = refl
 
 pub preview-12 : first-wrong-preview list-12 ≡ 0
-unfolding first-wrong-preview final apply Direct.start Direct.tick Pipelined.start Pipelined.tick book-words rate-words release-words release-rate-words headroom-refusal Preview.preview arrive-words into-frame booking bookings row-sum column-sum sum first-from some-of word port-word
+unfolding first-wrong-preview final apply Direct.start Direct.tick Pipelined.start Pipelined.tick book-words rate-words release-words release-rate-words headroom-refusal Preview.preview arrive-words into-frame sharing-fit booking bookings row-sum column-sum sum first-from some-of word port-word
 preview-12 = refl
 
 abbrev list-13 : Case
@@ -1643,7 +1644,7 @@ list-13 =
     record {
       switch =
           record {
-            clock = clock-of 1 1 1 100000001;
+            clock = clock-of 1 1 1 100000001 0;
             book = book-of (104 ∷ 4 ∷ 101 ∷ 102 ∷ 4 ∷ 2 ∷ 101 ∷ 2 ∷ 2 ∷ []) (1 ∷ 103 ∷ 102 ∷ 3 ∷ 3 ∷ 4 ∷ 1 ∷ 103 ∷ 101 ∷ []);
             credits = 2 ∷ 101 ∷ 102 ∷ 104 ∷ 104 ∷ 1 ∷ 1 ∷ 2 ∷ 102 ∷ [];
             queues = 103 ∷ 2 ∷ 2 ∷ 7 ∷ 104 ∷ 1 ∷ 102 ∷ 1 ∷ 2 ∷ [];
@@ -1652,7 +1653,7 @@ list-13 =
             flight = 1 ∷ 2 ∷ 104 ∷ 104 ∷ 4 ∷ 103 ∷ 7 ∷ 1 ∷ 1 ∷ 101 ∷ 3 ∷ 104 ∷ 4 ∷ 103 ∷ 2 ∷ 2 ∷ 4 ∷ 4 ∷ [];
           };
       calls =
-          start pipelined 3 3 100000000
+          start pipelined 3 3 100000000 plain
           ∷ book-rate 1 3 11111111
           ∷ book-rate 1 3 33333333
           ∷ book-rate 1 3 22222223
@@ -1687,7 +1688,7 @@ list-13 =
           ∷ book-rate 3 2 33333333
           ∷ tick pipelined
           ∷ tick pipelined
-          ∷ start pipelined 0 3 100000000
+          ∷ start pipelined 0 3 100000000 fine
           ∷ release-rate 3 1 11111111
           ∷ tick pipelined
           ∷ tick pipelined
@@ -1759,15 +1760,15 @@ list-13 =
     }
 
 pub agrees-13 : first-wrong list-13 ≡ 0
-unfolding first-wrong entries apply Direct.start Direct.tick Pipelined.start Pipelined.tick book-words rate-words release-words release-rate-words headroom-refusal Preview.preview arrive-words into-frame booking bookings row-sum column-sum sum first-from some-of word port-word
+unfolding first-wrong entries apply Direct.start Direct.tick Pipelined.start Pipelined.tick book-words rate-words release-words release-rate-words headroom-refusal Preview.preview arrive-words into-frame sharing-fit booking bookings row-sum column-sum sum first-from some-of word port-word
 agrees-13 = refl
 
 pub headroom-13 : first-wrong-headroom list-13 ≡ 0
-unfolding first-wrong-headroom final headroom-result pair-headroom headroom-over apply Direct.start Direct.tick Pipelined.start Pipelined.tick book-words rate-words release-words release-rate-words headroom-refusal Preview.preview arrive-words into-frame booking bookings row-sum column-sum sum first-from some-of word port-word
+unfolding first-wrong-headroom final headroom-result pair-headroom headroom-over apply Direct.start Direct.tick Pipelined.start Pipelined.tick book-words rate-words release-words release-rate-words headroom-refusal Preview.preview arrive-words into-frame sharing-fit booking bookings row-sum column-sum sum first-from some-of word port-word
 headroom-13 = refl
 
 pub preview-13 : first-wrong-preview list-13 ≡ 0
-unfolding first-wrong-preview final apply Direct.start Direct.tick Pipelined.start Pipelined.tick book-words rate-words release-words release-rate-words headroom-refusal Preview.preview arrive-words into-frame booking bookings row-sum column-sum sum first-from some-of word port-word
+unfolding first-wrong-preview final apply Direct.start Direct.tick Pipelined.start Pipelined.tick book-words rate-words release-words release-rate-words headroom-refusal Preview.preview arrive-words into-frame sharing-fit booking bookings row-sum column-sum sum first-from some-of word port-word
 preview-13 = refl
 
 abbrev list-14 : Case
@@ -1775,7 +1776,7 @@ list-14 =
     record {
       switch =
           record {
-            clock = clock-of 2 10001 1 1000;
+            clock = clock-of 2 10001 1 1000 0;
             book = book-of (7 ∷ 2 ∷ 101 ∷ 2 ∷ 4 ∷ 102 ∷ 1 ∷ 1 ∷ 1 ∷ []) (1 ∷ 2 ∷ 101 ∷ 4 ∷ 7 ∷ 2 ∷ 101 ∷ 1 ∷ 2 ∷ []);
             credits = 4 ∷ 7 ∷ 3 ∷ 103 ∷ 104 ∷ 101 ∷ 4 ∷ 4 ∷ 2 ∷ [];
             queues = 4 ∷ 102 ∷ 102 ∷ 4 ∷ 101 ∷ 1 ∷ 2 ∷ 104 ∷ 1 ∷ [];
@@ -1784,7 +1785,7 @@ list-14 =
             flight = 103 ∷ 1 ∷ 4 ∷ 2 ∷ 1 ∷ 2 ∷ 103 ∷ 3 ∷ 2 ∷ 2 ∷ 1 ∷ 101 ∷ 2 ∷ 103 ∷ 3 ∷ 101 ∷ 7 ∷ 7 ∷ [];
           };
       calls =
-          start direct 2 3 0
+          start direct 2 3 0 plain
           ∷ book-rate 2 1 1
           ∷ book-rate 2 1 1
           ∷ book-rate 2 1 1
@@ -1805,7 +1806,7 @@ list-14 =
           ∷ tick direct
           ∷ tick direct
           ∷ book-rate 2 2 1
-          ∷ start direct 2 0 0
+          ∷ start direct 2 0 0 fine
           ∷ arrive 1 2 5
           ∷ book 2 1 2
           ∷ tick direct
@@ -1846,7 +1847,7 @@ list-14 =
           ∷ tick direct
           ∷ tick direct
           ∷ arrive 2 1 5
-          ∷ start direct 5 32 0
+          ∷ start direct 5 32 0 fine
           ∷ tick direct
           ∷ tick direct
           ∷ tick direct
@@ -1908,15 +1909,15 @@ list-14 =
     }
 
 pub agrees-14 : first-wrong list-14 ≡ 0
-unfolding first-wrong entries apply Direct.start Direct.tick Pipelined.start Pipelined.tick book-words rate-words release-words release-rate-words headroom-refusal Preview.preview arrive-words into-frame booking bookings row-sum column-sum sum first-from some-of word port-word
+unfolding first-wrong entries apply Direct.start Direct.tick Pipelined.start Pipelined.tick book-words rate-words release-words release-rate-words headroom-refusal Preview.preview arrive-words into-frame sharing-fit booking bookings row-sum column-sum sum first-from some-of word port-word
 agrees-14 = refl
 
 pub headroom-14 : first-wrong-headroom list-14 ≡ 0
-unfolding first-wrong-headroom final headroom-result pair-headroom headroom-over apply Direct.start Direct.tick Pipelined.start Pipelined.tick book-words rate-words release-words release-rate-words headroom-refusal Preview.preview arrive-words into-frame booking bookings row-sum column-sum sum first-from some-of word port-word
+unfolding first-wrong-headroom final headroom-result pair-headroom headroom-over apply Direct.start Direct.tick Pipelined.start Pipelined.tick book-words rate-words release-words release-rate-words headroom-refusal Preview.preview arrive-words into-frame sharing-fit booking bookings row-sum column-sum sum first-from some-of word port-word
 headroom-14 = refl
 
 pub preview-14 : first-wrong-preview list-14 ≡ 0
-unfolding first-wrong-preview final apply Direct.start Direct.tick Pipelined.start Pipelined.tick book-words rate-words release-words release-rate-words headroom-refusal Preview.preview arrive-words into-frame booking bookings row-sum column-sum sum first-from some-of word port-word
+unfolding first-wrong-preview final apply Direct.start Direct.tick Pipelined.start Pipelined.tick book-words rate-words release-words release-rate-words headroom-refusal Preview.preview arrive-words into-frame sharing-fit booking bookings row-sum column-sum sum first-from some-of word port-word
 preview-14 = refl
 
 abbrev list-15 : Case
@@ -1924,7 +1925,7 @@ list-15 =
     record {
       switch =
           record {
-            clock = clock-of 33 1 1 100000001;
+            clock = clock-of 33 1 1 100000001 7;
             book = book-of (7 ∷ 4 ∷ 103 ∷ 103 ∷ 104 ∷ 2 ∷ 101 ∷ 104 ∷ 2 ∷ []) (4 ∷ 104 ∷ 4 ∷ 7 ∷ 104 ∷ 4 ∷ 7 ∷ 1 ∷ 1 ∷ []);
             credits = 101 ∷ 103 ∷ 2 ∷ 103 ∷ 103 ∷ 2 ∷ 2 ∷ 3 ∷ 1 ∷ [];
             queues = 1 ∷ 104 ∷ 7 ∷ 7 ∷ 104 ∷ 1 ∷ 1 ∷ 104 ∷ 4 ∷ [];
@@ -1933,7 +1934,7 @@ list-15 =
             flight = 1 ∷ 7 ∷ 2 ∷ 4 ∷ 102 ∷ 2 ∷ 101 ∷ 1 ∷ 7 ∷ 3 ∷ 102 ∷ 104 ∷ 103 ∷ 102 ∷ 103 ∷ 7 ∷ 2 ∷ 7 ∷ [];
           };
       calls =
-          start pipelined 3 6 1000
+          start pipelined 3 6 1000 plain
           ∷ book 1 3 1
           ∷ book-rate 1 2 56
           ∷ book-rate 1 2 55
@@ -1970,7 +1971,7 @@ list-15 =
           ∷ tick pipelined
           ∷ tick pipelined
           ∷ book-rate 1 3 55
-          ∷ start pipelined 25 32 1000
+          ∷ start pipelined 25 32 1000 fine
           ∷ book-rate 3 1 56
           ∷ book-rate 1 2 112
           ∷ preview rate-booking 1 2 111
@@ -2071,15 +2072,15 @@ list-15 =
     }
 
 pub agrees-15 : first-wrong list-15 ≡ 0
-unfolding first-wrong entries apply Direct.start Direct.tick Pipelined.start Pipelined.tick book-words rate-words release-words release-rate-words headroom-refusal Preview.preview arrive-words into-frame booking bookings row-sum column-sum sum first-from some-of word port-word
+unfolding first-wrong entries apply Direct.start Direct.tick Pipelined.start Pipelined.tick book-words rate-words release-words release-rate-words headroom-refusal Preview.preview arrive-words into-frame sharing-fit booking bookings row-sum column-sum sum first-from some-of word port-word
 agrees-15 = refl
 
 pub headroom-15 : first-wrong-headroom list-15 ≡ 0
-unfolding first-wrong-headroom final headroom-result pair-headroom headroom-over apply Direct.start Direct.tick Pipelined.start Pipelined.tick book-words rate-words release-words release-rate-words headroom-refusal Preview.preview arrive-words into-frame booking bookings row-sum column-sum sum first-from some-of word port-word
+unfolding first-wrong-headroom final headroom-result pair-headroom headroom-over apply Direct.start Direct.tick Pipelined.start Pipelined.tick book-words rate-words release-words release-rate-words headroom-refusal Preview.preview arrive-words into-frame sharing-fit booking bookings row-sum column-sum sum first-from some-of word port-word
 headroom-15 = refl
 
 pub preview-15 : first-wrong-preview list-15 ≡ 0
-unfolding first-wrong-preview final apply Direct.start Direct.tick Pipelined.start Pipelined.tick book-words rate-words release-words release-rate-words headroom-refusal Preview.preview arrive-words into-frame booking bookings row-sum column-sum sum first-from some-of word port-word
+unfolding first-wrong-preview final apply Direct.start Direct.tick Pipelined.start Pipelined.tick book-words rate-words release-words release-rate-words headroom-refusal Preview.preview arrive-words into-frame sharing-fit booking bookings row-sum column-sum sum first-from some-of word port-word
 preview-15 = refl
 
 abbrev list-16 : Case
@@ -2087,7 +2088,7 @@ list-16 =
     record {
       switch =
           record {
-            clock = clock-of 33 5 77 1000;
+            clock = clock-of 33 5 77 1000 0;
             book = book-of (2 ∷ 1 ∷ 2 ∷ 103 ∷ 102 ∷ 101 ∷ 2 ∷ 1 ∷ 4 ∷ []) (4 ∷ 1 ∷ 3 ∷ 4 ∷ 1 ∷ 101 ∷ 102 ∷ 7 ∷ 1 ∷ []);
             credits = 101 ∷ 4 ∷ 4 ∷ 2 ∷ 4 ∷ 104 ∷ 3 ∷ 102 ∷ 3 ∷ [];
             queues = 1 ∷ 7 ∷ 2 ∷ 101 ∷ 103 ∷ 7 ∷ 102 ∷ 2 ∷ 102 ∷ [];
@@ -2096,7 +2097,7 @@ list-16 =
             flight = 4 ∷ 2 ∷ 101 ∷ 1 ∷ 104 ∷ 102 ∷ 7 ∷ 101 ∷ 1 ∷ 1 ∷ 1 ∷ 103 ∷ 7 ∷ 102 ∷ 104 ∷ 103 ∷ 3 ∷ 103 ∷ [];
           };
       calls =
-          start direct 1 5 0
+          start direct 1 5 0 fine
           ∷ book-rate 1 1 1
           ∷ book-rate 1 1 1
           ∷ book-rate 1 1 1
@@ -2147,7 +2148,7 @@ list-16 =
           ∷ [];
       previews =
           showing slots-booking 1 1 1 0 3 3
-          ∷ showing slots-booking 1 1 2 8 4 4
+          ∷ showing slots-booking 1 1 2 0 4 4
           ∷ showing rate-booking 1 1 1 6 0 0
           ∷ showing rate-booking 1 1 1 6 0 0
           ∷ showing slots-release 1 1 1 0 1 1
@@ -2160,15 +2161,15 @@ list-16 =
     }
 
 pub agrees-16 : first-wrong list-16 ≡ 0
-unfolding first-wrong entries apply Direct.start Direct.tick Pipelined.start Pipelined.tick book-words rate-words release-words release-rate-words headroom-refusal Preview.preview arrive-words into-frame booking bookings row-sum column-sum sum first-from some-of word port-word
+unfolding first-wrong entries apply Direct.start Direct.tick Pipelined.start Pipelined.tick book-words rate-words release-words release-rate-words headroom-refusal Preview.preview arrive-words into-frame sharing-fit booking bookings row-sum column-sum sum first-from some-of word port-word
 agrees-16 = refl
 
 pub headroom-16 : first-wrong-headroom list-16 ≡ 0
-unfolding first-wrong-headroom final headroom-result pair-headroom headroom-over apply Direct.start Direct.tick Pipelined.start Pipelined.tick book-words rate-words release-words release-rate-words headroom-refusal Preview.preview arrive-words into-frame booking bookings row-sum column-sum sum first-from some-of word port-word
+unfolding first-wrong-headroom final headroom-result pair-headroom headroom-over apply Direct.start Direct.tick Pipelined.start Pipelined.tick book-words rate-words release-words release-rate-words headroom-refusal Preview.preview arrive-words into-frame sharing-fit booking bookings row-sum column-sum sum first-from some-of word port-word
 headroom-16 = refl
 
 pub preview-16 : first-wrong-preview list-16 ≡ 0
-unfolding first-wrong-preview final apply Direct.start Direct.tick Pipelined.start Pipelined.tick book-words rate-words release-words release-rate-words headroom-refusal Preview.preview arrive-words into-frame booking bookings row-sum column-sum sum first-from some-of word port-word
+unfolding first-wrong-preview final apply Direct.start Direct.tick Pipelined.start Pipelined.tick book-words rate-words release-words release-rate-words headroom-refusal Preview.preview arrive-words into-frame sharing-fit booking bookings row-sum column-sum sum first-from some-of word port-word
 preview-16 = refl
 
 abbrev list-17 : Case
@@ -2176,7 +2177,7 @@ list-17 =
     record {
       switch =
           record {
-            clock = clock-of 3 5 1 100000001;
+            clock = clock-of 3 5 1 100000001 0;
             book = book-of (2 ∷ 101 ∷ 7 ∷ 104 ∷ 1 ∷ 104 ∷ 4 ∷ 104 ∷ 1 ∷ []) (101 ∷ 2 ∷ 3 ∷ 4 ∷ 104 ∷ 2 ∷ 7 ∷ 4 ∷ 7 ∷ []);
             credits = 7 ∷ 2 ∷ 103 ∷ 103 ∷ 104 ∷ 1 ∷ 4 ∷ 1 ∷ 1 ∷ [];
             queues = 1 ∷ 103 ∷ 101 ∷ 1 ∷ 102 ∷ 104 ∷ 4 ∷ 1 ∷ 7 ∷ [];
@@ -2185,7 +2186,7 @@ list-17 =
             flight = 4 ∷ 3 ∷ 4 ∷ 102 ∷ 2 ∷ 4 ∷ 103 ∷ 104 ∷ 102 ∷ 3 ∷ 102 ∷ 1 ∷ 1 ∷ 7 ∷ 7 ∷ 1 ∷ 1 ∷ 2 ∷ [];
           };
       calls =
-          start pipelined 2 7 1000
+          start pipelined 2 7 1000 plain
           ∷ book-rate 2 2 48
           ∷ book-rate 2 2 48
           ∷ book-rate 2 2 47
@@ -2219,7 +2220,7 @@ list-17 =
           ∷ release-rate 2 1 95
           ∷ tick pipelined
           ∷ tick pipelined
-          ∷ start pipelined 1 2 100000000
+          ∷ start pipelined 1 2 100000000 plain
           ∷ book-rate 1 1 16666666
           ∷ arrive 1 1 65535
           ∷ arrive 1 1 65535
@@ -2308,15 +2309,15 @@ list-17 =
     }
 
 pub agrees-17 : first-wrong list-17 ≡ 0
-unfolding first-wrong entries apply Direct.start Direct.tick Pipelined.start Pipelined.tick book-words rate-words release-words release-rate-words headroom-refusal Preview.preview arrive-words into-frame booking bookings row-sum column-sum sum first-from some-of word port-word
+unfolding first-wrong entries apply Direct.start Direct.tick Pipelined.start Pipelined.tick book-words rate-words release-words release-rate-words headroom-refusal Preview.preview arrive-words into-frame sharing-fit booking bookings row-sum column-sum sum first-from some-of word port-word
 agrees-17 = refl
 
 pub headroom-17 : first-wrong-headroom list-17 ≡ 0
-unfolding first-wrong-headroom final headroom-result pair-headroom headroom-over apply Direct.start Direct.tick Pipelined.start Pipelined.tick book-words rate-words release-words release-rate-words headroom-refusal Preview.preview arrive-words into-frame booking bookings row-sum column-sum sum first-from some-of word port-word
+unfolding first-wrong-headroom final headroom-result pair-headroom headroom-over apply Direct.start Direct.tick Pipelined.start Pipelined.tick book-words rate-words release-words release-rate-words headroom-refusal Preview.preview arrive-words into-frame sharing-fit booking bookings row-sum column-sum sum first-from some-of word port-word
 headroom-17 = refl
 
 pub preview-17 : first-wrong-preview list-17 ≡ 0
-unfolding first-wrong-preview final apply Direct.start Direct.tick Pipelined.start Pipelined.tick book-words rate-words release-words release-rate-words headroom-refusal Preview.preview arrive-words into-frame booking bookings row-sum column-sum sum first-from some-of word port-word
+unfolding first-wrong-preview final apply Direct.start Direct.tick Pipelined.start Pipelined.tick book-words rate-words release-words release-rate-words headroom-refusal Preview.preview arrive-words into-frame sharing-fit booking bookings row-sum column-sum sum first-from some-of word port-word
 preview-17 = refl
 
 abbrev list-18 : Case
@@ -2324,7 +2325,7 @@ list-18 =
     record {
       switch =
           record {
-            clock = clock-of 9 5 0 0;
+            clock = clock-of 9 5 0 0 0;
             book = book-of (1 ∷ 102 ∷ 101 ∷ 7 ∷ 1 ∷ 3 ∷ 2 ∷ 101 ∷ 4 ∷ []) (101 ∷ 7 ∷ 103 ∷ 103 ∷ 1 ∷ 102 ∷ 1 ∷ 2 ∷ 1 ∷ []);
             credits = 104 ∷ 101 ∷ 101 ∷ 104 ∷ 4 ∷ 101 ∷ 1 ∷ 2 ∷ 7 ∷ [];
             queues = 101 ∷ 2 ∷ 104 ∷ 1 ∷ 104 ∷ 104 ∷ 2 ∷ 2 ∷ 4 ∷ [];
@@ -2333,7 +2334,7 @@ list-18 =
             flight = 4 ∷ 1 ∷ 2 ∷ 3 ∷ 2 ∷ 1 ∷ 103 ∷ 4 ∷ 1 ∷ 102 ∷ 4 ∷ 104 ∷ 103 ∷ 1 ∷ 101 ∷ 1 ∷ 3 ∷ 2 ∷ [];
           };
       calls =
-          start direct 2 4 99999999
+          start direct 2 4 99999999 plain
           ∷ book-rate 2 2 8333333
           ∷ book-rate 2 1 24999999
           ∷ book-rate 2 2 8333334
@@ -2351,7 +2352,7 @@ list-18 =
           ∷ preview slots-release 2 1 1
           ∷ headroom 2 4294967297
           ∷ tick direct
-          ∷ start direct 2 4 1000
+          ∷ start direct 2 4 1000 plain
           ∷ book 2 1 1
           ∷ book-rate 2 1 83
           ∷ book-rate 2 1 250
@@ -2364,7 +2365,7 @@ list-18 =
           ∷ book-rate 2 1 167
           ∷ arrive 2 1 1
           ∷ arrive 1 1 2
-          ∷ start direct 2 0 1000
+          ∷ start direct 2 0 1000 fine
           ∷ tick direct
           ∷ headroom 2 1
           ∷ book-rate 2 2 84
@@ -2394,7 +2395,7 @@ list-18 =
           ∷ tick direct
           ∷ tick direct
           ∷ tick direct
-          ∷ start direct 2 10001 1000
+          ∷ start direct 2 10001 1000 fine
           ∷ book 1 0 1
           ∷ headroom 2 2
           ∷ tick direct
@@ -2441,15 +2442,15 @@ list-18 =
     }
 
 pub agrees-18 : first-wrong list-18 ≡ 0
-unfolding first-wrong entries apply Direct.start Direct.tick Pipelined.start Pipelined.tick book-words rate-words release-words release-rate-words headroom-refusal Preview.preview arrive-words into-frame booking bookings row-sum column-sum sum first-from some-of word port-word
+unfolding first-wrong entries apply Direct.start Direct.tick Pipelined.start Pipelined.tick book-words rate-words release-words release-rate-words headroom-refusal Preview.preview arrive-words into-frame sharing-fit booking bookings row-sum column-sum sum first-from some-of word port-word
 agrees-18 = refl
 
 pub headroom-18 : first-wrong-headroom list-18 ≡ 0
-unfolding first-wrong-headroom final headroom-result pair-headroom headroom-over apply Direct.start Direct.tick Pipelined.start Pipelined.tick book-words rate-words release-words release-rate-words headroom-refusal Preview.preview arrive-words into-frame booking bookings row-sum column-sum sum first-from some-of word port-word
+unfolding first-wrong-headroom final headroom-result pair-headroom headroom-over apply Direct.start Direct.tick Pipelined.start Pipelined.tick book-words rate-words release-words release-rate-words headroom-refusal Preview.preview arrive-words into-frame sharing-fit booking bookings row-sum column-sum sum first-from some-of word port-word
 headroom-18 = refl
 
 pub preview-18 : first-wrong-preview list-18 ≡ 0
-unfolding first-wrong-preview final apply Direct.start Direct.tick Pipelined.start Pipelined.tick book-words rate-words release-words release-rate-words headroom-refusal Preview.preview arrive-words into-frame booking bookings row-sum column-sum sum first-from some-of word port-word
+unfolding first-wrong-preview final apply Direct.start Direct.tick Pipelined.start Pipelined.tick book-words rate-words release-words release-rate-words headroom-refusal Preview.preview arrive-words into-frame sharing-fit booking bookings row-sum column-sum sum first-from some-of word port-word
 preview-18 = refl
 
 abbrev list-19 : Case
@@ -2457,7 +2458,7 @@ list-19 =
     record {
       switch =
           record {
-            clock = clock-of 0 0 77 1;
+            clock = clock-of 0 0 77 1 7;
             book = book-of (3 ∷ 101 ∷ 104 ∷ 1 ∷ 4 ∷ 7 ∷ 2 ∷ 2 ∷ 102 ∷ []) (103 ∷ 2 ∷ 102 ∷ 101 ∷ 101 ∷ 2 ∷ 101 ∷ 103 ∷ 1 ∷ []);
             credits = 2 ∷ 4 ∷ 104 ∷ 103 ∷ 2 ∷ 102 ∷ 1 ∷ 1 ∷ 1 ∷ [];
             queues = 3 ∷ 104 ∷ 1 ∷ 103 ∷ 3 ∷ 102 ∷ 1 ∷ 7 ∷ 2 ∷ [];
@@ -2466,7 +2467,7 @@ list-19 =
             flight = 4 ∷ 102 ∷ 2 ∷ 1 ∷ 7 ∷ 1 ∷ 103 ∷ 103 ∷ 104 ∷ 2 ∷ 3 ∷ 4 ∷ 3 ∷ 104 ∷ 104 ∷ 101 ∷ 7 ∷ 102 ∷ [];
           };
       calls =
-          start pipelined 3 7 0
+          start pipelined 3 7 0 fine
           ∷ book-rate 1 3 1
           ∷ book-rate 1 3 1
           ∷ book-rate 1 3 1
@@ -2493,7 +2494,7 @@ list-19 =
           ∷ tick pipelined
           ∷ tick pipelined
           ∷ headroom 3 1
-          ∷ start pipelined 3 2 0
+          ∷ start pipelined 3 2 0 plain
           ∷ tick pipelined
           ∷ tick pipelined
           ∷ arrive 2 1 61
@@ -2510,7 +2511,7 @@ list-19 =
           ∷ book-rate 2 2 1
           ∷ preview rate-release 1 2 1
           ∷ arrive 3 3 73
-          ∷ start pipelined 3 7 100000001
+          ∷ start pipelined 3 7 100000001 plain
           ∷ tick pipelined
           ∷ release 1 1 1
           ∷ tick pipelined
@@ -2593,15 +2594,15 @@ list-19 =
     }
 
 pub agrees-19 : first-wrong list-19 ≡ 0
-unfolding first-wrong entries apply Direct.start Direct.tick Pipelined.start Pipelined.tick book-words rate-words release-words release-rate-words headroom-refusal Preview.preview arrive-words into-frame booking bookings row-sum column-sum sum first-from some-of word port-word
+unfolding first-wrong entries apply Direct.start Direct.tick Pipelined.start Pipelined.tick book-words rate-words release-words release-rate-words headroom-refusal Preview.preview arrive-words into-frame sharing-fit booking bookings row-sum column-sum sum first-from some-of word port-word
 agrees-19 = refl
 
 pub headroom-19 : first-wrong-headroom list-19 ≡ 0
-unfolding first-wrong-headroom final headroom-result pair-headroom headroom-over apply Direct.start Direct.tick Pipelined.start Pipelined.tick book-words rate-words release-words release-rate-words headroom-refusal Preview.preview arrive-words into-frame booking bookings row-sum column-sum sum first-from some-of word port-word
+unfolding first-wrong-headroom final headroom-result pair-headroom headroom-over apply Direct.start Direct.tick Pipelined.start Pipelined.tick book-words rate-words release-words release-rate-words headroom-refusal Preview.preview arrive-words into-frame sharing-fit booking bookings row-sum column-sum sum first-from some-of word port-word
 headroom-19 = refl
 
 pub preview-19 : first-wrong-preview list-19 ≡ 0
-unfolding first-wrong-preview final apply Direct.start Direct.tick Pipelined.start Pipelined.tick book-words rate-words release-words release-rate-words headroom-refusal Preview.preview arrive-words into-frame booking bookings row-sum column-sum sum first-from some-of word port-word
+unfolding first-wrong-preview final apply Direct.start Direct.tick Pipelined.start Pipelined.tick book-words rate-words release-words release-rate-words headroom-refusal Preview.preview arrive-words into-frame sharing-fit booking bookings row-sum column-sum sum first-from some-of word port-word
 preview-19 = refl
 
 abbrev list-20 : Case
@@ -2609,7 +2610,7 @@ list-20 =
     record {
       switch =
           record {
-            clock = clock-of 0 2 1 0;
+            clock = clock-of 0 2 1 0 0;
             book = book-of (101 ∷ 7 ∷ 1 ∷ 2 ∷ 1 ∷ 101 ∷ 2 ∷ 7 ∷ 4 ∷ []) (1 ∷ 1 ∷ 3 ∷ 1 ∷ 102 ∷ 101 ∷ 102 ∷ 101 ∷ 1 ∷ []);
             credits = 4 ∷ 101 ∷ 7 ∷ 101 ∷ 2 ∷ 2 ∷ 1 ∷ 4 ∷ 101 ∷ [];
             queues = 1 ∷ 2 ∷ 102 ∷ 103 ∷ 2 ∷ 102 ∷ 4 ∷ 2 ∷ 103 ∷ [];
@@ -2618,7 +2619,7 @@ list-20 =
             flight = 104 ∷ 104 ∷ 104 ∷ 103 ∷ 102 ∷ 1 ∷ 2 ∷ 102 ∷ 2 ∷ 7 ∷ 7 ∷ 7 ∷ 104 ∷ 3 ∷ 2 ∷ 1 ∷ 103 ∷ 104 ∷ [];
           };
       calls =
-          start direct 1 3 0
+          start direct 1 3 0 fine
           ∷ book-rate 1 1 1
           ∷ book-rate 1 1 1
           ∷ book-rate 1 1 1
@@ -2677,15 +2678,15 @@ list-20 =
     }
 
 pub agrees-20 : first-wrong list-20 ≡ 0
-unfolding first-wrong entries apply Direct.start Direct.tick Pipelined.start Pipelined.tick book-words rate-words release-words release-rate-words headroom-refusal Preview.preview arrive-words into-frame booking bookings row-sum column-sum sum first-from some-of word port-word
+unfolding first-wrong entries apply Direct.start Direct.tick Pipelined.start Pipelined.tick book-words rate-words release-words release-rate-words headroom-refusal Preview.preview arrive-words into-frame sharing-fit booking bookings row-sum column-sum sum first-from some-of word port-word
 agrees-20 = refl
 
 pub headroom-20 : first-wrong-headroom list-20 ≡ 0
-unfolding first-wrong-headroom final headroom-result pair-headroom headroom-over apply Direct.start Direct.tick Pipelined.start Pipelined.tick book-words rate-words release-words release-rate-words headroom-refusal Preview.preview arrive-words into-frame booking bookings row-sum column-sum sum first-from some-of word port-word
+unfolding first-wrong-headroom final headroom-result pair-headroom headroom-over apply Direct.start Direct.tick Pipelined.start Pipelined.tick book-words rate-words release-words release-rate-words headroom-refusal Preview.preview arrive-words into-frame sharing-fit booking bookings row-sum column-sum sum first-from some-of word port-word
 headroom-20 = refl
 
 pub preview-20 : first-wrong-preview list-20 ≡ 0
-unfolding first-wrong-preview final apply Direct.start Direct.tick Pipelined.start Pipelined.tick book-words rate-words release-words release-rate-words headroom-refusal Preview.preview arrive-words into-frame booking bookings row-sum column-sum sum first-from some-of word port-word
+unfolding first-wrong-preview final apply Direct.start Direct.tick Pipelined.start Pipelined.tick book-words rate-words release-words release-rate-words headroom-refusal Preview.preview arrive-words into-frame sharing-fit booking bookings row-sum column-sum sum first-from some-of word port-word
 preview-20 = refl
 
 abbrev list-21 : Case
@@ -2693,7 +2694,7 @@ list-21 =
     record {
       switch =
           record {
-            clock = clock-of 1 10001 0 1;
+            clock = clock-of 1 10001 0 1 0;
             book = book-of (102 ∷ 103 ∷ 102 ∷ 2 ∷ 2 ∷ 2 ∷ 3 ∷ 2 ∷ 1 ∷ []) (1 ∷ 104 ∷ 101 ∷ 102 ∷ 3 ∷ 102 ∷ 101 ∷ 1 ∷ 103 ∷ []);
             credits = 104 ∷ 4 ∷ 1 ∷ 2 ∷ 3 ∷ 2 ∷ 4 ∷ 104 ∷ 102 ∷ [];
             queues = 4 ∷ 7 ∷ 2 ∷ 104 ∷ 104 ∷ 101 ∷ 102 ∷ 2 ∷ 103 ∷ [];
@@ -2702,7 +2703,7 @@ list-21 =
             flight = 1 ∷ 103 ∷ 7 ∷ 1 ∷ 1 ∷ 1 ∷ 4 ∷ 104 ∷ 1 ∷ 2 ∷ 101 ∷ 3 ∷ 4 ∷ 4 ∷ 2 ∷ 7 ∷ 101 ∷ 2 ∷ [];
           };
       calls =
-          start pipelined 3 4 100000000
+          start pipelined 3 4 100000000 plain
           ∷ book-rate 2 2 8333333
           ∷ book-rate 2 2 8333334
           ∷ book-rate 1 3 8333333
@@ -2863,15 +2864,15 @@ list-21 =
     }
 
 pub agrees-21 : first-wrong list-21 ≡ 0
-unfolding first-wrong entries apply Direct.start Direct.tick Pipelined.start Pipelined.tick book-words rate-words release-words release-rate-words headroom-refusal Preview.preview arrive-words into-frame booking bookings row-sum column-sum sum first-from some-of word port-word
+unfolding first-wrong entries apply Direct.start Direct.tick Pipelined.start Pipelined.tick book-words rate-words release-words release-rate-words headroom-refusal Preview.preview arrive-words into-frame sharing-fit booking bookings row-sum column-sum sum first-from some-of word port-word
 agrees-21 = refl
 
 pub headroom-21 : first-wrong-headroom list-21 ≡ 0
-unfolding first-wrong-headroom final headroom-result pair-headroom headroom-over apply Direct.start Direct.tick Pipelined.start Pipelined.tick book-words rate-words release-words release-rate-words headroom-refusal Preview.preview arrive-words into-frame booking bookings row-sum column-sum sum first-from some-of word port-word
+unfolding first-wrong-headroom final headroom-result pair-headroom headroom-over apply Direct.start Direct.tick Pipelined.start Pipelined.tick book-words rate-words release-words release-rate-words headroom-refusal Preview.preview arrive-words into-frame sharing-fit booking bookings row-sum column-sum sum first-from some-of word port-word
 headroom-21 = refl
 
 pub preview-21 : first-wrong-preview list-21 ≡ 0
-unfolding first-wrong-preview final apply Direct.start Direct.tick Pipelined.start Pipelined.tick book-words rate-words release-words release-rate-words headroom-refusal Preview.preview arrive-words into-frame booking bookings row-sum column-sum sum first-from some-of word port-word
+unfolding first-wrong-preview final apply Direct.start Direct.tick Pipelined.start Pipelined.tick book-words rate-words release-words release-rate-words headroom-refusal Preview.preview arrive-words into-frame sharing-fit booking bookings row-sum column-sum sum first-from some-of word port-word
 preview-21 = refl
 
 abbrev list-22 : Case
@@ -2879,7 +2880,7 @@ list-22 =
     record {
       switch =
           record {
-            clock = clock-of 2 1 77 1000;
+            clock = clock-of 2 1 77 1000 7;
             book = book-of (102 ∷ 2 ∷ 7 ∷ 4 ∷ 7 ∷ 101 ∷ 103 ∷ 7 ∷ 101 ∷ []) (103 ∷ 2 ∷ 2 ∷ 7 ∷ 101 ∷ 1 ∷ 102 ∷ 104 ∷ 102 ∷ []);
             credits = 3 ∷ 1 ∷ 101 ∷ 4 ∷ 7 ∷ 101 ∷ 104 ∷ 4 ∷ 2 ∷ [];
             queues = 1 ∷ 1 ∷ 1 ∷ 103 ∷ 1 ∷ 102 ∷ 2 ∷ 3 ∷ 2 ∷ [];
@@ -2888,7 +2889,7 @@ list-22 =
             flight = 2 ∷ 7 ∷ 104 ∷ 7 ∷ 4 ∷ 103 ∷ 3 ∷ 3 ∷ 4 ∷ 2 ∷ 103 ∷ 2 ∷ 1 ∷ 104 ∷ 101 ∷ 3 ∷ 104 ∷ 103 ∷ [];
           };
       calls =
-          start direct 3 1 7
+          start direct 3 1 7 fine
           ∷ book-rate 2 1 7
           ∷ book-rate 2 1 3
           ∷ book-rate 3 2 2
@@ -3077,9 +3078,9 @@ list-22 =
           ∷ told 1 0 5 (pos 0)
           ∷ [];
       previews =
-          showing slots-booking 1 1 1 9 1 2
-          ∷ showing slots-booking 3 2 1 8 2 2
-          ∷ showing rate-booking 3 1 2 8 2 2
+          showing slots-booking 1 1 1 15 1 2
+          ∷ showing slots-booking 3 2 1 15 2 2
+          ∷ showing rate-booking 3 1 2 15 2 2
           ∷ showing rate-booking 3 2 2 0 1 1
           ∷ showing slots-release 3 2 1 10 0 0
           ∷ showing slots-release 2 2 1 10 0 0
@@ -3091,15 +3092,15 @@ list-22 =
     }
 
 pub agrees-22 : first-wrong list-22 ≡ 0
-unfolding first-wrong entries apply Direct.start Direct.tick Pipelined.start Pipelined.tick book-words rate-words release-words release-rate-words headroom-refusal Preview.preview arrive-words into-frame booking bookings row-sum column-sum sum first-from some-of word port-word
+unfolding first-wrong entries apply Direct.start Direct.tick Pipelined.start Pipelined.tick book-words rate-words release-words release-rate-words headroom-refusal Preview.preview arrive-words into-frame sharing-fit booking bookings row-sum column-sum sum first-from some-of word port-word
 agrees-22 = refl
 
 pub headroom-22 : first-wrong-headroom list-22 ≡ 0
-unfolding first-wrong-headroom final headroom-result pair-headroom headroom-over apply Direct.start Direct.tick Pipelined.start Pipelined.tick book-words rate-words release-words release-rate-words headroom-refusal Preview.preview arrive-words into-frame booking bookings row-sum column-sum sum first-from some-of word port-word
+unfolding first-wrong-headroom final headroom-result pair-headroom headroom-over apply Direct.start Direct.tick Pipelined.start Pipelined.tick book-words rate-words release-words release-rate-words headroom-refusal Preview.preview arrive-words into-frame sharing-fit booking bookings row-sum column-sum sum first-from some-of word port-word
 headroom-22 = refl
 
 pub preview-22 : first-wrong-preview list-22 ≡ 0
-unfolding first-wrong-preview final apply Direct.start Direct.tick Pipelined.start Pipelined.tick book-words rate-words release-words release-rate-words headroom-refusal Preview.preview arrive-words into-frame booking bookings row-sum column-sum sum first-from some-of word port-word
+unfolding first-wrong-preview final apply Direct.start Direct.tick Pipelined.start Pipelined.tick book-words rate-words release-words release-rate-words headroom-refusal Preview.preview arrive-words into-frame sharing-fit booking bookings row-sum column-sum sum first-from some-of word port-word
 preview-22 = refl
 
 abbrev list-23 : Case
@@ -3107,7 +3108,7 @@ list-23 =
     record {
       switch =
           record {
-            clock = clock-of 9 10001 0 100000001;
+            clock = clock-of 9 10001 0 100000001 0;
             book = book-of (2 ∷ 3 ∷ 103 ∷ 103 ∷ 102 ∷ 3 ∷ 104 ∷ 1 ∷ 101 ∷ []) (4 ∷ 104 ∷ 102 ∷ 102 ∷ 102 ∷ 4 ∷ 2 ∷ 1 ∷ 2 ∷ []);
             credits = 7 ∷ 1 ∷ 1 ∷ 2 ∷ 1 ∷ 3 ∷ 101 ∷ 101 ∷ 1 ∷ [];
             queues = 101 ∷ 1 ∷ 1 ∷ 7 ∷ 2 ∷ 7 ∷ 103 ∷ 2 ∷ 4 ∷ [];
@@ -3116,7 +3117,7 @@ list-23 =
             flight = 2 ∷ 104 ∷ 101 ∷ 2 ∷ 104 ∷ 104 ∷ 3 ∷ 7 ∷ 1 ∷ 4 ∷ 4 ∷ 1 ∷ 7 ∷ 101 ∷ 104 ∷ 104 ∷ 2 ∷ 1 ∷ [];
           };
       calls =
-          start pipelined 2 2 1000
+          start pipelined 2 2 1000 plain
           ∷ book-rate 2 2 166
           ∷ book-rate 2 2 166
           ∷ book-rate 2 2 333
@@ -3148,7 +3149,7 @@ list-23 =
           ∷ release-rate 1 2 1
           ∷ arrive 2 2 3
           ∷ tick pipelined
-          ∷ start pipelined 7 32 1000
+          ∷ start pipelined 7 32 1000 fine
           ∷ arrive 1 2 4
           ∷ tick pipelined
           ∷ release-rate 2 2 331
@@ -3204,15 +3205,15 @@ list-23 =
     }
 
 pub agrees-23 : first-wrong list-23 ≡ 0
-unfolding first-wrong entries apply Direct.start Direct.tick Pipelined.start Pipelined.tick book-words rate-words release-words release-rate-words headroom-refusal Preview.preview arrive-words into-frame booking bookings row-sum column-sum sum first-from some-of word port-word
+unfolding first-wrong entries apply Direct.start Direct.tick Pipelined.start Pipelined.tick book-words rate-words release-words release-rate-words headroom-refusal Preview.preview arrive-words into-frame sharing-fit booking bookings row-sum column-sum sum first-from some-of word port-word
 agrees-23 = refl
 
 pub headroom-23 : first-wrong-headroom list-23 ≡ 0
-unfolding first-wrong-headroom final headroom-result pair-headroom headroom-over apply Direct.start Direct.tick Pipelined.start Pipelined.tick book-words rate-words release-words release-rate-words headroom-refusal Preview.preview arrive-words into-frame booking bookings row-sum column-sum sum first-from some-of word port-word
+unfolding first-wrong-headroom final headroom-result pair-headroom headroom-over apply Direct.start Direct.tick Pipelined.start Pipelined.tick book-words rate-words release-words release-rate-words headroom-refusal Preview.preview arrive-words into-frame sharing-fit booking bookings row-sum column-sum sum first-from some-of word port-word
 headroom-23 = refl
 
 pub preview-23 : first-wrong-preview list-23 ≡ 0
-unfolding first-wrong-preview final apply Direct.start Direct.tick Pipelined.start Pipelined.tick book-words rate-words release-words release-rate-words headroom-refusal Preview.preview arrive-words into-frame booking bookings row-sum column-sum sum first-from some-of word port-word
+unfolding first-wrong-preview final apply Direct.start Direct.tick Pipelined.start Pipelined.tick book-words rate-words release-words release-rate-words headroom-refusal Preview.preview arrive-words into-frame sharing-fit booking bookings row-sum column-sum sum first-from some-of word port-word
 preview-23 = refl
 
 abbrev list-24 : Case
@@ -3220,7 +3221,7 @@ list-24 =
     record {
       switch =
           record {
-            clock = clock-of 0 0 77 100000001;
+            clock = clock-of 0 0 77 100000001 7;
             book = book-of (7 ∷ 103 ∷ 7 ∷ 4 ∷ 102 ∷ 4 ∷ 2 ∷ 1 ∷ 4 ∷ []) (103 ∷ 1 ∷ 4 ∷ 1 ∷ 7 ∷ 103 ∷ 102 ∷ 2 ∷ 104 ∷ []);
             credits = 102 ∷ 101 ∷ 7 ∷ 4 ∷ 7 ∷ 7 ∷ 7 ∷ 4 ∷ 1 ∷ [];
             queues = 2 ∷ 104 ∷ 1 ∷ 3 ∷ 4 ∷ 103 ∷ 2 ∷ 2 ∷ 3 ∷ [];
@@ -3229,7 +3230,7 @@ list-24 =
             flight = 2 ∷ 104 ∷ 7 ∷ 103 ∷ 101 ∷ 101 ∷ 2 ∷ 104 ∷ 101 ∷ 101 ∷ 1 ∷ 3 ∷ 1 ∷ 1 ∷ 7 ∷ 1 ∷ 7 ∷ 4 ∷ [];
           };
       calls =
-          start direct 3 4 99999999
+          start direct 3 4 99999999 plain
           ∷ book-rate 1 1 8333333
           ∷ book-rate 1 1 8333333
           ∷ book 1 2 1
@@ -3405,15 +3406,15 @@ list-24 =
     }
 
 pub agrees-24 : first-wrong list-24 ≡ 0
-unfolding first-wrong entries apply Direct.start Direct.tick Pipelined.start Pipelined.tick book-words rate-words release-words release-rate-words headroom-refusal Preview.preview arrive-words into-frame booking bookings row-sum column-sum sum first-from some-of word port-word
+unfolding first-wrong entries apply Direct.start Direct.tick Pipelined.start Pipelined.tick book-words rate-words release-words release-rate-words headroom-refusal Preview.preview arrive-words into-frame sharing-fit booking bookings row-sum column-sum sum first-from some-of word port-word
 agrees-24 = refl
 
 pub headroom-24 : first-wrong-headroom list-24 ≡ 0
-unfolding first-wrong-headroom final headroom-result pair-headroom headroom-over apply Direct.start Direct.tick Pipelined.start Pipelined.tick book-words rate-words release-words release-rate-words headroom-refusal Preview.preview arrive-words into-frame booking bookings row-sum column-sum sum first-from some-of word port-word
+unfolding first-wrong-headroom final headroom-result pair-headroom headroom-over apply Direct.start Direct.tick Pipelined.start Pipelined.tick book-words rate-words release-words release-rate-words headroom-refusal Preview.preview arrive-words into-frame sharing-fit booking bookings row-sum column-sum sum first-from some-of word port-word
 headroom-24 = refl
 
 pub preview-24 : first-wrong-preview list-24 ≡ 0
-unfolding first-wrong-preview final apply Direct.start Direct.tick Pipelined.start Pipelined.tick book-words rate-words release-words release-rate-words headroom-refusal Preview.preview arrive-words into-frame booking bookings row-sum column-sum sum first-from some-of word port-word
+unfolding first-wrong-preview final apply Direct.start Direct.tick Pipelined.start Pipelined.tick book-words rate-words release-words release-rate-words headroom-refusal Preview.preview arrive-words into-frame sharing-fit booking bookings row-sum column-sum sum first-from some-of word port-word
 preview-24 = refl
 
 abbrev list-25 : Case
@@ -3421,7 +3422,7 @@ list-25 =
     record {
       switch =
           record {
-            clock = clock-of 3 0 1 1;
+            clock = clock-of 3 0 1 1 0;
             book = book-of (2 ∷ 2 ∷ 103 ∷ 103 ∷ 1 ∷ 101 ∷ 2 ∷ 2 ∷ 101 ∷ []) (1 ∷ 103 ∷ 102 ∷ 7 ∷ 1 ∷ 104 ∷ 101 ∷ 4 ∷ 2 ∷ []);
             credits = 3 ∷ 4 ∷ 1 ∷ 3 ∷ 102 ∷ 3 ∷ 2 ∷ 4 ∷ 3 ∷ [];
             queues = 4 ∷ 102 ∷ 103 ∷ 2 ∷ 4 ∷ 1 ∷ 1 ∷ 3 ∷ 7 ∷ [];
@@ -3430,7 +3431,7 @@ list-25 =
             flight = 102 ∷ 2 ∷ 103 ∷ 7 ∷ 4 ∷ 102 ∷ 2 ∷ 102 ∷ 7 ∷ 103 ∷ 3 ∷ 3 ∷ 103 ∷ 1 ∷ 102 ∷ 3 ∷ 2 ∷ 104 ∷ [];
           };
       calls =
-          start pipelined 3 5 0
+          start pipelined 3 5 0 fine
           ∷ book-rate 2 2 1
           ∷ book-rate 2 2 1
           ∷ book-rate 2 2 1
@@ -3468,7 +3469,7 @@ list-25 =
           ∷ tick pipelined
           ∷ tick pipelined
           ∷ tick pipelined
-          ∷ start pipelined 3 5 100000001
+          ∷ start pipelined 3 5 100000001 plain
           ∷ book-rate 2 2 1
           ∷ tick pipelined
           ∷ tick pipelined
@@ -3552,7 +3553,7 @@ list-25 =
           ∷ told 1 0 5 (pos 0)
           ∷ [];
       previews =
-          showing slots-booking 3 1 1 9 3 4
+          showing slots-booking 3 1 1 0 3 4
           ∷ showing slots-booking 3 2 1 0 3 1
           ∷ showing rate-booking 1 3 1 6 0 0
           ∷ showing rate-booking 1 3 1 6 0 0
@@ -3566,15 +3567,15 @@ list-25 =
     }
 
 pub agrees-25 : first-wrong list-25 ≡ 0
-unfolding first-wrong entries apply Direct.start Direct.tick Pipelined.start Pipelined.tick book-words rate-words release-words release-rate-words headroom-refusal Preview.preview arrive-words into-frame booking bookings row-sum column-sum sum first-from some-of word port-word
+unfolding first-wrong entries apply Direct.start Direct.tick Pipelined.start Pipelined.tick book-words rate-words release-words release-rate-words headroom-refusal Preview.preview arrive-words into-frame sharing-fit booking bookings row-sum column-sum sum first-from some-of word port-word
 agrees-25 = refl
 
 pub headroom-25 : first-wrong-headroom list-25 ≡ 0
-unfolding first-wrong-headroom final headroom-result pair-headroom headroom-over apply Direct.start Direct.tick Pipelined.start Pipelined.tick book-words rate-words release-words release-rate-words headroom-refusal Preview.preview arrive-words into-frame booking bookings row-sum column-sum sum first-from some-of word port-word
+unfolding first-wrong-headroom final headroom-result pair-headroom headroom-over apply Direct.start Direct.tick Pipelined.start Pipelined.tick book-words rate-words release-words release-rate-words headroom-refusal Preview.preview arrive-words into-frame sharing-fit booking bookings row-sum column-sum sum first-from some-of word port-word
 headroom-25 = refl
 
 pub preview-25 : first-wrong-preview list-25 ≡ 0
-unfolding first-wrong-preview final apply Direct.start Direct.tick Pipelined.start Pipelined.tick book-words rate-words release-words release-rate-words headroom-refusal Preview.preview arrive-words into-frame booking bookings row-sum column-sum sum first-from some-of word port-word
+unfolding first-wrong-preview final apply Direct.start Direct.tick Pipelined.start Pipelined.tick book-words rate-words release-words release-rate-words headroom-refusal Preview.preview arrive-words into-frame sharing-fit booking bookings row-sum column-sum sum first-from some-of word port-word
 preview-25 = refl
 
 abbrev list-26 : Case
@@ -3582,7 +3583,7 @@ list-26 =
     record {
       switch =
           record {
-            clock = clock-of 9 2 5 0;
+            clock = clock-of 9 2 5 0 0;
             book = book-of (1 ∷ 7 ∷ 1 ∷ 103 ∷ 1 ∷ 102 ∷ 103 ∷ 101 ∷ 101 ∷ []) (3 ∷ 101 ∷ 2 ∷ 101 ∷ 4 ∷ 101 ∷ 4 ∷ 102 ∷ 2 ∷ []);
             credits = 2 ∷ 7 ∷ 104 ∷ 1 ∷ 3 ∷ 3 ∷ 101 ∷ 1 ∷ 3 ∷ [];
             queues = 3 ∷ 103 ∷ 104 ∷ 4 ∷ 7 ∷ 1 ∷ 1 ∷ 104 ∷ 103 ∷ [];
@@ -3591,7 +3592,7 @@ list-26 =
             flight = 101 ∷ 2 ∷ 1 ∷ 103 ∷ 101 ∷ 3 ∷ 7 ∷ 2 ∷ 4 ∷ 103 ∷ 104 ∷ 103 ∷ 4 ∷ 101 ∷ 7 ∷ 2 ∷ 101 ∷ 4 ∷ [];
           };
       calls =
-          start direct 1 2 7
+          start direct 1 2 7 fine
           ∷ book 1 1 1
           ∷ arrive 1 1 65535
           ∷ arrive 1 1 65535
@@ -3630,7 +3631,7 @@ list-26 =
           ∷ release-rate 1 1 1
           ∷ arrive 1 1 4
           ∷ arrive 1 2 1
-          ∷ start direct 1 2 100000001
+          ∷ start direct 1 2 100000001 plain
           ∷ release-rate 1 1 1
           ∷ book 1 1 1
           ∷ release 1 1 1
@@ -3657,9 +3658,9 @@ list-26 =
       expected =
           claim 1 1 1 1 0 2 1
           ∷ claim 1 1 3 1 0 2 1
-          ∷ claim 1 1 5 1 0 2 1
-          ∷ claim 1 1 7 1 0 2 1
-          ∷ claim 1 1 9 1 0 2 1
+          ∷ claim 1 1 5 2 0 2 2
+          ∷ claim 1 1 7 2 0 2 2
+          ∷ claim 1 1 9 2 0 2 2
           ∷ claim 1 1 11 0 0 2 0
           ∷ claim 1 1 13 0 0 2 0
           ∷ claim 1 1 15 0 0 2 0
@@ -3686,15 +3687,15 @@ list-26 =
     }
 
 pub agrees-26 : first-wrong list-26 ≡ 0
-unfolding first-wrong entries apply Direct.start Direct.tick Pipelined.start Pipelined.tick book-words rate-words release-words release-rate-words headroom-refusal Preview.preview arrive-words into-frame booking bookings row-sum column-sum sum first-from some-of word port-word
+unfolding first-wrong entries apply Direct.start Direct.tick Pipelined.start Pipelined.tick book-words rate-words release-words release-rate-words headroom-refusal Preview.preview arrive-words into-frame sharing-fit booking bookings row-sum column-sum sum first-from some-of word port-word
 agrees-26 = refl
 
 pub headroom-26 : first-wrong-headroom list-26 ≡ 0
-unfolding first-wrong-headroom final headroom-result pair-headroom headroom-over apply Direct.start Direct.tick Pipelined.start Pipelined.tick book-words rate-words release-words release-rate-words headroom-refusal Preview.preview arrive-words into-frame booking bookings row-sum column-sum sum first-from some-of word port-word
+unfolding first-wrong-headroom final headroom-result pair-headroom headroom-over apply Direct.start Direct.tick Pipelined.start Pipelined.tick book-words rate-words release-words release-rate-words headroom-refusal Preview.preview arrive-words into-frame sharing-fit booking bookings row-sum column-sum sum first-from some-of word port-word
 headroom-26 = refl
 
 pub preview-26 : first-wrong-preview list-26 ≡ 0
-unfolding first-wrong-preview final apply Direct.start Direct.tick Pipelined.start Pipelined.tick book-words rate-words release-words release-rate-words headroom-refusal Preview.preview arrive-words into-frame booking bookings row-sum column-sum sum first-from some-of word port-word
+unfolding first-wrong-preview final apply Direct.start Direct.tick Pipelined.start Pipelined.tick book-words rate-words release-words release-rate-words headroom-refusal Preview.preview arrive-words into-frame sharing-fit booking bookings row-sum column-sum sum first-from some-of word port-word
 preview-26 = refl
 
 abbrev list-27 : Case
@@ -3702,7 +3703,7 @@ list-27 =
     record {
       switch =
           record {
-            clock = clock-of 9 10001 77 1000;
+            clock = clock-of 9 10001 77 1000 7;
             book = book-of (101 ∷ 104 ∷ 1 ∷ 3 ∷ 104 ∷ 101 ∷ 3 ∷ 102 ∷ 101 ∷ []) (2 ∷ 1 ∷ 3 ∷ 102 ∷ 7 ∷ 2 ∷ 3 ∷ 102 ∷ 2 ∷ []);
             credits = 104 ∷ 103 ∷ 4 ∷ 102 ∷ 101 ∷ 3 ∷ 4 ∷ 7 ∷ 1 ∷ [];
             queues = 2 ∷ 3 ∷ 1 ∷ 104 ∷ 4 ∷ 104 ∷ 4 ∷ 2 ∷ 1 ∷ [];
@@ -3711,7 +3712,7 @@ list-27 =
             flight = 7 ∷ 3 ∷ 103 ∷ 4 ∷ 1 ∷ 104 ∷ 1 ∷ 4 ∷ 2 ∷ 7 ∷ 101 ∷ 1 ∷ 7 ∷ 104 ∷ 2 ∷ 4 ∷ 3 ∷ 102 ∷ [];
           };
       calls =
-          start pipelined 2 7 1000
+          start pipelined 2 7 1000 plain
           ∷ book 1 1 1
           ∷ book-rate 2 2 47
           ∷ book-rate 2 2 47
@@ -3806,15 +3807,15 @@ list-27 =
     }
 
 pub agrees-27 : first-wrong list-27 ≡ 0
-unfolding first-wrong entries apply Direct.start Direct.tick Pipelined.start Pipelined.tick book-words rate-words release-words release-rate-words headroom-refusal Preview.preview arrive-words into-frame booking bookings row-sum column-sum sum first-from some-of word port-word
+unfolding first-wrong entries apply Direct.start Direct.tick Pipelined.start Pipelined.tick book-words rate-words release-words release-rate-words headroom-refusal Preview.preview arrive-words into-frame sharing-fit booking bookings row-sum column-sum sum first-from some-of word port-word
 agrees-27 = refl
 
 pub headroom-27 : first-wrong-headroom list-27 ≡ 0
-unfolding first-wrong-headroom final headroom-result pair-headroom headroom-over apply Direct.start Direct.tick Pipelined.start Pipelined.tick book-words rate-words release-words release-rate-words headroom-refusal Preview.preview arrive-words into-frame booking bookings row-sum column-sum sum first-from some-of word port-word
+unfolding first-wrong-headroom final headroom-result pair-headroom headroom-over apply Direct.start Direct.tick Pipelined.start Pipelined.tick book-words rate-words release-words release-rate-words headroom-refusal Preview.preview arrive-words into-frame sharing-fit booking bookings row-sum column-sum sum first-from some-of word port-word
 headroom-27 = refl
 
 pub preview-27 : first-wrong-preview list-27 ≡ 0
-unfolding first-wrong-preview final apply Direct.start Direct.tick Pipelined.start Pipelined.tick book-words rate-words release-words release-rate-words headroom-refusal Preview.preview arrive-words into-frame booking bookings row-sum column-sum sum first-from some-of word port-word
+unfolding first-wrong-preview final apply Direct.start Direct.tick Pipelined.start Pipelined.tick book-words rate-words release-words release-rate-words headroom-refusal Preview.preview arrive-words into-frame sharing-fit booking bookings row-sum column-sum sum first-from some-of word port-word
 preview-27 = refl
 
 abbrev list-28 : Case
@@ -3822,7 +3823,7 @@ list-28 =
     record {
       switch =
           record {
-            clock = clock-of 9 1 5 1;
+            clock = clock-of 9 1 5 1 0;
             book = book-of (1 ∷ 1 ∷ 101 ∷ 4 ∷ 2 ∷ 2 ∷ 3 ∷ 104 ∷ 102 ∷ []) (4 ∷ 2 ∷ 1 ∷ 1 ∷ 7 ∷ 2 ∷ 2 ∷ 102 ∷ 103 ∷ []);
             credits = 102 ∷ 2 ∷ 1 ∷ 7 ∷ 2 ∷ 7 ∷ 2 ∷ 2 ∷ 102 ∷ [];
             queues = 4 ∷ 2 ∷ 2 ∷ 7 ∷ 2 ∷ 103 ∷ 101 ∷ 101 ∷ 2 ∷ [];
@@ -3831,7 +3832,7 @@ list-28 =
             flight = 102 ∷ 2 ∷ 1 ∷ 2 ∷ 3 ∷ 103 ∷ 1 ∷ 1 ∷ 103 ∷ 103 ∷ 104 ∷ 101 ∷ 104 ∷ 104 ∷ 4 ∷ 102 ∷ 2 ∷ 7 ∷ [];
           };
       calls =
-          start direct 1 5 99999999
+          start direct 1 5 99999999 fine
           ∷ book-rate 1 1 6666666
           ∷ book-rate 1 1 13333333
           ∷ arrive 1 1 1
@@ -3868,21 +3869,21 @@ list-28 =
           claim 1 1 1 2 0 1 1
           ∷ claim 1 1 6 2 0 1 1
           ∷ claim 1 1 11 2 0 1 1
-          ∷ claim 1 1 16 2 0 0 0
+          ∷ claim 1 1 16 5 0 0 0
           ∷ [];
       headrooms =
-          told 1 1 0 (pos 3)
+          told 1 1 0 (pos 0)
           ∷ told 2 1 5 (pos 0)
           ∷ told 1 0 5 (pos 0)
           ∷ [];
       previews =
-          showing slots-booking 1 1 1 0 3 3
-          ∷ showing slots-booking 1 1 1 0 3 3
-          ∷ showing rate-booking 1 1 6666667 0 2 2
-          ∷ showing rate-booking 1 1 18199318 0 3 3
-          ∷ showing slots-release 1 1 1 10 0 0
-          ∷ showing slots-release 1 1 3 10 0 0
-          ∷ showing rate-release 1 1 6666666 0 2 2
+          showing slots-booking 1 1 1 15 6 6
+          ∷ showing slots-booking 1 1 1 15 6 6
+          ∷ showing rate-booking 1 1 6666667 0 5 5
+          ∷ showing rate-booking 1 1 18199318 15 6 6
+          ∷ showing slots-release 1 1 1 0 4 4
+          ∷ showing slots-release 1 1 3 0 2 2
+          ∷ showing rate-release 1 1 6666666 0 5 5
           ∷ showing rate-release 1 1 35519189 10 0 0
           ∷ showing rate-booking 0 1 1 5 0 0
           ∷ showing rate-booking 1 1 100000000 6 0 0
@@ -3890,15 +3891,15 @@ list-28 =
     }
 
 pub agrees-28 : first-wrong list-28 ≡ 0
-unfolding first-wrong entries apply Direct.start Direct.tick Pipelined.start Pipelined.tick book-words rate-words release-words release-rate-words headroom-refusal Preview.preview arrive-words into-frame booking bookings row-sum column-sum sum first-from some-of word port-word
+unfolding first-wrong entries apply Direct.start Direct.tick Pipelined.start Pipelined.tick book-words rate-words release-words release-rate-words headroom-refusal Preview.preview arrive-words into-frame sharing-fit booking bookings row-sum column-sum sum first-from some-of word port-word
 agrees-28 = refl
 
 pub headroom-28 : first-wrong-headroom list-28 ≡ 0
-unfolding first-wrong-headroom final headroom-result pair-headroom headroom-over apply Direct.start Direct.tick Pipelined.start Pipelined.tick book-words rate-words release-words release-rate-words headroom-refusal Preview.preview arrive-words into-frame booking bookings row-sum column-sum sum first-from some-of word port-word
+unfolding first-wrong-headroom final headroom-result pair-headroom headroom-over apply Direct.start Direct.tick Pipelined.start Pipelined.tick book-words rate-words release-words release-rate-words headroom-refusal Preview.preview arrive-words into-frame sharing-fit booking bookings row-sum column-sum sum first-from some-of word port-word
 headroom-28 = refl
 
 pub preview-28 : first-wrong-preview list-28 ≡ 0
-unfolding first-wrong-preview final apply Direct.start Direct.tick Pipelined.start Pipelined.tick book-words rate-words release-words release-rate-words headroom-refusal Preview.preview arrive-words into-frame booking bookings row-sum column-sum sum first-from some-of word port-word
+unfolding first-wrong-preview final apply Direct.start Direct.tick Pipelined.start Pipelined.tick book-words rate-words release-words release-rate-words headroom-refusal Preview.preview arrive-words into-frame sharing-fit booking bookings row-sum column-sum sum first-from some-of word port-word
 preview-28 = refl
 
 abbrev list-29 : Case
@@ -3906,7 +3907,7 @@ list-29 =
     record {
       switch =
           record {
-            clock = clock-of 2 1 0 0;
+            clock = clock-of 2 1 0 0 0;
             book = book-of (2 ∷ 2 ∷ 103 ∷ 7 ∷ 2 ∷ 1 ∷ 101 ∷ 3 ∷ 103 ∷ []) (2 ∷ 3 ∷ 2 ∷ 102 ∷ 1 ∷ 102 ∷ 7 ∷ 2 ∷ 104 ∷ []);
             credits = 1 ∷ 103 ∷ 101 ∷ 1 ∷ 7 ∷ 3 ∷ 7 ∷ 2 ∷ 7 ∷ [];
             queues = 1 ∷ 3 ∷ 4 ∷ 2 ∷ 3 ∷ 103 ∷ 2 ∷ 1 ∷ 2 ∷ [];
@@ -3915,7 +3916,7 @@ list-29 =
             flight = 4 ∷ 102 ∷ 104 ∷ 1 ∷ 1 ∷ 101 ∷ 1 ∷ 101 ∷ 103 ∷ 102 ∷ 104 ∷ 2 ∷ 4 ∷ 103 ∷ 2 ∷ 1 ∷ 4 ∷ 1 ∷ [];
           };
       calls =
-          start pipelined 1 7 7
+          start pipelined 1 7 7 fine
           ∷ book-rate 1 1 1
           ∷ arrive 1 1 6
           ∷ tick pipelined
@@ -3925,7 +3926,7 @@ list-29 =
           ∷ tick pipelined
           ∷ tick pipelined
           ∷ tick pipelined
-          ∷ start pipelined 2 3 1000
+          ∷ start pipelined 2 3 1000 fine
           ∷ book 2 2 1
           ∷ book 2 2 1
           ∷ book-rate 2 1 111
@@ -3946,7 +3947,7 @@ list-29 =
           ∷ tick pipelined
           ∷ book-rate 1 2 111
           ∷ book 2 1 1
-          ∷ preview rate-release 1 1 334
+          ∷ preview rate-release 2 1 222
           ∷ tick pipelined
           ∷ tick pipelined
           ∷ tick pipelined
@@ -3962,7 +3963,7 @@ list-29 =
           ∷ book 1 2 1
           ∷ tick pipelined
           ∷ tick pipelined
-          ∷ preview rate-release 1 1 111
+          ∷ preview rate-release 1 1 1
           ∷ book 1 2 1
           ∷ tick pipelined
           ∷ arrive 2 2 1
@@ -3977,61 +3978,61 @@ list-29 =
       expected =
           claim 1 1 1 0 0 0 0
           ∷ claim 1 1 4 0 0 1 0
-          ∷ claim 1 1 7 2 0 0 0
-          ∷ claim 1 1 10 2 0 0 0
-          ∷ claim 1 1 13 2 0 0 0
-          ∷ claim 1 1 16 2 0 0 0
+          ∷ claim 1 1 7 0 1 0 0
+          ∷ claim 1 1 10 0 1 0 0
+          ∷ claim 1 1 13 0 1 0 0
+          ∷ claim 1 1 16 0 1 0 0
           ∷ claim 1 2 1 0 0 0 0
           ∷ claim 1 2 4 0 0 2 0
-          ∷ claim 1 2 7 0 4 3 0
-          ∷ claim 1 2 10 0 4 1 0
-          ∷ claim 1 2 13 0 4 0 0
-          ∷ claim 1 2 16 0 4 0 0
+          ∷ claim 1 2 7 0 2 3 0
+          ∷ claim 1 2 10 0 2 1 0
+          ∷ claim 1 2 13 0 2 0 0
+          ∷ claim 1 2 16 0 2 0 0
           ∷ claim 2 1 1 0 0 0 0
           ∷ claim 2 1 4 0 0 2 0
-          ∷ claim 2 1 7 0 4 3 0
-          ∷ claim 2 1 10 0 4 0 0
-          ∷ claim 2 1 13 0 4 0 0
-          ∷ claim 2 1 16 0 4 0 0
+          ∷ claim 2 1 7 1 2 2 1
+          ∷ claim 2 1 10 1 2 0 0
+          ∷ claim 2 1 13 1 2 0 0
+          ∷ claim 2 1 16 1 2 0 0
           ∷ claim 2 2 1 0 0 0 0
           ∷ claim 2 2 4 0 0 0 0
-          ∷ claim 2 2 7 2 0 0 0
-          ∷ claim 2 2 10 2 0 0 0
-          ∷ claim 2 2 13 2 0 0 0
-          ∷ claim 2 2 16 2 0 1 1
+          ∷ claim 2 2 7 2 1 0 0
+          ∷ claim 2 2 10 2 1 0 0
+          ∷ claim 2 2 13 2 1 0 0
+          ∷ claim 2 2 16 2 1 1 1
           ∷ [];
       headrooms =
-          told 1 1 0 (pos 1)
-          ∷ told 1 2 0 (negsuc 0)
-          ∷ told 2 1 0 (negsuc 0)
-          ∷ told 2 2 0 (pos 1)
+          told 1 1 0 (pos 2)
+          ∷ told 1 2 0 (pos 1)
+          ∷ told 2 1 0 (pos 0)
+          ∷ told 2 2 0 (pos 0)
           ∷ told 3 1 5 (pos 0)
           ∷ told 1 4294967297 5 (pos 0)
           ∷ [];
       previews =
-          showing slots-booking 2 2 1 8 3 3
-          ∷ showing slots-booking 2 1 1 8 3 3
-          ∷ showing rate-booking 2 1 111 8 3 3
-          ∷ showing rate-booking 1 1 468 8 3 3
-          ∷ showing slots-release 2 2 1 0 1 1
-          ∷ showing slots-release 2 2 2 0 0 0
-          ∷ showing rate-release 1 1 223 0 1 1
-          ∷ showing rate-release 1 1 214 0 1 1
+          showing slots-booking 2 2 1 15 4 3
+          ∷ showing slots-booking 2 1 1 15 4 2
+          ∷ showing rate-booking 2 1 111 0 3 1
+          ∷ showing rate-booking 1 1 468 15 2 3
+          ∷ showing slots-release 2 2 1 0 2 1
+          ∷ showing slots-release 2 2 2 0 1 0
+          ∷ showing rate-release 2 1 222 0 2 0
+          ∷ showing rate-release 2 1 214 0 3 1
           ∷ showing slots-booking 4294967297 2 1 5 0 0
           ∷ showing slots-release 2 2 0 6 0 0
           ∷ [];
     }
 
 pub agrees-29 : first-wrong list-29 ≡ 0
-unfolding first-wrong entries apply Direct.start Direct.tick Pipelined.start Pipelined.tick book-words rate-words release-words release-rate-words headroom-refusal Preview.preview arrive-words into-frame booking bookings row-sum column-sum sum first-from some-of word port-word
+unfolding first-wrong entries apply Direct.start Direct.tick Pipelined.start Pipelined.tick book-words rate-words release-words release-rate-words headroom-refusal Preview.preview arrive-words into-frame sharing-fit booking bookings row-sum column-sum sum first-from some-of word port-word
 agrees-29 = refl
 
 pub headroom-29 : first-wrong-headroom list-29 ≡ 0
-unfolding first-wrong-headroom final headroom-result pair-headroom headroom-over apply Direct.start Direct.tick Pipelined.start Pipelined.tick book-words rate-words release-words release-rate-words headroom-refusal Preview.preview arrive-words into-frame booking bookings row-sum column-sum sum first-from some-of word port-word
+unfolding first-wrong-headroom final headroom-result pair-headroom headroom-over apply Direct.start Direct.tick Pipelined.start Pipelined.tick book-words rate-words release-words release-rate-words headroom-refusal Preview.preview arrive-words into-frame sharing-fit booking bookings row-sum column-sum sum first-from some-of word port-word
 headroom-29 = refl
 
 pub preview-29 : first-wrong-preview list-29 ≡ 0
-unfolding first-wrong-preview final apply Direct.start Direct.tick Pipelined.start Pipelined.tick book-words rate-words release-words release-rate-words headroom-refusal Preview.preview arrive-words into-frame booking bookings row-sum column-sum sum first-from some-of word port-word
+unfolding first-wrong-preview final apply Direct.start Direct.tick Pipelined.start Pipelined.tick book-words rate-words release-words release-rate-words headroom-refusal Preview.preview arrive-words into-frame sharing-fit booking bookings row-sum column-sum sum first-from some-of word port-word
 preview-29 = refl
 
 abbrev list-30 : Case
@@ -4039,7 +4040,7 @@ list-30 =
     record {
       switch =
           record {
-            clock = clock-of 2 5 1 100000001;
+            clock = clock-of 2 5 1 100000001 7;
             book = book-of (2 ∷ 7 ∷ 101 ∷ 2 ∷ 4 ∷ 1 ∷ 7 ∷ 103 ∷ 7 ∷ []) (3 ∷ 102 ∷ 101 ∷ 102 ∷ 103 ∷ 1 ∷ 104 ∷ 1 ∷ 2 ∷ []);
             credits = 103 ∷ 3 ∷ 103 ∷ 102 ∷ 2 ∷ 1 ∷ 103 ∷ 3 ∷ 4 ∷ [];
             queues = 101 ∷ 104 ∷ 2 ∷ 2 ∷ 2 ∷ 103 ∷ 103 ∷ 103 ∷ 102 ∷ [];
@@ -4048,7 +4049,7 @@ list-30 =
             flight = 4 ∷ 2 ∷ 4 ∷ 103 ∷ 7 ∷ 103 ∷ 4 ∷ 7 ∷ 3 ∷ 1 ∷ 3 ∷ 102 ∷ 103 ∷ 103 ∷ 1 ∷ 4 ∷ 104 ∷ 103 ∷ [];
           };
       calls =
-          start direct 2 1 100000000
+          start direct 2 1 100000000 plain
           ∷ book-rate 1 1 33333334
           ∷ book-rate 2 1 100000000
           ∷ book-rate 2 1 66666667
@@ -4212,15 +4213,15 @@ list-30 =
     }
 
 pub agrees-30 : first-wrong list-30 ≡ 0
-unfolding first-wrong entries apply Direct.start Direct.tick Pipelined.start Pipelined.tick book-words rate-words release-words release-rate-words headroom-refusal Preview.preview arrive-words into-frame booking bookings row-sum column-sum sum first-from some-of word port-word
+unfolding first-wrong entries apply Direct.start Direct.tick Pipelined.start Pipelined.tick book-words rate-words release-words release-rate-words headroom-refusal Preview.preview arrive-words into-frame sharing-fit booking bookings row-sum column-sum sum first-from some-of word port-word
 agrees-30 = refl
 
 pub headroom-30 : first-wrong-headroom list-30 ≡ 0
-unfolding first-wrong-headroom final headroom-result pair-headroom headroom-over apply Direct.start Direct.tick Pipelined.start Pipelined.tick book-words rate-words release-words release-rate-words headroom-refusal Preview.preview arrive-words into-frame booking bookings row-sum column-sum sum first-from some-of word port-word
+unfolding first-wrong-headroom final headroom-result pair-headroom headroom-over apply Direct.start Direct.tick Pipelined.start Pipelined.tick book-words rate-words release-words release-rate-words headroom-refusal Preview.preview arrive-words into-frame sharing-fit booking bookings row-sum column-sum sum first-from some-of word port-word
 headroom-30 = refl
 
 pub preview-30 : first-wrong-preview list-30 ≡ 0
-unfolding first-wrong-preview final apply Direct.start Direct.tick Pipelined.start Pipelined.tick book-words rate-words release-words release-rate-words headroom-refusal Preview.preview arrive-words into-frame booking bookings row-sum column-sum sum first-from some-of word port-word
+unfolding first-wrong-preview final apply Direct.start Direct.tick Pipelined.start Pipelined.tick book-words rate-words release-words release-rate-words headroom-refusal Preview.preview arrive-words into-frame sharing-fit booking bookings row-sum column-sum sum first-from some-of word port-word
 preview-30 = refl
 
 abbrev list-31 : Case
@@ -4228,7 +4229,7 @@ list-31 =
     record {
       switch =
           record {
-            clock = clock-of 0 0 77 1;
+            clock = clock-of 0 0 77 1 7;
             book = book-of (2 ∷ 3 ∷ 7 ∷ 1 ∷ 102 ∷ 4 ∷ 2 ∷ 1 ∷ 3 ∷ []) (103 ∷ 104 ∷ 1 ∷ 1 ∷ 7 ∷ 1 ∷ 101 ∷ 103 ∷ 4 ∷ []);
             credits = 3 ∷ 2 ∷ 2 ∷ 101 ∷ 101 ∷ 2 ∷ 1 ∷ 103 ∷ 3 ∷ [];
             queues = 102 ∷ 101 ∷ 3 ∷ 1 ∷ 102 ∷ 3 ∷ 3 ∷ 3 ∷ 4 ∷ [];
@@ -4237,7 +4238,7 @@ list-31 =
             flight = 7 ∷ 3 ∷ 7 ∷ 7 ∷ 1 ∷ 101 ∷ 101 ∷ 3 ∷ 103 ∷ 2 ∷ 104 ∷ 102 ∷ 7 ∷ 103 ∷ 102 ∷ 4 ∷ 102 ∷ 1 ∷ [];
           };
       calls =
-          start pipelined 3 6 1000
+          start pipelined 3 6 1000 plain
           ∷ book 1 2 3
           ∷ book-rate 1 3 112
           ∷ book-rate 1 3 111
@@ -4360,15 +4361,15 @@ list-31 =
     }
 
 pub agrees-31 : first-wrong list-31 ≡ 0
-unfolding first-wrong entries apply Direct.start Direct.tick Pipelined.start Pipelined.tick book-words rate-words release-words release-rate-words headroom-refusal Preview.preview arrive-words into-frame booking bookings row-sum column-sum sum first-from some-of word port-word
+unfolding first-wrong entries apply Direct.start Direct.tick Pipelined.start Pipelined.tick book-words rate-words release-words release-rate-words headroom-refusal Preview.preview arrive-words into-frame sharing-fit booking bookings row-sum column-sum sum first-from some-of word port-word
 agrees-31 = refl
 
 pub headroom-31 : first-wrong-headroom list-31 ≡ 0
-unfolding first-wrong-headroom final headroom-result pair-headroom headroom-over apply Direct.start Direct.tick Pipelined.start Pipelined.tick book-words rate-words release-words release-rate-words headroom-refusal Preview.preview arrive-words into-frame booking bookings row-sum column-sum sum first-from some-of word port-word
+unfolding first-wrong-headroom final headroom-result pair-headroom headroom-over apply Direct.start Direct.tick Pipelined.start Pipelined.tick book-words rate-words release-words release-rate-words headroom-refusal Preview.preview arrive-words into-frame sharing-fit booking bookings row-sum column-sum sum first-from some-of word port-word
 headroom-31 = refl
 
 pub preview-31 : first-wrong-preview list-31 ≡ 0
-unfolding first-wrong-preview final apply Direct.start Direct.tick Pipelined.start Pipelined.tick book-words rate-words release-words release-rate-words headroom-refusal Preview.preview arrive-words into-frame booking bookings row-sum column-sum sum first-from some-of word port-word
+unfolding first-wrong-preview final apply Direct.start Direct.tick Pipelined.start Pipelined.tick book-words rate-words release-words release-rate-words headroom-refusal Preview.preview arrive-words into-frame sharing-fit booking bookings row-sum column-sum sum first-from some-of word port-word
 preview-31 = refl
 
 abbrev list-32 : Case
@@ -4376,7 +4377,7 @@ list-32 =
     record {
       switch =
           record {
-            clock = clock-of 1 2 4000000000 100000001;
+            clock = clock-of 1 2 4000000000 100000001 7;
             book = book-of (101 ∷ 103 ∷ 4 ∷ 4 ∷ 3 ∷ 2 ∷ 1 ∷ 2 ∷ 2 ∷ []) (103 ∷ 102 ∷ 3 ∷ 2 ∷ 1 ∷ 4 ∷ 102 ∷ 2 ∷ 3 ∷ []);
             credits = 7 ∷ 2 ∷ 103 ∷ 2 ∷ 2 ∷ 2 ∷ 104 ∷ 2 ∷ 101 ∷ [];
             queues = 101 ∷ 101 ∷ 4 ∷ 102 ∷ 103 ∷ 4 ∷ 101 ∷ 3 ∷ 101 ∷ [];
@@ -4385,7 +4386,7 @@ list-32 =
             flight = 7 ∷ 2 ∷ 1 ∷ 101 ∷ 2 ∷ 104 ∷ 4 ∷ 3 ∷ 4 ∷ 102 ∷ 2 ∷ 103 ∷ 102 ∷ 7 ∷ 7 ∷ 102 ∷ 102 ∷ 1 ∷ [];
           };
       calls =
-          start direct 1 4 100000000
+          start direct 1 4 100000000 fine
           ∷ book-rate 1 1 25000000
           ∷ book-rate 1 1 25000000
           ∷ arrive 1 1 11
@@ -4419,34 +4420,34 @@ list-32 =
           ∷ claim 1 1 9 2 0 4 2
           ∷ [];
       headrooms =
-          told 1 1 0 (pos 2)
+          told 1 1 0 (pos 0)
           ∷ told 2 1 5 (pos 0)
           ∷ told 1 0 5 (pos 0)
           ∷ [];
       previews =
-          showing slots-booking 1 1 1 8 3 3
-          ∷ showing slots-booking 1 1 2 8 4 4
-          ∷ showing rate-booking 1 1 16666667 8 3 3
-          ∷ showing rate-booking 1 1 47682604 8 4 4
-          ∷ showing slots-release 1 1 2 10 0 0
-          ∷ showing slots-release 1 1 1 10 0 0
+          showing slots-booking 1 1 1 15 5 5
+          ∷ showing slots-booking 1 1 2 15 6 6
+          ∷ showing rate-booking 1 1 16666667 15 5 5
+          ∷ showing rate-booking 1 1 47682604 15 6 6
+          ∷ showing slots-release 1 1 2 0 2 2
+          ∷ showing slots-release 1 1 1 0 3 3
           ∷ showing rate-release 1 1 41666668 10 0 0
-          ∷ showing rate-release 1 1 20767822 0 1 1
+          ∷ showing rate-release 1 1 20767822 0 3 3
           ∷ showing slots-booking 1 2 1 5 0 0
           ∷ showing rate-booking 1 1 100000001 6 0 0
           ∷ [];
     }
 
 pub agrees-32 : first-wrong list-32 ≡ 0
-unfolding first-wrong entries apply Direct.start Direct.tick Pipelined.start Pipelined.tick book-words rate-words release-words release-rate-words headroom-refusal Preview.preview arrive-words into-frame booking bookings row-sum column-sum sum first-from some-of word port-word
+unfolding first-wrong entries apply Direct.start Direct.tick Pipelined.start Pipelined.tick book-words rate-words release-words release-rate-words headroom-refusal Preview.preview arrive-words into-frame sharing-fit booking bookings row-sum column-sum sum first-from some-of word port-word
 agrees-32 = refl
 
 pub headroom-32 : first-wrong-headroom list-32 ≡ 0
-unfolding first-wrong-headroom final headroom-result pair-headroom headroom-over apply Direct.start Direct.tick Pipelined.start Pipelined.tick book-words rate-words release-words release-rate-words headroom-refusal Preview.preview arrive-words into-frame booking bookings row-sum column-sum sum first-from some-of word port-word
+unfolding first-wrong-headroom final headroom-result pair-headroom headroom-over apply Direct.start Direct.tick Pipelined.start Pipelined.tick book-words rate-words release-words release-rate-words headroom-refusal Preview.preview arrive-words into-frame sharing-fit booking bookings row-sum column-sum sum first-from some-of word port-word
 headroom-32 = refl
 
 pub preview-32 : first-wrong-preview list-32 ≡ 0
-unfolding first-wrong-preview final apply Direct.start Direct.tick Pipelined.start Pipelined.tick book-words rate-words release-words release-rate-words headroom-refusal Preview.preview arrive-words into-frame booking bookings row-sum column-sum sum first-from some-of word port-word
+unfolding first-wrong-preview final apply Direct.start Direct.tick Pipelined.start Pipelined.tick book-words rate-words release-words release-rate-words headroom-refusal Preview.preview arrive-words into-frame sharing-fit booking bookings row-sum column-sum sum first-from some-of word port-word
 preview-32 = refl
 
 abbrev list-33 : Case
@@ -4454,7 +4455,7 @@ list-33 =
     record {
       switch =
           record {
-            clock = clock-of 0 5 77 100000001;
+            clock = clock-of 0 5 77 100000001 7;
             book = book-of (102 ∷ 1 ∷ 7 ∷ 104 ∷ 1 ∷ 2 ∷ 103 ∷ 102 ∷ 2 ∷ []) (1 ∷ 101 ∷ 3 ∷ 4 ∷ 102 ∷ 102 ∷ 2 ∷ 1 ∷ 1 ∷ []);
             credits = 4 ∷ 103 ∷ 1 ∷ 3 ∷ 1 ∷ 2 ∷ 7 ∷ 2 ∷ 1 ∷ [];
             queues = 103 ∷ 7 ∷ 2 ∷ 103 ∷ 4 ∷ 104 ∷ 2 ∷ 103 ∷ 104 ∷ [];
@@ -4463,7 +4464,7 @@ list-33 =
             flight = 102 ∷ 7 ∷ 103 ∷ 103 ∷ 104 ∷ 102 ∷ 3 ∷ 3 ∷ 1 ∷ 2 ∷ 1 ∷ 101 ∷ 2 ∷ 2 ∷ 3 ∷ 1 ∷ 103 ∷ 104 ∷ [];
           };
       calls =
-          start pipelined 2 5 1000
+          start pipelined 2 5 1000 plain
           ∷ book-rate 2 2 66
           ∷ book-rate 2 2 66
           ∷ book 2 1 1
@@ -4479,7 +4480,7 @@ list-33 =
           ∷ release-rate 1 1 134
           ∷ release-rate 1 1 66
           ∷ book 2 2 1
-          ∷ start pipelined 33 5 1000
+          ∷ start pipelined 33 5 1000 fine
           ∷ release 2 2 1
           ∷ tick pipelined
           ∷ tick pipelined
@@ -4540,15 +4541,15 @@ list-33 =
     }
 
 pub agrees-33 : first-wrong list-33 ≡ 0
-unfolding first-wrong entries apply Direct.start Direct.tick Pipelined.start Pipelined.tick book-words rate-words release-words release-rate-words headroom-refusal Preview.preview arrive-words into-frame booking bookings row-sum column-sum sum first-from some-of word port-word
+unfolding first-wrong entries apply Direct.start Direct.tick Pipelined.start Pipelined.tick book-words rate-words release-words release-rate-words headroom-refusal Preview.preview arrive-words into-frame sharing-fit booking bookings row-sum column-sum sum first-from some-of word port-word
 agrees-33 = refl
 
 pub headroom-33 : first-wrong-headroom list-33 ≡ 0
-unfolding first-wrong-headroom final headroom-result pair-headroom headroom-over apply Direct.start Direct.tick Pipelined.start Pipelined.tick book-words rate-words release-words release-rate-words headroom-refusal Preview.preview arrive-words into-frame booking bookings row-sum column-sum sum first-from some-of word port-word
+unfolding first-wrong-headroom final headroom-result pair-headroom headroom-over apply Direct.start Direct.tick Pipelined.start Pipelined.tick book-words rate-words release-words release-rate-words headroom-refusal Preview.preview arrive-words into-frame sharing-fit booking bookings row-sum column-sum sum first-from some-of word port-word
 headroom-33 = refl
 
 pub preview-33 : first-wrong-preview list-33 ≡ 0
-unfolding first-wrong-preview final apply Direct.start Direct.tick Pipelined.start Pipelined.tick book-words rate-words release-words release-rate-words headroom-refusal Preview.preview arrive-words into-frame booking bookings row-sum column-sum sum first-from some-of word port-word
+unfolding first-wrong-preview final apply Direct.start Direct.tick Pipelined.start Pipelined.tick book-words rate-words release-words release-rate-words headroom-refusal Preview.preview arrive-words into-frame sharing-fit booking bookings row-sum column-sum sum first-from some-of word port-word
 preview-33 = refl
 
 abbrev list-34 : Case
@@ -4556,7 +4557,7 @@ list-34 =
     record {
       switch =
           record {
-            clock = clock-of 33 5 5 100000001;
+            clock = clock-of 33 5 5 100000001 7;
             book = book-of (1 ∷ 4 ∷ 1 ∷ 2 ∷ 2 ∷ 104 ∷ 102 ∷ 3 ∷ 2 ∷ []) (3 ∷ 101 ∷ 2 ∷ 101 ∷ 7 ∷ 102 ∷ 101 ∷ 3 ∷ 104 ∷ []);
             credits = 103 ∷ 104 ∷ 2 ∷ 3 ∷ 3 ∷ 1 ∷ 4 ∷ 101 ∷ 2 ∷ [];
             queues = 1 ∷ 101 ∷ 1 ∷ 2 ∷ 3 ∷ 101 ∷ 2 ∷ 1 ∷ 1 ∷ [];
@@ -4565,7 +4566,7 @@ list-34 =
             flight = 1 ∷ 103 ∷ 7 ∷ 4 ∷ 101 ∷ 2 ∷ 1 ∷ 2 ∷ 1 ∷ 102 ∷ 2 ∷ 104 ∷ 102 ∷ 2 ∷ 2 ∷ 102 ∷ 104 ∷ 1 ∷ [];
           };
       calls =
-          start direct 3 7 1000
+          start direct 3 7 1000 plain
           ∷ book 3 3 1
           ∷ book 3 2 1
           ∷ book-rate 2 1 48
@@ -4654,15 +4655,15 @@ list-34 =
     }
 
 pub agrees-34 : first-wrong list-34 ≡ 0
-unfolding first-wrong entries apply Direct.start Direct.tick Pipelined.start Pipelined.tick book-words rate-words release-words release-rate-words headroom-refusal Preview.preview arrive-words into-frame booking bookings row-sum column-sum sum first-from some-of word port-word
+unfolding first-wrong entries apply Direct.start Direct.tick Pipelined.start Pipelined.tick book-words rate-words release-words release-rate-words headroom-refusal Preview.preview arrive-words into-frame sharing-fit booking bookings row-sum column-sum sum first-from some-of word port-word
 agrees-34 = refl
 
 pub headroom-34 : first-wrong-headroom list-34 ≡ 0
-unfolding first-wrong-headroom final headroom-result pair-headroom headroom-over apply Direct.start Direct.tick Pipelined.start Pipelined.tick book-words rate-words release-words release-rate-words headroom-refusal Preview.preview arrive-words into-frame booking bookings row-sum column-sum sum first-from some-of word port-word
+unfolding first-wrong-headroom final headroom-result pair-headroom headroom-over apply Direct.start Direct.tick Pipelined.start Pipelined.tick book-words rate-words release-words release-rate-words headroom-refusal Preview.preview arrive-words into-frame sharing-fit booking bookings row-sum column-sum sum first-from some-of word port-word
 headroom-34 = refl
 
 pub preview-34 : first-wrong-preview list-34 ≡ 0
-unfolding first-wrong-preview final apply Direct.start Direct.tick Pipelined.start Pipelined.tick book-words rate-words release-words release-rate-words headroom-refusal Preview.preview arrive-words into-frame booking bookings row-sum column-sum sum first-from some-of word port-word
+unfolding first-wrong-preview final apply Direct.start Direct.tick Pipelined.start Pipelined.tick book-words rate-words release-words release-rate-words headroom-refusal Preview.preview arrive-words into-frame sharing-fit booking bookings row-sum column-sum sum first-from some-of word port-word
 preview-34 = refl
 
 abbrev list-35 : Case
@@ -4670,7 +4671,7 @@ list-35 =
     record {
       switch =
           record {
-            clock = clock-of 3 10001 5 1;
+            clock = clock-of 3 10001 5 1 7;
             book = book-of (104 ∷ 1 ∷ 101 ∷ 1 ∷ 1 ∷ 7 ∷ 4 ∷ 102 ∷ 2 ∷ []) (2 ∷ 102 ∷ 7 ∷ 101 ∷ 104 ∷ 7 ∷ 1 ∷ 1 ∷ 102 ∷ []);
             credits = 1 ∷ 2 ∷ 101 ∷ 102 ∷ 102 ∷ 2 ∷ 1 ∷ 3 ∷ 1 ∷ [];
             queues = 104 ∷ 7 ∷ 1 ∷ 101 ∷ 103 ∷ 1 ∷ 101 ∷ 2 ∷ 1 ∷ [];
@@ -4679,7 +4680,7 @@ list-35 =
             flight = 2 ∷ 2 ∷ 4 ∷ 101 ∷ 2 ∷ 102 ∷ 3 ∷ 4 ∷ 4 ∷ 1 ∷ 103 ∷ 103 ∷ 101 ∷ 101 ∷ 2 ∷ 4 ∷ 2 ∷ 7 ∷ [];
           };
       calls =
-          start pipelined 3 3 100000000
+          start pipelined 3 3 100000000 fine
           ∷ book 1 2 1
           ∷ book-rate 2 1 11111111
           ∷ book-rate 2 1 33333334
@@ -4718,8 +4719,8 @@ list-35 =
           ∷ arrive 3 3 47
           ∷ arrive 2 3 86
           ∷ tick pipelined
-          ∷ preview rate-release 2 1 44444446
-          ∷ start pipelined 13 32 100000000
+          ∷ preview rate-release 2 1 77777779
+          ∷ start pipelined 13 32 100000000 plain
           ∷ arrive 2 2 85
           ∷ tick pipelined
           ∷ tick pipelined
@@ -4747,10 +4748,10 @@ list-35 =
       expected =
           claim 1 1 1 0 0 0 0
           ∷ claim 1 1 4 0 0 0 0
-          ∷ claim 1 1 7 0 3 3 0
-          ∷ claim 1 1 10 0 3 3 0
-          ∷ claim 1 1 13 0 3 3 0
-          ∷ claim 1 1 16 0 3 3 0
+          ∷ claim 1 1 7 0 4 3 0
+          ∷ claim 1 1 10 0 4 3 0
+          ∷ claim 1 1 13 0 4 3 0
+          ∷ claim 1 1 16 0 4 3 0
           ∷ claim 1 2 1 0 0 0 0
           ∷ claim 1 2 4 0 0 0 0
           ∷ claim 1 2 7 1 0 0 0
@@ -4759,84 +4760,84 @@ list-35 =
           ∷ claim 1 2 16 1 0 0 0
           ∷ claim 1 3 1 0 0 0 0
           ∷ claim 1 3 4 0 0 0 0
-          ∷ claim 1 3 7 0 3 3 0
-          ∷ claim 1 3 10 0 3 3 0
-          ∷ claim 1 3 13 0 3 3 0
-          ∷ claim 1 3 16 0 3 3 0
+          ∷ claim 1 3 7 0 4 3 0
+          ∷ claim 1 3 10 0 4 3 0
+          ∷ claim 1 3 13 0 4 3 0
+          ∷ claim 1 3 16 0 4 3 0
           ∷ claim 2 1 1 0 0 0 0
           ∷ claim 2 1 4 0 0 0 0
-          ∷ claim 2 1 7 2 0 0 0
-          ∷ claim 2 1 10 2 0 0 0
-          ∷ claim 2 1 13 2 0 0 0
-          ∷ claim 2 1 16 2 0 0 0
+          ∷ claim 2 1 7 3 0 0 0
+          ∷ claim 2 1 10 3 0 0 0
+          ∷ claim 2 1 13 3 0 0 0
+          ∷ claim 2 1 16 3 0 0 0
           ∷ claim 2 2 1 0 0 0 0
           ∷ claim 2 2 4 0 0 0 0
-          ∷ claim 2 2 7 0 3 3 0
-          ∷ claim 2 2 10 0 3 3 0
-          ∷ claim 2 2 13 0 3 3 0
-          ∷ claim 2 2 16 0 3 3 0
+          ∷ claim 2 2 7 0 4 3 0
+          ∷ claim 2 2 10 0 4 3 0
+          ∷ claim 2 2 13 0 4 3 0
+          ∷ claim 2 2 16 0 4 3 0
           ∷ claim 2 3 1 0 0 0 0
           ∷ claim 2 3 4 0 0 0 0
-          ∷ claim 2 3 7 0 4 3 0
-          ∷ claim 2 3 10 0 4 3 0
-          ∷ claim 2 3 13 0 4 3 0
-          ∷ claim 2 3 16 0 4 3 0
+          ∷ claim 2 3 7 0 6 3 0
+          ∷ claim 2 3 10 0 6 3 0
+          ∷ claim 2 3 13 0 6 3 0
+          ∷ claim 2 3 16 0 6 3 0
           ∷ claim 3 1 1 0 0 0 0
           ∷ claim 3 1 4 0 0 0 0
-          ∷ claim 3 1 7 0 4 3 0
-          ∷ claim 3 1 10 0 4 3 0
-          ∷ claim 3 1 13 0 4 3 0
-          ∷ claim 3 1 16 0 4 3 0
+          ∷ claim 3 1 7 0 6 3 0
+          ∷ claim 3 1 10 0 6 3 0
+          ∷ claim 3 1 13 0 6 3 0
+          ∷ claim 3 1 16 0 6 3 0
           ∷ claim 3 2 1 0 0 0 0
           ∷ claim 3 2 4 0 0 0 0
-          ∷ claim 3 2 7 0 3 3 0
-          ∷ claim 3 2 10 0 3 3 0
-          ∷ claim 3 2 13 0 3 3 0
-          ∷ claim 3 2 16 0 3 3 0
+          ∷ claim 3 2 7 0 4 3 0
+          ∷ claim 3 2 10 0 4 3 0
+          ∷ claim 3 2 13 0 4 3 0
+          ∷ claim 3 2 16 0 4 3 0
           ∷ claim 3 3 1 0 0 0 0
           ∷ claim 3 3 4 0 0 0 0
-          ∷ claim 3 3 7 2 0 3 2
-          ∷ claim 3 3 10 2 0 3 2
-          ∷ claim 3 3 13 2 0 3 2
-          ∷ claim 3 3 16 2 0 3 2
+          ∷ claim 3 3 7 3 0 3 3
+          ∷ claim 3 3 10 3 0 3 3
+          ∷ claim 3 3 13 3 0 3 3
+          ∷ claim 3 3 16 3 0 3 3
           ∷ [];
       headrooms =
-          told 1 1 0 (negsuc 0)
+          told 1 1 0 (negsuc 1)
           ∷ told 1 2 0 (pos 1)
-          ∷ told 1 3 0 (negsuc 0)
-          ∷ told 2 1 0 (pos 1)
-          ∷ told 2 2 0 (negsuc 0)
-          ∷ told 2 3 0 (negsuc 0)
-          ∷ told 3 1 0 (negsuc 0)
-          ∷ told 3 2 0 (negsuc 0)
-          ∷ told 3 3 0 (pos 1)
+          ∷ told 1 3 0 (negsuc 1)
+          ∷ told 2 1 0 (pos 0)
+          ∷ told 2 2 0 (negsuc 1)
+          ∷ told 2 3 0 (negsuc 2)
+          ∷ told 3 1 0 (negsuc 2)
+          ∷ told 3 2 0 (negsuc 1)
+          ∷ told 3 3 0 (pos 0)
           ∷ told 4 1 5 (pos 0)
           ∷ told 1 0 5 (pos 0)
           ∷ [];
       previews =
-          showing slots-booking 2 1 1 8 3 3
-          ∷ showing slots-booking 2 1 2 8 4 4
-          ∷ showing rate-booking 1 1 11111112 8 3 3
-          ∷ showing rate-booking 1 3 1135379 8 3 3
+          showing slots-booking 2 1 1 15 4 4
+          ∷ showing slots-booking 2 1 2 15 5 5
+          ∷ showing rate-booking 1 1 11111112 15 3 4
+          ∷ showing rate-booking 1 3 1135379 15 3 4
           ∷ showing slots-release 1 2 2 10 0 0
           ∷ showing slots-release 1 2 1 0 1 1
-          ∷ showing rate-release 3 3 22222223 0 1 1
-          ∷ showing rate-release 2 1 28697220 0 1 1
+          ∷ showing rate-release 3 3 22222223 0 2 2
+          ∷ showing rate-release 2 1 28697220 0 2 2
           ∷ showing rate-release 0 1 1 5 0 0
           ∷ showing slots-release 1 1 4 6 0 0
           ∷ [];
     }
 
 pub agrees-35 : first-wrong list-35 ≡ 0
-unfolding first-wrong entries apply Direct.start Direct.tick Pipelined.start Pipelined.tick book-words rate-words release-words release-rate-words headroom-refusal Preview.preview arrive-words into-frame booking bookings row-sum column-sum sum first-from some-of word port-word
+unfolding first-wrong entries apply Direct.start Direct.tick Pipelined.start Pipelined.tick book-words rate-words release-words release-rate-words headroom-refusal Preview.preview arrive-words into-frame sharing-fit booking bookings row-sum column-sum sum first-from some-of word port-word
 agrees-35 = refl
 
 pub headroom-35 : first-wrong-headroom list-35 ≡ 0
-unfolding first-wrong-headroom final headroom-result pair-headroom headroom-over apply Direct.start Direct.tick Pipelined.start Pipelined.tick book-words rate-words release-words release-rate-words headroom-refusal Preview.preview arrive-words into-frame booking bookings row-sum column-sum sum first-from some-of word port-word
+unfolding first-wrong-headroom final headroom-result pair-headroom headroom-over apply Direct.start Direct.tick Pipelined.start Pipelined.tick book-words rate-words release-words release-rate-words headroom-refusal Preview.preview arrive-words into-frame sharing-fit booking bookings row-sum column-sum sum first-from some-of word port-word
 headroom-35 = refl
 
 pub preview-35 : first-wrong-preview list-35 ≡ 0
-unfolding first-wrong-preview final apply Direct.start Direct.tick Pipelined.start Pipelined.tick book-words rate-words release-words release-rate-words headroom-refusal Preview.preview arrive-words into-frame booking bookings row-sum column-sum sum first-from some-of word port-word
+unfolding first-wrong-preview final apply Direct.start Direct.tick Pipelined.start Pipelined.tick book-words rate-words release-words release-rate-words headroom-refusal Preview.preview arrive-words into-frame sharing-fit booking bookings row-sum column-sum sum first-from some-of word port-word
 preview-35 = refl
 
 abbrev list-36 : Case
@@ -4844,7 +4845,7 @@ list-36 =
     record {
       switch =
           record {
-            clock = clock-of 33 5 1 0;
+            clock = clock-of 33 5 1 0 0;
             book = book-of (1 ∷ 3 ∷ 101 ∷ 2 ∷ 101 ∷ 7 ∷ 7 ∷ 104 ∷ 7 ∷ []) (103 ∷ 3 ∷ 104 ∷ 2 ∷ 7 ∷ 4 ∷ 2 ∷ 4 ∷ 7 ∷ []);
             credits = 103 ∷ 1 ∷ 104 ∷ 102 ∷ 1 ∷ 104 ∷ 3 ∷ 2 ∷ 1 ∷ [];
             queues = 101 ∷ 2 ∷ 103 ∷ 7 ∷ 102 ∷ 4 ∷ 3 ∷ 103 ∷ 104 ∷ [];
@@ -4853,7 +4854,7 @@ list-36 =
             flight = 104 ∷ 4 ∷ 4 ∷ 103 ∷ 7 ∷ 101 ∷ 3 ∷ 2 ∷ 103 ∷ 4 ∷ 3 ∷ 102 ∷ 1 ∷ 2 ∷ 2 ∷ 101 ∷ 3 ∷ 4 ∷ [];
           };
       calls =
-          start direct 3 3 100000000
+          start direct 3 3 100000000 plain
           ∷ book 2 2 1
           ∷ book-rate 2 3 11111111
           ∷ book 2 1 1
@@ -4875,7 +4876,7 @@ list-36 =
           ∷ tick direct
           ∷ headroom 1 3
           ∷ tick direct
-          ∷ start direct 2 3 100000000
+          ∷ start direct 2 3 100000000 fine
           ∷ book-rate 2 2 22222222
           ∷ book 2 2 1
           ∷ arrive 1 2 74
@@ -4915,7 +4916,7 @@ list-36 =
           ∷ tick direct
           ∷ arrive 1 1 47
           ∷ release-rate 1 2 11111111
-          ∷ start direct 2 3 100000001
+          ∷ start direct 2 3 100000001 plain
           ∷ release-rate 1 2 1
           ∷ arrive 1 2 57
           ∷ tick direct
@@ -4965,7 +4966,7 @@ list-36 =
           ∷ [];
       previews =
           showing slots-booking 2 2 1 0 2 2
-          ∷ showing slots-booking 2 1 2 8 3 2
+          ∷ showing slots-booking 2 1 2 0 3 2
           ∷ showing rate-booking 2 2 11111111 0 2 2
           ∷ showing rate-booking 1 1 34402162 0 2 2
           ∷ showing slots-release 2 2 2 10 0 0
@@ -4978,15 +4979,15 @@ list-36 =
     }
 
 pub agrees-36 : first-wrong list-36 ≡ 0
-unfolding first-wrong entries apply Direct.start Direct.tick Pipelined.start Pipelined.tick book-words rate-words release-words release-rate-words headroom-refusal Preview.preview arrive-words into-frame booking bookings row-sum column-sum sum first-from some-of word port-word
+unfolding first-wrong entries apply Direct.start Direct.tick Pipelined.start Pipelined.tick book-words rate-words release-words release-rate-words headroom-refusal Preview.preview arrive-words into-frame sharing-fit booking bookings row-sum column-sum sum first-from some-of word port-word
 agrees-36 = refl
 
 pub headroom-36 : first-wrong-headroom list-36 ≡ 0
-unfolding first-wrong-headroom final headroom-result pair-headroom headroom-over apply Direct.start Direct.tick Pipelined.start Pipelined.tick book-words rate-words release-words release-rate-words headroom-refusal Preview.preview arrive-words into-frame booking bookings row-sum column-sum sum first-from some-of word port-word
+unfolding first-wrong-headroom final headroom-result pair-headroom headroom-over apply Direct.start Direct.tick Pipelined.start Pipelined.tick book-words rate-words release-words release-rate-words headroom-refusal Preview.preview arrive-words into-frame sharing-fit booking bookings row-sum column-sum sum first-from some-of word port-word
 headroom-36 = refl
 
 pub preview-36 : first-wrong-preview list-36 ≡ 0
-unfolding first-wrong-preview final apply Direct.start Direct.tick Pipelined.start Pipelined.tick book-words rate-words release-words release-rate-words headroom-refusal Preview.preview arrive-words into-frame booking bookings row-sum column-sum sum first-from some-of word port-word
+unfolding first-wrong-preview final apply Direct.start Direct.tick Pipelined.start Pipelined.tick book-words rate-words release-words release-rate-words headroom-refusal Preview.preview arrive-words into-frame sharing-fit booking bookings row-sum column-sum sum first-from some-of word port-word
 preview-36 = refl
 
 abbrev list-37 : Case
@@ -4994,7 +4995,7 @@ list-37 =
     record {
       switch =
           record {
-            clock = clock-of 33 2 1 1;
+            clock = clock-of 33 2 1 1 7;
             book = book-of (2 ∷ 4 ∷ 3 ∷ 7 ∷ 103 ∷ 2 ∷ 2 ∷ 3 ∷ 102 ∷ []) (7 ∷ 1 ∷ 1 ∷ 1 ∷ 7 ∷ 1 ∷ 103 ∷ 2 ∷ 1 ∷ []);
             credits = 103 ∷ 102 ∷ 104 ∷ 103 ∷ 4 ∷ 2 ∷ 3 ∷ 2 ∷ 1 ∷ [];
             queues = 7 ∷ 4 ∷ 2 ∷ 7 ∷ 103 ∷ 104 ∷ 2 ∷ 2 ∷ 104 ∷ [];
@@ -5003,7 +5004,7 @@ list-37 =
             flight = 104 ∷ 4 ∷ 2 ∷ 104 ∷ 4 ∷ 2 ∷ 101 ∷ 4 ∷ 101 ∷ 101 ∷ 4 ∷ 4 ∷ 4 ∷ 2 ∷ 101 ∷ 102 ∷ 3 ∷ 101 ∷ [];
           };
       calls =
-          start pipelined 2 7 0
+          start pipelined 2 7 0 plain
           ∷ book-rate 2 2 1
           ∷ book-rate 2 1 1
           ∷ book-rate 2 1 1
@@ -5022,7 +5023,7 @@ list-37 =
           ∷ tick pipelined
           ∷ tick pipelined
           ∷ tick pipelined
-          ∷ start pipelined 1 4 1000
+          ∷ start pipelined 1 4 1000 fine
           ∷ book-rate 1 1 84
           ∷ arrive 1 1 2
           ∷ tick pipelined
@@ -5062,7 +5063,7 @@ list-37 =
           ∷ preview slots-booking 1 1 1
           ∷ book 1 1 1
           ∷ tick pipelined
-          ∷ start pipelined 0 4 1000
+          ∷ start pipelined 0 4 1000 plain
           ∷ book 1 1 1
           ∷ preview slots-release 1 1 1
           ∷ release-rate 1 1 1
@@ -5082,10 +5083,10 @@ list-37 =
           ∷ told 1 0 5 (pos 0)
           ∷ [];
       previews =
-          showing slots-booking 1 1 1 8 3 3
-          ∷ showing slots-booking 1 1 2 8 4 4
-          ∷ showing rate-booking 1 1 83 8 3 3
-          ∷ showing rate-booking 1 1 26 8 3 3
+          showing slots-booking 1 1 1 0 3 3
+          ∷ showing slots-booking 1 1 2 0 4 4
+          ∷ showing rate-booking 1 1 83 0 3 3
+          ∷ showing rate-booking 1 1 26 0 3 3
           ∷ showing slots-release 1 1 1 0 1 1
           ∷ showing slots-release 1 1 1 0 1 1
           ∷ showing rate-release 1 1 1 10 0 0
@@ -5096,15 +5097,15 @@ list-37 =
     }
 
 pub agrees-37 : first-wrong list-37 ≡ 0
-unfolding first-wrong entries apply Direct.start Direct.tick Pipelined.start Pipelined.tick book-words rate-words release-words release-rate-words headroom-refusal Preview.preview arrive-words into-frame booking bookings row-sum column-sum sum first-from some-of word port-word
+unfolding first-wrong entries apply Direct.start Direct.tick Pipelined.start Pipelined.tick book-words rate-words release-words release-rate-words headroom-refusal Preview.preview arrive-words into-frame sharing-fit booking bookings row-sum column-sum sum first-from some-of word port-word
 agrees-37 = refl
 
 pub headroom-37 : first-wrong-headroom list-37 ≡ 0
-unfolding first-wrong-headroom final headroom-result pair-headroom headroom-over apply Direct.start Direct.tick Pipelined.start Pipelined.tick book-words rate-words release-words release-rate-words headroom-refusal Preview.preview arrive-words into-frame booking bookings row-sum column-sum sum first-from some-of word port-word
+unfolding first-wrong-headroom final headroom-result pair-headroom headroom-over apply Direct.start Direct.tick Pipelined.start Pipelined.tick book-words rate-words release-words release-rate-words headroom-refusal Preview.preview arrive-words into-frame sharing-fit booking bookings row-sum column-sum sum first-from some-of word port-word
 headroom-37 = refl
 
 pub preview-37 : first-wrong-preview list-37 ≡ 0
-unfolding first-wrong-preview final apply Direct.start Direct.tick Pipelined.start Pipelined.tick book-words rate-words release-words release-rate-words headroom-refusal Preview.preview arrive-words into-frame booking bookings row-sum column-sum sum first-from some-of word port-word
+unfolding first-wrong-preview final apply Direct.start Direct.tick Pipelined.start Pipelined.tick book-words rate-words release-words release-rate-words headroom-refusal Preview.preview arrive-words into-frame sharing-fit booking bookings row-sum column-sum sum first-from some-of word port-word
 preview-37 = refl
 
 abbrev list-38 : Case
@@ -5112,7 +5113,7 @@ list-38 =
     record {
       switch =
           record {
-            clock = clock-of 0 1 5 1;
+            clock = clock-of 0 1 5 1 0;
             book = book-of (2 ∷ 2 ∷ 103 ∷ 102 ∷ 2 ∷ 103 ∷ 101 ∷ 1 ∷ 2 ∷ []) (1 ∷ 2 ∷ 1 ∷ 1 ∷ 103 ∷ 102 ∷ 3 ∷ 102 ∷ 2 ∷ []);
             credits = 4 ∷ 4 ∷ 1 ∷ 1 ∷ 104 ∷ 4 ∷ 2 ∷ 4 ∷ 102 ∷ [];
             queues = 3 ∷ 4 ∷ 7 ∷ 4 ∷ 7 ∷ 103 ∷ 103 ∷ 2 ∷ 102 ∷ [];
@@ -5121,7 +5122,7 @@ list-38 =
             flight = 3 ∷ 4 ∷ 103 ∷ 102 ∷ 104 ∷ 2 ∷ 2 ∷ 1 ∷ 7 ∷ 3 ∷ 2 ∷ 104 ∷ 2 ∷ 1 ∷ 2 ∷ 2 ∷ 7 ∷ 3 ∷ [];
           };
       calls =
-          start direct 3 3 7
+          start direct 3 3 7 plain
           ∷ book 1 3 2
           ∷ book-rate 2 2 2
           ∷ book-rate 2 2 1
@@ -5281,15 +5282,15 @@ list-38 =
     }
 
 pub agrees-38 : first-wrong list-38 ≡ 0
-unfolding first-wrong entries apply Direct.start Direct.tick Pipelined.start Pipelined.tick book-words rate-words release-words release-rate-words headroom-refusal Preview.preview arrive-words into-frame booking bookings row-sum column-sum sum first-from some-of word port-word
+unfolding first-wrong entries apply Direct.start Direct.tick Pipelined.start Pipelined.tick book-words rate-words release-words release-rate-words headroom-refusal Preview.preview arrive-words into-frame sharing-fit booking bookings row-sum column-sum sum first-from some-of word port-word
 agrees-38 = refl
 
 pub headroom-38 : first-wrong-headroom list-38 ≡ 0
-unfolding first-wrong-headroom final headroom-result pair-headroom headroom-over apply Direct.start Direct.tick Pipelined.start Pipelined.tick book-words rate-words release-words release-rate-words headroom-refusal Preview.preview arrive-words into-frame booking bookings row-sum column-sum sum first-from some-of word port-word
+unfolding first-wrong-headroom final headroom-result pair-headroom headroom-over apply Direct.start Direct.tick Pipelined.start Pipelined.tick book-words rate-words release-words release-rate-words headroom-refusal Preview.preview arrive-words into-frame sharing-fit booking bookings row-sum column-sum sum first-from some-of word port-word
 headroom-38 = refl
 
 pub preview-38 : first-wrong-preview list-38 ≡ 0
-unfolding first-wrong-preview final apply Direct.start Direct.tick Pipelined.start Pipelined.tick book-words rate-words release-words release-rate-words headroom-refusal Preview.preview arrive-words into-frame booking bookings row-sum column-sum sum first-from some-of word port-word
+unfolding first-wrong-preview final apply Direct.start Direct.tick Pipelined.start Pipelined.tick book-words rate-words release-words release-rate-words headroom-refusal Preview.preview arrive-words into-frame sharing-fit booking bookings row-sum column-sum sum first-from some-of word port-word
 preview-38 = refl
 
 abbrev list-39 : Case
@@ -5297,7 +5298,7 @@ list-39 =
     record {
       switch =
           record {
-            clock = clock-of 2 0 0 1;
+            clock = clock-of 2 0 0 1 0;
             book = book-of (2 ∷ 1 ∷ 2 ∷ 2 ∷ 103 ∷ 104 ∷ 1 ∷ 104 ∷ 7 ∷ []) (1 ∷ 2 ∷ 4 ∷ 102 ∷ 2 ∷ 102 ∷ 102 ∷ 2 ∷ 3 ∷ []);
             credits = 4 ∷ 104 ∷ 2 ∷ 2 ∷ 1 ∷ 3 ∷ 104 ∷ 103 ∷ 2 ∷ [];
             queues = 2 ∷ 3 ∷ 3 ∷ 1 ∷ 3 ∷ 102 ∷ 101 ∷ 101 ∷ 101 ∷ [];
@@ -5306,7 +5307,7 @@ list-39 =
             flight = 104 ∷ 4 ∷ 102 ∷ 1 ∷ 102 ∷ 103 ∷ 104 ∷ 102 ∷ 102 ∷ 104 ∷ 104 ∷ 3 ∷ 104 ∷ 104 ∷ 2 ∷ 1 ∷ 103 ∷ 4 ∷ [];
           };
       calls =
-          start pipelined 1 2 100000000
+          start pipelined 1 2 100000000 fine
           ∷ book-rate 1 1 16666666
           ∷ book-rate 1 1 50000000
           ∷ arrive 1 1 4
@@ -5316,7 +5317,7 @@ list-39 =
           ∷ tick pipelined
           ∷ release-rate 1 1 16666666
           ∷ tick pipelined
-          ∷ release-rate 1 1 1
+          ∷ release-rate 1 1 50000000
           ∷ tick pipelined
           ∷ tick pipelined
           ∷ release-rate 1 1 1
@@ -5337,7 +5338,7 @@ list-39 =
           ∷ preview rate-booking 1 1 16666667
           ∷ book-rate 1 1 50000001
           ∷ tick pipelined
-          ∷ release-rate 1 1 1
+          ∷ release-rate 1 1 16666667
           ∷ tick pipelined
           ∷ headroom 1 1
           ∷ release 1 1 1
@@ -5349,45 +5350,45 @@ list-39 =
           ∷ [];
       expected =
           claim 1 1 1 0 0 0 0
-          ∷ claim 1 1 3 1 0 2 1
-          ∷ claim 1 1 5 0 0 2 0
+          ∷ claim 1 1 3 2 0 2 2
+          ∷ claim 1 1 5 1 0 1 1
           ∷ claim 1 1 7 0 0 0 0
           ∷ claim 1 1 9 0 0 0 0
           ∷ claim 1 1 11 0 0 1 0
           ∷ claim 1 1 13 0 0 2 0
-          ∷ claim 1 1 15 0 0 2 0
-          ∷ claim 1 1 17 0 0 2 0
-          ∷ claim 1 1 19 0 0 1 0
+          ∷ claim 1 1 15 2 0 2 2
+          ∷ claim 1 1 17 1 0 2 1
+          ∷ claim 1 1 19 1 0 1 1
           ∷ [];
       headrooms =
-          told 1 1 0 (pos 2)
+          told 1 1 0 (pos 1)
           ∷ told 2 1 5 (pos 0)
-          ∷ told 1 4294967297 5 (pos 0)
+          ∷ told 1 0 5 (pos 0)
           ∷ [];
       previews =
-          showing slots-booking 1 1 1 0 1 1
-          ∷ showing slots-booking 1 1 1 0 1 1
+          showing slots-booking 1 1 1 0 2 2
+          ∷ showing slots-booking 1 1 1 0 2 2
           ∷ showing rate-booking 1 1 16666666 0 1 1
           ∷ showing rate-booking 1 1 14970072 0 1 1
           ∷ showing slots-release 1 1 1 10 0 0
           ∷ showing slots-release 1 1 1 10 0 0
-          ∷ showing rate-release 1 1 1 10 0 0
-          ∷ showing rate-release 1 1 38143590 10 0 0
-          ∷ showing slots-release 2 1 1 5 0 0
-          ∷ showing rate-booking 1 1 0 6 0 0
+          ∷ showing rate-release 1 1 33333335 10 0 0
+          ∷ showing rate-release 1 1 9484555 0 1 1
+          ∷ showing rate-booking 0 1 1 5 0 0
+          ∷ showing slots-release 1 1 3 6 0 0
           ∷ [];
     }
 
 pub agrees-39 : first-wrong list-39 ≡ 0
-unfolding first-wrong entries apply Direct.start Direct.tick Pipelined.start Pipelined.tick book-words rate-words release-words release-rate-words headroom-refusal Preview.preview arrive-words into-frame booking bookings row-sum column-sum sum first-from some-of word port-word
+unfolding first-wrong entries apply Direct.start Direct.tick Pipelined.start Pipelined.tick book-words rate-words release-words release-rate-words headroom-refusal Preview.preview arrive-words into-frame sharing-fit booking bookings row-sum column-sum sum first-from some-of word port-word
 agrees-39 = refl
 
 pub headroom-39 : first-wrong-headroom list-39 ≡ 0
-unfolding first-wrong-headroom final headroom-result pair-headroom headroom-over apply Direct.start Direct.tick Pipelined.start Pipelined.tick book-words rate-words release-words release-rate-words headroom-refusal Preview.preview arrive-words into-frame booking bookings row-sum column-sum sum first-from some-of word port-word
+unfolding first-wrong-headroom final headroom-result pair-headroom headroom-over apply Direct.start Direct.tick Pipelined.start Pipelined.tick book-words rate-words release-words release-rate-words headroom-refusal Preview.preview arrive-words into-frame sharing-fit booking bookings row-sum column-sum sum first-from some-of word port-word
 headroom-39 = refl
 
 pub preview-39 : first-wrong-preview list-39 ≡ 0
-unfolding first-wrong-preview final apply Direct.start Direct.tick Pipelined.start Pipelined.tick book-words rate-words release-words release-rate-words headroom-refusal Preview.preview arrive-words into-frame booking bookings row-sum column-sum sum first-from some-of word port-word
+unfolding first-wrong-preview final apply Direct.start Direct.tick Pipelined.start Pipelined.tick book-words rate-words release-words release-rate-words headroom-refusal Preview.preview arrive-words into-frame sharing-fit booking bookings row-sum column-sum sum first-from some-of word port-word
 preview-39 = refl
 
 abbrev list-40 : Case
@@ -5395,7 +5396,7 @@ list-40 =
     record {
       switch =
           record {
-            clock = clock-of 9 1 0 0;
+            clock = clock-of 9 1 0 0 7;
             book = book-of (1 ∷ 102 ∷ 2 ∷ 103 ∷ 7 ∷ 3 ∷ 4 ∷ 4 ∷ 2 ∷ []) (101 ∷ 103 ∷ 4 ∷ 101 ∷ 1 ∷ 102 ∷ 1 ∷ 4 ∷ 101 ∷ []);
             credits = 102 ∷ 3 ∷ 104 ∷ 2 ∷ 102 ∷ 104 ∷ 104 ∷ 102 ∷ 2 ∷ [];
             queues = 1 ∷ 3 ∷ 103 ∷ 1 ∷ 101 ∷ 1 ∷ 1 ∷ 1 ∷ 4 ∷ [];
@@ -5404,7 +5405,7 @@ list-40 =
             flight = 103 ∷ 1 ∷ 101 ∷ 104 ∷ 4 ∷ 1 ∷ 7 ∷ 103 ∷ 7 ∷ 3 ∷ 1 ∷ 2 ∷ 4 ∷ 2 ∷ 7 ∷ 103 ∷ 103 ∷ 104 ∷ [];
           };
       calls =
-          start direct 3 6 1000
+          start direct 3 6 1000 plain
           ∷ book-rate 3 2 55
           ∷ book-rate 3 2 55
           ∷ book-rate 3 3 55
@@ -5505,15 +5506,15 @@ list-40 =
     }
 
 pub agrees-40 : first-wrong list-40 ≡ 0
-unfolding first-wrong entries apply Direct.start Direct.tick Pipelined.start Pipelined.tick book-words rate-words release-words release-rate-words headroom-refusal Preview.preview arrive-words into-frame booking bookings row-sum column-sum sum first-from some-of word port-word
+unfolding first-wrong entries apply Direct.start Direct.tick Pipelined.start Pipelined.tick book-words rate-words release-words release-rate-words headroom-refusal Preview.preview arrive-words into-frame sharing-fit booking bookings row-sum column-sum sum first-from some-of word port-word
 agrees-40 = refl
 
 pub headroom-40 : first-wrong-headroom list-40 ≡ 0
-unfolding first-wrong-headroom final headroom-result pair-headroom headroom-over apply Direct.start Direct.tick Pipelined.start Pipelined.tick book-words rate-words release-words release-rate-words headroom-refusal Preview.preview arrive-words into-frame booking bookings row-sum column-sum sum first-from some-of word port-word
+unfolding first-wrong-headroom final headroom-result pair-headroom headroom-over apply Direct.start Direct.tick Pipelined.start Pipelined.tick book-words rate-words release-words release-rate-words headroom-refusal Preview.preview arrive-words into-frame sharing-fit booking bookings row-sum column-sum sum first-from some-of word port-word
 headroom-40 = refl
 
 pub preview-40 : first-wrong-preview list-40 ≡ 0
-unfolding first-wrong-preview final apply Direct.start Direct.tick Pipelined.start Pipelined.tick book-words rate-words release-words release-rate-words headroom-refusal Preview.preview arrive-words into-frame booking bookings row-sum column-sum sum first-from some-of word port-word
+unfolding first-wrong-preview final apply Direct.start Direct.tick Pipelined.start Pipelined.tick book-words rate-words release-words release-rate-words headroom-refusal Preview.preview arrive-words into-frame sharing-fit booking bookings row-sum column-sum sum first-from some-of word port-word
 preview-40 = refl
 
 abbrev list-41 : Case
@@ -5521,7 +5522,7 @@ list-41 =
     record {
       switch =
           record {
-            clock = clock-of 3 0 4000000000 100000001;
+            clock = clock-of 3 0 4000000000 100000001 7;
             book = book-of (2 ∷ 7 ∷ 3 ∷ 104 ∷ 1 ∷ 3 ∷ 104 ∷ 3 ∷ 4 ∷ []) (2 ∷ 103 ∷ 3 ∷ 1 ∷ 2 ∷ 103 ∷ 3 ∷ 101 ∷ 4 ∷ []);
             credits = 1 ∷ 101 ∷ 102 ∷ 101 ∷ 4 ∷ 104 ∷ 1 ∷ 2 ∷ 1 ∷ [];
             queues = 1 ∷ 102 ∷ 4 ∷ 2 ∷ 7 ∷ 3 ∷ 103 ∷ 102 ∷ 102 ∷ [];
@@ -5530,7 +5531,7 @@ list-41 =
             flight = 7 ∷ 2 ∷ 102 ∷ 104 ∷ 1 ∷ 7 ∷ 102 ∷ 1 ∷ 102 ∷ 102 ∷ 7 ∷ 1 ∷ 7 ∷ 2 ∷ 4 ∷ 102 ∷ 3 ∷ 101 ∷ [];
           };
       calls =
-          start pipelined 3 4 1000
+          start pipelined 3 4 1000 fine
           ∷ book 3 3 1
           ∷ book 2 2 1
           ∷ book 3 2 1
@@ -5538,7 +5539,7 @@ list-41 =
           ∷ arrive 1 3 7
           ∷ arrive 1 3 7
           ∷ arrive 2 1 6
-          ∷ release-rate 1 1 1
+          ∷ release-rate 3 2 83
           ∷ release 0 3 1
           ∷ preview rate-release 2 3 1
           ∷ tick pipelined
@@ -5575,7 +5576,7 @@ list-41 =
           ∷ book 2 1 1
           ∷ book 1 3 1
           ∷ arrive 3 2 10
-          ∷ start pipelined 31 32 1000
+          ∷ start pipelined 31 32 1000 plain
           ∷ book-rate 1 1 251
           ∷ arrive 3 1 11
           ∷ arrive 3 2 10
@@ -5630,24 +5631,24 @@ list-41 =
           ∷ claim 3 3 17 1 1 2 1
           ∷ [];
       headrooms =
-          told 1 1 0 (pos 1)
+          told 1 1 0 (pos 0)
           ∷ told 1 2 0 (pos 1)
           ∷ told 1 3 0 (pos 1)
-          ∷ told 2 1 0 (pos 3)
+          ∷ told 2 1 0 (pos 2)
           ∷ told 2 2 0 (pos 1)
           ∷ told 2 3 0 (pos 1)
-          ∷ told 3 1 0 (pos 1)
-          ∷ told 3 2 0 (pos 1)
-          ∷ told 3 3 0 (pos 1)
+          ∷ told 3 1 0 (pos 0)
+          ∷ told 3 2 0 (pos 0)
+          ∷ told 3 3 0 (pos 0)
           ∷ told 4 1 5 (pos 0)
           ∷ told 1 0 5 (pos 0)
           ∷ [];
       previews =
-          showing slots-booking 1 3 1 8 3 3
-          ∷ showing slots-booking 1 3 1 8 3 3
-          ∷ showing rate-booking 2 3 84 9 2 3
-          ∷ showing rate-booking 3 3 112 8 3 3
-          ∷ showing slots-release 2 1 1 0 0 0
+          showing slots-booking 1 3 1 15 3 3
+          ∷ showing slots-booking 1 3 1 15 3 3
+          ∷ showing rate-booking 2 3 84 15 2 3
+          ∷ showing rate-booking 3 3 112 15 4 3
+          ∷ showing slots-release 2 1 1 0 0 1
           ∷ showing slots-release 1 3 1 0 1 1
           ∷ showing rate-release 3 3 1 10 0 0
           ∷ showing rate-release 2 1 308 10 0 0
@@ -5657,15 +5658,15 @@ list-41 =
     }
 
 pub agrees-41 : first-wrong list-41 ≡ 0
-unfolding first-wrong entries apply Direct.start Direct.tick Pipelined.start Pipelined.tick book-words rate-words release-words release-rate-words headroom-refusal Preview.preview arrive-words into-frame booking bookings row-sum column-sum sum first-from some-of word port-word
+unfolding first-wrong entries apply Direct.start Direct.tick Pipelined.start Pipelined.tick book-words rate-words release-words release-rate-words headroom-refusal Preview.preview arrive-words into-frame sharing-fit booking bookings row-sum column-sum sum first-from some-of word port-word
 agrees-41 = refl
 
 pub headroom-41 : first-wrong-headroom list-41 ≡ 0
-unfolding first-wrong-headroom final headroom-result pair-headroom headroom-over apply Direct.start Direct.tick Pipelined.start Pipelined.tick book-words rate-words release-words release-rate-words headroom-refusal Preview.preview arrive-words into-frame booking bookings row-sum column-sum sum first-from some-of word port-word
+unfolding first-wrong-headroom final headroom-result pair-headroom headroom-over apply Direct.start Direct.tick Pipelined.start Pipelined.tick book-words rate-words release-words release-rate-words headroom-refusal Preview.preview arrive-words into-frame sharing-fit booking bookings row-sum column-sum sum first-from some-of word port-word
 headroom-41 = refl
 
 pub preview-41 : first-wrong-preview list-41 ≡ 0
-unfolding first-wrong-preview final apply Direct.start Direct.tick Pipelined.start Pipelined.tick book-words rate-words release-words release-rate-words headroom-refusal Preview.preview arrive-words into-frame booking bookings row-sum column-sum sum first-from some-of word port-word
+unfolding first-wrong-preview final apply Direct.start Direct.tick Pipelined.start Pipelined.tick book-words rate-words release-words release-rate-words headroom-refusal Preview.preview arrive-words into-frame sharing-fit booking bookings row-sum column-sum sum first-from some-of word port-word
 preview-41 = refl
 
 abbrev list-42 : Case
@@ -5673,7 +5674,7 @@ list-42 =
     record {
       switch =
           record {
-            clock = clock-of 1 1 77 0;
+            clock = clock-of 1 1 77 0 7;
             book = book-of (2 ∷ 103 ∷ 101 ∷ 2 ∷ 104 ∷ 104 ∷ 2 ∷ 3 ∷ 102 ∷ []) (3 ∷ 104 ∷ 4 ∷ 1 ∷ 103 ∷ 3 ∷ 2 ∷ 101 ∷ 7 ∷ []);
             credits = 3 ∷ 102 ∷ 2 ∷ 4 ∷ 1 ∷ 104 ∷ 104 ∷ 104 ∷ 1 ∷ [];
             queues = 3 ∷ 1 ∷ 3 ∷ 102 ∷ 2 ∷ 102 ∷ 104 ∷ 101 ∷ 102 ∷ [];
@@ -5682,7 +5683,7 @@ list-42 =
             flight = 7 ∷ 7 ∷ 7 ∷ 102 ∷ 102 ∷ 102 ∷ 7 ∷ 7 ∷ 103 ∷ 104 ∷ 101 ∷ 101 ∷ 1 ∷ 4 ∷ 3 ∷ 103 ∷ 2 ∷ 102 ∷ [];
           };
       calls =
-          start direct 2 3 100000000
+          start direct 2 3 100000000 fine
           ∷ book 1 1 1
           ∷ book-rate 2 1 33333333
           ∷ book-rate 2 1 11111112
@@ -5707,61 +5708,61 @@ list-42 =
           ∷ preview slots-release 1 1 1
           ∷ tick direct
           ∷ tick direct
-          ∷ release-rate 1 2 11111111
+          ∷ release-rate 2 1 11111111
           ∷ tick direct
           ∷ arrive 2 2 11
           ∷ tick direct
           ∷ [];
       expected =
-          claim 1 1 1 1 1 3 1
+          claim 1 1 1 1 2 3 1
           ∷ claim 1 1 4 1 2 3 1
           ∷ claim 1 1 7 1 2 3 1
           ∷ claim 1 1 10 1 2 3 1
           ∷ claim 1 2 1 0 1 0 0
-          ∷ claim 1 2 4 1 1 0 0
-          ∷ claim 1 2 7 1 1 0 0
-          ∷ claim 1 2 10 1 2 0 0
-          ∷ claim 2 1 1 1 1 2 1
-          ∷ claim 2 1 4 1 1 3 1
-          ∷ claim 2 1 7 1 1 3 1
-          ∷ claim 2 1 10 1 2 3 1
-          ∷ claim 2 2 1 0 1 3 0
+          ∷ claim 1 2 4 0 1 0 0
+          ∷ claim 1 2 7 0 1 0 0
+          ∷ claim 1 2 10 0 1 0 0
+          ∷ claim 2 1 1 2 1 2 2
+          ∷ claim 2 1 4 2 1 3 2
+          ∷ claim 2 1 7 2 1 3 2
+          ∷ claim 2 1 10 2 1 3 2
+          ∷ claim 2 2 1 0 2 3 0
           ∷ claim 2 2 4 0 2 3 0
           ∷ claim 2 2 7 0 2 3 0
-          ∷ claim 2 2 10 1 2 3 1
+          ∷ claim 2 2 10 0 2 3 0
           ∷ [];
       headrooms =
           told 1 1 0 (pos 0)
-          ∷ told 1 2 0 (pos 0)
+          ∷ told 1 2 0 (pos 2)
           ∷ told 2 1 0 (pos 0)
-          ∷ told 2 2 0 (pos 0)
+          ∷ told 2 2 0 (pos 1)
           ∷ told 3 1 5 (pos 0)
           ∷ told 1 0 5 (pos 0)
           ∷ [];
       previews =
-          showing slots-booking 2 1 1 8 3 3
-          ∷ showing slots-booking 2 2 1 8 3 3
-          ∷ showing rate-booking 1 1 11111112 8 3 3
-          ∷ showing rate-booking 2 2 16941374 8 3 3
-          ∷ showing slots-release 1 1 1 0 1 1
+          showing slots-booking 2 1 1 15 3 4
+          ∷ showing slots-booking 2 2 1 15 3 1
+          ∷ showing rate-booking 1 1 11111112 15 2 4
+          ∷ showing rate-booking 2 2 16941374 15 3 1
+          ∷ showing slots-release 1 1 1 0 0 2
           ∷ showing slots-release 1 1 2 10 0 0
-          ∷ showing rate-release 2 1 33333333 0 1 1
-          ∷ showing rate-release 1 2 35855913 10 0 0
+          ∷ showing rate-release 2 1 33333334 0 0 1
+          ∷ showing rate-release 2 1 35855913 10 0 0
           ∷ showing slots-booking 3 1 1 5 0 0
           ∷ showing rate-booking 2 1 100000001 6 0 0
           ∷ [];
     }
 
 pub agrees-42 : first-wrong list-42 ≡ 0
-unfolding first-wrong entries apply Direct.start Direct.tick Pipelined.start Pipelined.tick book-words rate-words release-words release-rate-words headroom-refusal Preview.preview arrive-words into-frame booking bookings row-sum column-sum sum first-from some-of word port-word
+unfolding first-wrong entries apply Direct.start Direct.tick Pipelined.start Pipelined.tick book-words rate-words release-words release-rate-words headroom-refusal Preview.preview arrive-words into-frame sharing-fit booking bookings row-sum column-sum sum first-from some-of word port-word
 agrees-42 = refl
 
 pub headroom-42 : first-wrong-headroom list-42 ≡ 0
-unfolding first-wrong-headroom final headroom-result pair-headroom headroom-over apply Direct.start Direct.tick Pipelined.start Pipelined.tick book-words rate-words release-words release-rate-words headroom-refusal Preview.preview arrive-words into-frame booking bookings row-sum column-sum sum first-from some-of word port-word
+unfolding first-wrong-headroom final headroom-result pair-headroom headroom-over apply Direct.start Direct.tick Pipelined.start Pipelined.tick book-words rate-words release-words release-rate-words headroom-refusal Preview.preview arrive-words into-frame sharing-fit booking bookings row-sum column-sum sum first-from some-of word port-word
 headroom-42 = refl
 
 pub preview-42 : first-wrong-preview list-42 ≡ 0
-unfolding first-wrong-preview final apply Direct.start Direct.tick Pipelined.start Pipelined.tick book-words rate-words release-words release-rate-words headroom-refusal Preview.preview arrive-words into-frame booking bookings row-sum column-sum sum first-from some-of word port-word
+unfolding first-wrong-preview final apply Direct.start Direct.tick Pipelined.start Pipelined.tick book-words rate-words release-words release-rate-words headroom-refusal Preview.preview arrive-words into-frame sharing-fit booking bookings row-sum column-sum sum first-from some-of word port-word
 preview-42 = refl
 
 abbrev list-43 : Case
@@ -5769,7 +5770,7 @@ list-43 =
     record {
       switch =
           record {
-            clock = clock-of 9 5 5 100000001;
+            clock = clock-of 9 5 5 100000001 0;
             book = book-of (4 ∷ 1 ∷ 2 ∷ 103 ∷ 1 ∷ 4 ∷ 1 ∷ 4 ∷ 103 ∷ []) (3 ∷ 3 ∷ 4 ∷ 2 ∷ 102 ∷ 1 ∷ 102 ∷ 101 ∷ 4 ∷ []);
             credits = 1 ∷ 104 ∷ 104 ∷ 102 ∷ 7 ∷ 1 ∷ 101 ∷ 104 ∷ 3 ∷ [];
             queues = 102 ∷ 102 ∷ 101 ∷ 1 ∷ 103 ∷ 1 ∷ 7 ∷ 103 ∷ 3 ∷ [];
@@ -5778,7 +5779,7 @@ list-43 =
             flight = 7 ∷ 102 ∷ 1 ∷ 7 ∷ 102 ∷ 103 ∷ 102 ∷ 103 ∷ 3 ∷ 102 ∷ 2 ∷ 2 ∷ 4 ∷ 2 ∷ 4 ∷ 2 ∷ 104 ∷ 4 ∷ [];
           };
       calls =
-          start pipelined 3 7 1000
+          start pipelined 3 7 1000 fine
           ∷ book-rate 3 3 47
           ∷ book-rate 3 3 47
           ∷ book-rate 3 3 96
@@ -5809,7 +5810,7 @@ list-43 =
           ∷ book 3 3 1
           ∷ tick pipelined
           ∷ tick pipelined
-          ∷ release-rate 3 2 142
+          ∷ release-rate 3 2 285
           ∷ tick pipelined
           ∷ tick pipelined
           ∷ tick pipelined
@@ -5851,35 +5852,35 @@ list-43 =
           ∷ claim 1 1 15 0 2 0 0
           ∷ claim 1 1 22 0 1 2 0
           ∷ claim 1 2 1 0 0 1 0
-          ∷ claim 1 2 8 1 3 7 1
+          ∷ claim 1 2 8 1 4 7 1
           ∷ claim 1 2 15 1 2 1 1
           ∷ claim 1 2 22 1 0 0 0
           ∷ claim 1 3 1 0 0 1 0
           ∷ claim 1 3 8 1 4 7 1
           ∷ claim 1 3 15 1 3 7 1
-          ∷ claim 1 3 22 0 3 0 0
+          ∷ claim 1 3 22 0 3 1 0
           ∷ claim 2 1 1 0 0 1 0
           ∷ claim 2 1 8 0 1 7 0
-          ∷ claim 2 1 15 0 0 6 0
+          ∷ claim 2 1 15 0 0 7 0
           ∷ claim 2 1 22 0 0 0 0
           ∷ claim 2 2 1 0 0 1 0
-          ∷ claim 2 2 8 0 4 7 0
-          ∷ claim 2 2 15 0 2 2 0
+          ∷ claim 2 2 8 0 5 7 0
+          ∷ claim 2 2 15 0 2 6 0
           ∷ claim 2 2 22 0 1 0 0
           ∷ claim 2 3 1 0 0 1 0
           ∷ claim 2 3 8 1 3 7 1
           ∷ claim 2 3 15 0 3 7 0
           ∷ claim 2 3 22 0 2 3 0
           ∷ claim 3 1 1 0 0 1 0
-          ∷ claim 3 1 8 0 4 7 0
+          ∷ claim 3 1 8 0 5 7 0
           ∷ claim 3 1 15 0 3 7 0
-          ∷ claim 3 1 22 0 2 0 0
+          ∷ claim 3 1 22 0 2 3 0
           ∷ claim 3 2 1 0 0 1 0
-          ∷ claim 3 2 8 2 3 7 2
-          ∷ claim 3 2 15 1 3 3 1
+          ∷ claim 3 2 8 3 3 7 3
+          ∷ claim 3 2 15 1 3 2 1
           ∷ claim 3 2 22 0 3 3 0
           ∷ claim 3 3 1 0 0 1 0
-          ∷ claim 3 3 8 2 4 7 2
+          ∷ claim 3 3 8 2 5 7 2
           ∷ claim 3 3 15 2 2 7 2
           ∷ claim 3 3 22 2 0 3 2
           ∷ [];
@@ -5911,15 +5912,15 @@ list-43 =
     }
 
 pub agrees-43 : first-wrong list-43 ≡ 0
-unfolding first-wrong entries apply Direct.start Direct.tick Pipelined.start Pipelined.tick book-words rate-words release-words release-rate-words headroom-refusal Preview.preview arrive-words into-frame booking bookings row-sum column-sum sum first-from some-of word port-word
+unfolding first-wrong entries apply Direct.start Direct.tick Pipelined.start Pipelined.tick book-words rate-words release-words release-rate-words headroom-refusal Preview.preview arrive-words into-frame sharing-fit booking bookings row-sum column-sum sum first-from some-of word port-word
 agrees-43 = refl
 
 pub headroom-43 : first-wrong-headroom list-43 ≡ 0
-unfolding first-wrong-headroom final headroom-result pair-headroom headroom-over apply Direct.start Direct.tick Pipelined.start Pipelined.tick book-words rate-words release-words release-rate-words headroom-refusal Preview.preview arrive-words into-frame booking bookings row-sum column-sum sum first-from some-of word port-word
+unfolding first-wrong-headroom final headroom-result pair-headroom headroom-over apply Direct.start Direct.tick Pipelined.start Pipelined.tick book-words rate-words release-words release-rate-words headroom-refusal Preview.preview arrive-words into-frame sharing-fit booking bookings row-sum column-sum sum first-from some-of word port-word
 headroom-43 = refl
 
 pub preview-43 : first-wrong-preview list-43 ≡ 0
-unfolding first-wrong-preview final apply Direct.start Direct.tick Pipelined.start Pipelined.tick book-words rate-words release-words release-rate-words headroom-refusal Preview.preview arrive-words into-frame booking bookings row-sum column-sum sum first-from some-of word port-word
+unfolding first-wrong-preview final apply Direct.start Direct.tick Pipelined.start Pipelined.tick book-words rate-words release-words release-rate-words headroom-refusal Preview.preview arrive-words into-frame sharing-fit booking bookings row-sum column-sum sum first-from some-of word port-word
 preview-43 = refl
 
 abbrev list-44 : Case
@@ -5927,7 +5928,7 @@ list-44 =
     record {
       switch =
           record {
-            clock = clock-of 3 0 5 1000;
+            clock = clock-of 3 0 5 1000 7;
             book = book-of (2 ∷ 1 ∷ 3 ∷ 102 ∷ 4 ∷ 101 ∷ 1 ∷ 1 ∷ 2 ∷ []) (3 ∷ 1 ∷ 3 ∷ 2 ∷ 104 ∷ 102 ∷ 3 ∷ 4 ∷ 2 ∷ []);
             credits = 103 ∷ 4 ∷ 102 ∷ 102 ∷ 4 ∷ 1 ∷ 7 ∷ 103 ∷ 2 ∷ [];
             queues = 104 ∷ 101 ∷ 2 ∷ 101 ∷ 101 ∷ 103 ∷ 103 ∷ 2 ∷ 4 ∷ [];
@@ -5936,7 +5937,7 @@ list-44 =
             flight = 101 ∷ 1 ∷ 2 ∷ 101 ∷ 7 ∷ 104 ∷ 101 ∷ 2 ∷ 104 ∷ 4 ∷ 2 ∷ 102 ∷ 103 ∷ 104 ∷ 3 ∷ 7 ∷ 1 ∷ 2 ∷ [];
           };
       calls =
-          start direct 1 4 1000
+          start direct 1 4 1000 fine
           ∷ book-rate 1 1 166
           ∷ book-rate 1 1 83
           ∷ book-rate 1 1 83
@@ -5949,7 +5950,7 @@ list-44 =
           ∷ tick direct
           ∷ tick direct
           ∷ tick direct
-          ∷ start direct 3 7 1000
+          ∷ start direct 3 7 1000 fine
           ∷ book-rate 2 2 143
           ∷ book-rate 2 2 47
           ∷ book-rate 2 2 47
@@ -5996,7 +5997,7 @@ list-44 =
           ∷ tick direct
           ∷ book 3 3 1
           ∷ book 1 1 1
-          ∷ start direct 0 7 1000
+          ∷ start direct 0 7 1000 plain
           ∷ arrive 3 2 5
           ∷ tick direct
           ∷ tick direct
@@ -6021,9 +6022,9 @@ list-44 =
           ∷ claim 1 1 15 1 1 0 0
           ∷ claim 1 1 22 1 1 0 0
           ∷ claim 1 2 1 2 2 0 0
-          ∷ claim 1 2 8 2 2 0 0
-          ∷ claim 1 2 15 0 3 1 0
-          ∷ claim 1 2 22 0 3 2 0
+          ∷ claim 1 2 8 2 3 0 0
+          ∷ claim 1 2 15 0 4 1 0
+          ∷ claim 1 2 22 0 4 3 0
           ∷ claim 1 3 1 0 4 0 0
           ∷ claim 1 3 8 0 2 0 0
           ∷ claim 1 3 15 0 2 0 0
@@ -6033,46 +6034,46 @@ list-44 =
           ∷ claim 2 1 15 1 3 0 0
           ∷ claim 2 1 22 1 3 0 0
           ∷ claim 2 2 1 2 3 7 2
-          ∷ claim 2 2 8 2 4 2 2
-          ∷ claim 2 2 15 2 1 0 0
-          ∷ claim 2 2 22 2 1 0 0
+          ∷ claim 2 2 8 2 5 2 2
+          ∷ claim 2 2 15 2 2 0 0
+          ∷ claim 2 2 22 2 2 0 0
           ∷ claim 2 3 1 0 5 0 0
           ∷ claim 2 3 8 0 4 0 0
           ∷ claim 2 3 15 0 4 0 0
           ∷ claim 2 3 22 0 4 0 0
           ∷ claim 3 1 1 0 3 0 0
-          ∷ claim 3 1 8 0 2 0 0
-          ∷ claim 3 1 15 0 3 4 0
-          ∷ claim 3 1 22 0 3 3 0
+          ∷ claim 3 1 8 0 3 0 0
+          ∷ claim 3 1 15 0 4 4 0
+          ∷ claim 3 1 22 0 4 3 0
           ∷ claim 3 2 1 0 6 7 0
-          ∷ claim 3 2 8 0 4 7 0
-          ∷ claim 3 2 15 0 3 7 0
-          ∷ claim 3 2 22 0 3 3 0
+          ∷ claim 3 2 8 1 4 7 1
+          ∷ claim 3 2 15 1 3 7 1
+          ∷ claim 3 2 22 1 3 3 1
           ∷ claim 3 3 1 2 0 0 0
-          ∷ claim 3 3 8 0 0 6 0
-          ∷ claim 3 3 15 1 0 7 1
-          ∷ claim 3 3 22 1 0 3 1
+          ∷ claim 3 3 8 0 1 6 0
+          ∷ claim 3 3 15 1 1 7 1
+          ∷ claim 3 3 22 1 1 3 1
           ∷ [];
       headrooms =
           told 1 1 0 (pos 4)
-          ∷ told 1 2 0 (pos 3)
+          ∷ told 1 2 0 (pos 2)
           ∷ told 1 3 0 (pos 4)
           ∷ told 2 1 0 (pos 2)
-          ∷ told 2 2 0 (pos 4)
+          ∷ told 2 2 0 (pos 3)
           ∷ told 2 3 0 (pos 3)
-          ∷ told 3 1 0 (pos 3)
-          ∷ told 3 2 0 (pos 4)
-          ∷ told 3 3 0 (pos 6)
+          ∷ told 3 1 0 (pos 2)
+          ∷ told 3 2 0 (pos 3)
+          ∷ told 3 3 0 (pos 5)
           ∷ told 4 1 5 (pos 0)
           ∷ told 1 4294967297 5 (pos 0)
           ∷ [];
       previews =
-          showing slots-booking 3 2 1 0 2 3
+          showing slots-booking 3 2 1 0 3 4
           ∷ showing slots-booking 1 3 2 0 4 3
           ∷ showing rate-booking 2 3 142 0 4 2
-          ∷ showing rate-booking 3 3 88 0 2 2
+          ∷ showing rate-booking 3 3 88 0 3 2
           ∷ showing slots-release 1 1 1 0 1 2
-          ∷ showing slots-release 1 1 4 10 0 0
+          ∷ showing slots-release 3 3 4 10 0 0
           ∷ showing rate-release 2 1 1 10 0 0
           ∷ showing rate-release 1 1 314 10 0 0
           ∷ showing slots-release 4 1 1 5 0 0
@@ -6081,15 +6082,15 @@ list-44 =
     }
 
 pub agrees-44 : first-wrong list-44 ≡ 0
-unfolding first-wrong entries apply Direct.start Direct.tick Pipelined.start Pipelined.tick book-words rate-words release-words release-rate-words headroom-refusal Preview.preview arrive-words into-frame booking bookings row-sum column-sum sum first-from some-of word port-word
+unfolding first-wrong entries apply Direct.start Direct.tick Pipelined.start Pipelined.tick book-words rate-words release-words release-rate-words headroom-refusal Preview.preview arrive-words into-frame sharing-fit booking bookings row-sum column-sum sum first-from some-of word port-word
 agrees-44 = refl
 
 pub headroom-44 : first-wrong-headroom list-44 ≡ 0
-unfolding first-wrong-headroom final headroom-result pair-headroom headroom-over apply Direct.start Direct.tick Pipelined.start Pipelined.tick book-words rate-words release-words release-rate-words headroom-refusal Preview.preview arrive-words into-frame booking bookings row-sum column-sum sum first-from some-of word port-word
+unfolding first-wrong-headroom final headroom-result pair-headroom headroom-over apply Direct.start Direct.tick Pipelined.start Pipelined.tick book-words rate-words release-words release-rate-words headroom-refusal Preview.preview arrive-words into-frame sharing-fit booking bookings row-sum column-sum sum first-from some-of word port-word
 headroom-44 = refl
 
 pub preview-44 : first-wrong-preview list-44 ≡ 0
-unfolding first-wrong-preview final apply Direct.start Direct.tick Pipelined.start Pipelined.tick book-words rate-words release-words release-rate-words headroom-refusal Preview.preview arrive-words into-frame booking bookings row-sum column-sum sum first-from some-of word port-word
+unfolding first-wrong-preview final apply Direct.start Direct.tick Pipelined.start Pipelined.tick book-words rate-words release-words release-rate-words headroom-refusal Preview.preview arrive-words into-frame sharing-fit booking bookings row-sum column-sum sum first-from some-of word port-word
 preview-44 = refl
 
 abbrev list-45 : Case
@@ -6097,7 +6098,7 @@ list-45 =
     record {
       switch =
           record {
-            clock = clock-of 9 5 1 0;
+            clock = clock-of 9 5 1 0 0;
             book = book-of (1 ∷ 4 ∷ 102 ∷ 104 ∷ 104 ∷ 101 ∷ 103 ∷ 3 ∷ 2 ∷ []) (103 ∷ 7 ∷ 2 ∷ 3 ∷ 101 ∷ 2 ∷ 102 ∷ 1 ∷ 7 ∷ []);
             credits = 3 ∷ 1 ∷ 7 ∷ 104 ∷ 103 ∷ 7 ∷ 2 ∷ 101 ∷ 2 ∷ [];
             queues = 102 ∷ 104 ∷ 2 ∷ 1 ∷ 2 ∷ 7 ∷ 7 ∷ 3 ∷ 7 ∷ [];
@@ -6106,7 +6107,7 @@ list-45 =
             flight = 1 ∷ 104 ∷ 104 ∷ 102 ∷ 7 ∷ 103 ∷ 7 ∷ 2 ∷ 1 ∷ 7 ∷ 102 ∷ 103 ∷ 104 ∷ 101 ∷ 1 ∷ 104 ∷ 104 ∷ 1 ∷ [];
           };
       calls =
-          start pipelined 3 3 99999999
+          start pipelined 3 3 99999999 fine
           ∷ book-rate 2 3 22222222
           ∷ book-rate 2 3 11111111
           ∷ book-rate 2 3 11111111
@@ -6139,19 +6140,19 @@ list-45 =
           ∷ arrive 2 1 64
           ∷ arrive 3 2 76
           ∷ tick pipelined
-          ∷ preview slots-release 1 2 1
+          ∷ preview slots-release 2 2 1
           ∷ headroom 3 3
           ∷ arrive 2 1 90
           ∷ tick pipelined
           ∷ preview slots-booking 3 2 1
           ∷ arrive 3 1 53
-          ∷ preview slots-release 1 2 1
+          ∷ preview slots-release 3 1 1
           ∷ tick pipelined
           ∷ headroom 3 1
           ∷ tick pipelined
           ∷ tick pipelined
           ∷ tick pipelined
-          ∷ release-rate 1 2 11111112
+          ∷ release-rate 2 2 11111111
           ∷ book 1 2 1
           ∷ tick pipelined
           ∷ arrive 2 1 68
@@ -6167,7 +6168,7 @@ list-45 =
           ∷ tick pipelined
           ∷ tick pipelined
           ∷ book-rate 3 2 11111111
-          ∷ release-rate 1 2 11111111
+          ∷ release-rate 1 1 22222222
           ∷ book-rate 3 2 11111111
           ∷ tick pipelined
           ∷ tick pipelined
@@ -6176,52 +6177,52 @@ list-45 =
       expected =
           claim 1 1 1 0 0 0 0
           ∷ claim 1 1 4 0 0 0 0
-          ∷ claim 1 1 7 0 2 3 0
-          ∷ claim 1 1 10 0 2 3 0
-          ∷ claim 1 1 13 0 2 3 0
-          ∷ claim 1 1 16 0 1 1 0
+          ∷ claim 1 1 7 2 0 3 2
+          ∷ claim 1 1 10 2 0 3 2
+          ∷ claim 1 1 13 2 1 3 2
+          ∷ claim 1 1 16 2 0 1 1
           ∷ claim 1 2 1 0 0 0 0
           ∷ claim 1 2 4 0 0 0 0
-          ∷ claim 1 2 7 2 0 3 2
-          ∷ claim 1 2 10 2 0 3 2
-          ∷ claim 1 2 13 2 0 3 2
-          ∷ claim 1 2 16 1 0 1 1
+          ∷ claim 1 2 7 0 3 3 0
+          ∷ claim 1 2 10 0 3 3 0
+          ∷ claim 1 2 13 1 2 3 1
+          ∷ claim 1 2 16 0 2 1 0
           ∷ claim 1 3 1 0 0 0 0
           ∷ claim 1 3 4 0 0 0 0
           ∷ claim 1 3 7 0 4 3 0
           ∷ claim 1 3 10 0 4 3 0
-          ∷ claim 1 3 13 0 4 3 0
-          ∷ claim 1 3 16 0 3 1 0
+          ∷ claim 1 3 13 0 5 3 0
+          ∷ claim 1 3 16 0 4 1 0
           ∷ claim 2 1 1 0 0 0 0
           ∷ claim 2 1 4 0 0 0 0
-          ∷ claim 2 1 7 0 2 3 0
-          ∷ claim 2 1 10 0 2 3 0
-          ∷ claim 2 1 13 0 2 3 0
-          ∷ claim 2 1 16 0 2 1 0
+          ∷ claim 2 1 7 0 5 3 0
+          ∷ claim 2 1 10 0 5 3 0
+          ∷ claim 2 1 13 0 4 3 0
+          ∷ claim 2 1 16 0 4 1 0
           ∷ claim 2 2 1 0 0 0 0
           ∷ claim 2 2 4 0 0 0 0
-          ∷ claim 2 2 7 0 4 3 0
-          ∷ claim 2 2 10 0 4 3 0
-          ∷ claim 2 2 13 0 4 3 0
-          ∷ claim 2 2 16 0 3 1 0
+          ∷ claim 2 2 7 1 2 3 1
+          ∷ claim 2 2 10 1 2 3 1
+          ∷ claim 2 2 13 0 3 3 0
+          ∷ claim 2 2 16 0 2 1 0
           ∷ claim 2 3 1 0 0 0 0
           ∷ claim 2 3 4 0 0 0 0
-          ∷ claim 2 3 7 2 0 3 2
-          ∷ claim 2 3 10 2 0 3 2
+          ∷ claim 2 3 7 2 1 3 2
+          ∷ claim 2 3 10 2 1 3 2
           ∷ claim 2 3 13 2 0 3 2
           ∷ claim 2 3 16 2 0 1 1
           ∷ claim 3 1 1 0 0 0 0
           ∷ claim 3 1 4 0 0 0 0
-          ∷ claim 3 1 7 0 0 3 0
-          ∷ claim 3 1 10 0 0 3 0
-          ∷ claim 3 1 13 0 0 3 0
-          ∷ claim 3 1 16 0 0 1 0
+          ∷ claim 3 1 7 0 2 3 0
+          ∷ claim 3 1 10 0 2 3 0
+          ∷ claim 3 1 13 0 2 3 0
+          ∷ claim 3 1 16 0 2 1 0
           ∷ claim 3 2 1 0 0 0 0
           ∷ claim 3 2 4 0 0 0 0
-          ∷ claim 3 2 7 0 2 3 0
-          ∷ claim 3 2 10 0 2 3 0
-          ∷ claim 3 2 13 0 2 3 0
-          ∷ claim 3 2 16 0 1 1 0
+          ∷ claim 3 2 7 0 1 3 0
+          ∷ claim 3 2 10 0 1 3 0
+          ∷ claim 3 2 13 0 1 3 0
+          ∷ claim 3 2 16 0 0 1 0
           ∷ claim 3 3 1 0 0 0 0
           ∷ claim 3 3 4 0 0 0 0
           ∷ claim 3 3 7 0 2 3 0
@@ -6230,42 +6231,42 @@ list-45 =
           ∷ claim 3 3 16 0 2 1 0
           ∷ [];
       headrooms =
-          told 1 1 0 (pos 3)
-          ∷ told 1 2 0 (pos 2)
-          ∷ told 1 3 0 (pos 1)
-          ∷ told 2 1 0 (pos 1)
+          told 1 1 0 (pos 2)
+          ∷ told 1 2 0 (pos 1)
+          ∷ told 1 3 0 (pos 0)
+          ∷ told 2 1 0 (negsuc 0)
           ∷ told 2 2 0 (pos 0)
-          ∷ told 2 3 0 (pos 1)
+          ∷ told 2 3 0 (pos 0)
           ∷ told 3 1 0 (pos 2)
           ∷ told 3 2 0 (pos 2)
-          ∷ told 3 3 0 (pos 0)
+          ∷ told 3 3 0 (pos 1)
           ∷ told 4 1 5 (pos 0)
           ∷ told 1 4294967297 5 (pos 0)
           ∷ [];
       previews =
-          showing slots-booking 1 3 1 9 1 3
-          ∷ showing slots-booking 1 3 1 9 1 3
-          ∷ showing rate-booking 2 3 33333333 8 3 3
+          showing slots-booking 1 3 1 15 2 3
+          ∷ showing slots-booking 1 3 1 15 2 3
+          ∷ showing rate-booking 2 3 33333333 15 4 3
           ∷ showing rate-booking 1 1 40085113 0 2 2
           ∷ showing slots-release 3 1 1 10 0 0
           ∷ showing slots-release 2 3 2 10 0 0
           ∷ showing rate-release 3 3 1 10 0 0
-          ∷ showing rate-release 3 2 499693 0 1 1
+          ∷ showing rate-release 1 1 499693 0 1 1
           ∷ showing rate-release 0 2 1 5 0 0
           ∷ showing slots-release 2 2 0 6 0 0
           ∷ [];
     }
 
 pub agrees-45 : first-wrong list-45 ≡ 0
-unfolding first-wrong entries apply Direct.start Direct.tick Pipelined.start Pipelined.tick book-words rate-words release-words release-rate-words headroom-refusal Preview.preview arrive-words into-frame booking bookings row-sum column-sum sum first-from some-of word port-word
+unfolding first-wrong entries apply Direct.start Direct.tick Pipelined.start Pipelined.tick book-words rate-words release-words release-rate-words headroom-refusal Preview.preview arrive-words into-frame sharing-fit booking bookings row-sum column-sum sum first-from some-of word port-word
 agrees-45 = refl
 
 pub headroom-45 : first-wrong-headroom list-45 ≡ 0
-unfolding first-wrong-headroom final headroom-result pair-headroom headroom-over apply Direct.start Direct.tick Pipelined.start Pipelined.tick book-words rate-words release-words release-rate-words headroom-refusal Preview.preview arrive-words into-frame booking bookings row-sum column-sum sum first-from some-of word port-word
+unfolding first-wrong-headroom final headroom-result pair-headroom headroom-over apply Direct.start Direct.tick Pipelined.start Pipelined.tick book-words rate-words release-words release-rate-words headroom-refusal Preview.preview arrive-words into-frame sharing-fit booking bookings row-sum column-sum sum first-from some-of word port-word
 headroom-45 = refl
 
 pub preview-45 : first-wrong-preview list-45 ≡ 0
-unfolding first-wrong-preview final apply Direct.start Direct.tick Pipelined.start Pipelined.tick book-words rate-words release-words release-rate-words headroom-refusal Preview.preview arrive-words into-frame booking bookings row-sum column-sum sum first-from some-of word port-word
+unfolding first-wrong-preview final apply Direct.start Direct.tick Pipelined.start Pipelined.tick book-words rate-words release-words release-rate-words headroom-refusal Preview.preview arrive-words into-frame sharing-fit booking bookings row-sum column-sum sum first-from some-of word port-word
 preview-45 = refl
 
 abbrev list-46 : Case
@@ -6273,7 +6274,7 @@ list-46 =
     record {
       switch =
           record {
-            clock = clock-of 3 5 0 1;
+            clock = clock-of 3 5 0 1 7;
             book = book-of (104 ∷ 103 ∷ 3 ∷ 102 ∷ 1 ∷ 1 ∷ 2 ∷ 104 ∷ 104 ∷ []) (3 ∷ 102 ∷ 101 ∷ 4 ∷ 2 ∷ 4 ∷ 102 ∷ 7 ∷ 103 ∷ []);
             credits = 2 ∷ 1 ∷ 102 ∷ 103 ∷ 7 ∷ 1 ∷ 3 ∷ 4 ∷ 1 ∷ [];
             queues = 1 ∷ 102 ∷ 4 ∷ 103 ∷ 104 ∷ 3 ∷ 2 ∷ 2 ∷ 2 ∷ [];
@@ -6282,7 +6283,7 @@ list-46 =
             flight = 104 ∷ 1 ∷ 102 ∷ 2 ∷ 101 ∷ 103 ∷ 2 ∷ 3 ∷ 102 ∷ 102 ∷ 2 ∷ 2 ∷ 4 ∷ 7 ∷ 1 ∷ 101 ∷ 101 ∷ 3 ∷ [];
           };
       calls =
-          start direct 2 3 99999999
+          start direct 2 3 99999999 plain
           ∷ book-rate 2 1 11111111
           ∷ book-rate 2 1 11111112
           ∷ book-rate 2 1 22222222
@@ -6369,15 +6370,15 @@ list-46 =
     }
 
 pub agrees-46 : first-wrong list-46 ≡ 0
-unfolding first-wrong entries apply Direct.start Direct.tick Pipelined.start Pipelined.tick book-words rate-words release-words release-rate-words headroom-refusal Preview.preview arrive-words into-frame booking bookings row-sum column-sum sum first-from some-of word port-word
+unfolding first-wrong entries apply Direct.start Direct.tick Pipelined.start Pipelined.tick book-words rate-words release-words release-rate-words headroom-refusal Preview.preview arrive-words into-frame sharing-fit booking bookings row-sum column-sum sum first-from some-of word port-word
 agrees-46 = refl
 
 pub headroom-46 : first-wrong-headroom list-46 ≡ 0
-unfolding first-wrong-headroom final headroom-result pair-headroom headroom-over apply Direct.start Direct.tick Pipelined.start Pipelined.tick book-words rate-words release-words release-rate-words headroom-refusal Preview.preview arrive-words into-frame booking bookings row-sum column-sum sum first-from some-of word port-word
+unfolding first-wrong-headroom final headroom-result pair-headroom headroom-over apply Direct.start Direct.tick Pipelined.start Pipelined.tick book-words rate-words release-words release-rate-words headroom-refusal Preview.preview arrive-words into-frame sharing-fit booking bookings row-sum column-sum sum first-from some-of word port-word
 headroom-46 = refl
 
 pub preview-46 : first-wrong-preview list-46 ≡ 0
-unfolding first-wrong-preview final apply Direct.start Direct.tick Pipelined.start Pipelined.tick book-words rate-words release-words release-rate-words headroom-refusal Preview.preview arrive-words into-frame booking bookings row-sum column-sum sum first-from some-of word port-word
+unfolding first-wrong-preview final apply Direct.start Direct.tick Pipelined.start Pipelined.tick book-words rate-words release-words release-rate-words headroom-refusal Preview.preview arrive-words into-frame sharing-fit booking bookings row-sum column-sum sum first-from some-of word port-word
 preview-46 = refl
 
 abbrev list-47 : Case
@@ -6385,7 +6386,7 @@ list-47 =
     record {
       switch =
           record {
-            clock = clock-of 3 1 4000000000 1000;
+            clock = clock-of 3 1 4000000000 1000 7;
             book = book-of (102 ∷ 7 ∷ 1 ∷ 104 ∷ 7 ∷ 103 ∷ 2 ∷ 7 ∷ 102 ∷ []) (2 ∷ 3 ∷ 103 ∷ 104 ∷ 3 ∷ 2 ∷ 101 ∷ 3 ∷ 104 ∷ []);
             credits = 2 ∷ 103 ∷ 104 ∷ 4 ∷ 101 ∷ 104 ∷ 101 ∷ 1 ∷ 104 ∷ [];
             queues = 7 ∷ 103 ∷ 2 ∷ 3 ∷ 2 ∷ 104 ∷ 103 ∷ 102 ∷ 104 ∷ [];
@@ -6394,7 +6395,7 @@ list-47 =
             flight = 2 ∷ 102 ∷ 102 ∷ 104 ∷ 4 ∷ 2 ∷ 104 ∷ 1 ∷ 102 ∷ 1 ∷ 103 ∷ 102 ∷ 2 ∷ 102 ∷ 1 ∷ 104 ∷ 2 ∷ 1 ∷ [];
           };
       calls =
-          start pipelined 3 4 1000
+          start pipelined 3 4 1000 fine
           ∷ book-rate 2 1 251
           ∷ book-rate 2 1 84
           ∷ book-rate 1 2 83
@@ -6421,16 +6422,14 @@ list-47 =
           ∷ arrive 1 2 85
           ∷ arrive 3 2 87
           ∷ book 1 1 5
-          ∷ release 3 3 1
-          ∷ arrive 3 2 83
+          ∷ release 3 2 1
           ∷ tick pipelined
           ∷ tick pipelined
-          ∷ tick pipelined
-          ∷ tick pipelined
+          ∷ book 2 1 1
           ∷ release-rate 1 2 83
           ∷ tick pipelined
           ∷ tick pipelined
-          ∷ preview slots-release 2 3 1
+          ∷ preview slots-release 2 1 1
           ∷ arrive 1 1 0
           ∷ tick pipelined
           ∷ arrive 2 1 56
@@ -6450,17 +6449,17 @@ list-47 =
           ∷ tick pipelined
           ∷ tick pipelined
           ∷ book 2 1 1
-          ∷ preview rate-release 1 2 333
+          ∷ preview rate-release 2 1 252
           ∷ arrive 3 3 78
           ∷ book-rate 2 3 84
           ∷ book-rate 2 1 83
           ∷ tick pipelined
           ∷ arrive 1 3 59
           ∷ tick pipelined
-          ∷ start pipelined 0 4 1000
+          ∷ start pipelined 0 4 1000 plain
           ∷ preview rate-release 1 2 166
           ∷ book-rate 1 3 84
-          ∷ start pipelined 33 4 1000
+          ∷ start pipelined 33 4 1000 plain
           ∷ tick pipelined
           ∷ release-rate 1 2 334
           ∷ tick pipelined
@@ -6468,50 +6467,54 @@ list-47 =
           ∷ arrive 1 2 49
           ∷ tick pipelined
           ∷ tick pipelined
+          ∷ release-rate 2 1 83
+          ∷ arrive 2 2 71
+          ∷ tick pipelined
+          ∷ tick pipelined
           ∷ [];
       expected =
           claim 1 1 1 0 0 0 0
           ∷ claim 1 1 5 0 0 0 0
-          ∷ claim 1 1 9 0 4 0 0
-          ∷ claim 1 1 13 0 4 0 0
-          ∷ claim 1 1 17 0 4 0 0
-          ∷ claim 1 1 21 0 4 0 0
+          ∷ claim 1 1 9 0 7 0 0
+          ∷ claim 1 1 13 0 7 0 0
+          ∷ claim 1 1 17 0 7 0 0
+          ∷ claim 1 1 21 0 7 0 0
           ∷ claim 1 2 1 0 0 0 0
           ∷ claim 1 2 5 0 0 2 0
-          ∷ claim 1 2 9 2 0 4 2
-          ∷ claim 1 2 13 2 0 4 2
-          ∷ claim 1 2 17 2 0 4 2
-          ∷ claim 1 2 21 2 0 4 2
+          ∷ claim 1 2 9 3 0 4 3
+          ∷ claim 1 2 13 3 0 4 3
+          ∷ claim 1 2 17 3 0 4 3
+          ∷ claim 1 2 21 3 0 4 3
           ∷ claim 1 3 1 0 0 0 0
           ∷ claim 1 3 5 0 0 0 0
           ∷ claim 1 3 9 0 3 0 0
-          ∷ claim 1 3 13 0 3 0 0
-          ∷ claim 1 3 17 0 3 3 0
+          ∷ claim 1 3 13 0 3 1 0
+          ∷ claim 1 3 17 0 3 4 0
           ∷ claim 1 3 21 0 3 4 0
           ∷ claim 2 1 1 0 0 0 0
           ∷ claim 2 1 5 0 0 2 0
-          ∷ claim 2 1 9 2 0 4 2
-          ∷ claim 2 1 13 2 0 4 2
-          ∷ claim 2 1 17 2 0 4 2
-          ∷ claim 2 1 21 2 0 4 2
+          ∷ claim 2 1 9 4 0 4 4
+          ∷ claim 2 1 13 4 0 4 4
+          ∷ claim 2 1 17 4 0 4 4
+          ∷ claim 2 1 21 4 0 4 4
           ∷ claim 2 2 1 0 0 0 0
           ∷ claim 2 2 5 0 0 2 0
-          ∷ claim 2 2 9 0 4 4 0
-          ∷ claim 2 2 13 0 4 4 0
-          ∷ claim 2 2 17 0 4 4 0
-          ∷ claim 2 2 21 0 4 4 0
+          ∷ claim 2 2 9 0 7 4 0
+          ∷ claim 2 2 13 0 7 4 0
+          ∷ claim 2 2 17 0 7 4 0
+          ∷ claim 2 2 21 0 7 4 0
           ∷ claim 2 3 1 0 0 0 0
           ∷ claim 2 3 5 0 0 2 0
-          ∷ claim 2 3 9 0 3 4 0
-          ∷ claim 2 3 13 0 3 4 0
-          ∷ claim 2 3 17 0 3 4 0
-          ∷ claim 2 3 21 0 3 4 0
+          ∷ claim 2 3 9 0 4 4 0
+          ∷ claim 2 3 13 0 4 4 0
+          ∷ claim 2 3 17 0 4 4 0
+          ∷ claim 2 3 21 0 4 4 0
           ∷ claim 3 1 1 0 0 0 0
           ∷ claim 3 1 5 0 0 0 0
-          ∷ claim 3 1 9 0 3 0 0
-          ∷ claim 3 1 13 0 3 0 0
-          ∷ claim 3 1 17 0 3 0 0
-          ∷ claim 3 1 21 0 3 0 0
+          ∷ claim 3 1 9 0 4 0 0
+          ∷ claim 3 1 13 0 4 0 0
+          ∷ claim 3 1 17 0 4 0 0
+          ∷ claim 3 1 21 0 4 0 0
           ∷ claim 3 2 1 0 0 0 0
           ∷ claim 3 2 5 0 0 2 0
           ∷ claim 3 2 9 0 3 4 0
@@ -6520,48 +6523,48 @@ list-47 =
           ∷ claim 3 2 21 0 3 4 0
           ∷ claim 3 3 1 0 0 0 0
           ∷ claim 3 3 5 0 0 0 0
-          ∷ claim 3 3 9 1 0 0 0
-          ∷ claim 3 3 13 1 0 1 1
-          ∷ claim 3 3 17 1 0 4 1
-          ∷ claim 3 3 21 1 0 4 1
+          ∷ claim 3 3 9 0 0 0 0
+          ∷ claim 3 3 13 0 0 3 0
+          ∷ claim 3 3 17 0 0 4 0
+          ∷ claim 3 3 21 0 0 4 0
           ∷ [];
       headrooms =
-          told 1 1 0 (pos 0)
-          ∷ told 1 2 0 (pos 2)
-          ∷ told 1 3 0 (pos 1)
-          ∷ told 2 1 0 (pos 2)
-          ∷ told 2 2 0 (pos 0)
-          ∷ told 2 3 0 (pos 1)
-          ∷ told 3 1 0 (pos 1)
+          told 1 1 0 (negsuc 3)
+          ∷ told 1 2 0 (pos 0)
+          ∷ told 1 3 0 (pos 0)
+          ∷ told 2 1 0 (pos 0)
+          ∷ told 2 2 0 (negsuc 2)
+          ∷ told 2 3 0 (negsuc 0)
+          ∷ told 3 1 0 (pos 0)
           ∷ told 3 2 0 (pos 1)
           ∷ told 3 3 0 (pos 3)
           ∷ told 4 1 5 (pos 0)
-          ∷ told 1 0 5 (pos 0)
+          ∷ told 1 4294967297 5 (pos 0)
           ∷ [];
       previews =
-          showing slots-booking 3 3 1 0 2 2
-          ∷ showing slots-booking 1 2 2 8 4 4
-          ∷ showing rate-booking 2 2 84 8 3 3
-          ∷ showing rate-booking 3 1 15 9 2 3
-          ∷ showing slots-release 1 1 1 10 0 0
-          ∷ showing slots-release 2 1 2 10 0 0
-          ∷ showing rate-release 2 1 335 0 0 0
-          ∷ showing rate-release 1 2 413 10 0 0
-          ∷ showing slots-release 0 2 1 5 0 0
-          ∷ showing slots-booking 1 2 5 6 0 0
+          showing slots-booking 3 1 1 15 1 5
+          ∷ showing slots-booking 1 1 2 15 6 6
+          ∷ showing rate-booking 1 3 83 0 4 1
+          ∷ showing rate-booking 2 3 410 15 6 3
+          ∷ showing slots-release 1 2 1 0 3 2
+          ∷ showing slots-release 2 1 1 0 3 3
+          ∷ showing rate-release 1 2 333 0 2 1
+          ∷ showing rate-release 1 2 182 0 3 2
+          ∷ showing rate-booking 4 3 1 5 0 0
+          ∷ showing slots-booking 1 3 0 6 0 0
           ∷ [];
     }
 
 pub agrees-47 : first-wrong list-47 ≡ 0
-unfolding first-wrong entries apply Direct.start Direct.tick Pipelined.start Pipelined.tick book-words rate-words release-words release-rate-words headroom-refusal Preview.preview arrive-words into-frame booking bookings row-sum column-sum sum first-from some-of word port-word
+unfolding first-wrong entries apply Direct.start Direct.tick Pipelined.start Pipelined.tick book-words rate-words release-words release-rate-words headroom-refusal Preview.preview arrive-words into-frame sharing-fit booking bookings row-sum column-sum sum first-from some-of word port-word
 agrees-47 = refl
 
 pub headroom-47 : first-wrong-headroom list-47 ≡ 0
-unfolding first-wrong-headroom final headroom-result pair-headroom headroom-over apply Direct.start Direct.tick Pipelined.start Pipelined.tick book-words rate-words release-words release-rate-words headroom-refusal Preview.preview arrive-words into-frame booking bookings row-sum column-sum sum first-from some-of word port-word
+unfolding first-wrong-headroom final headroom-result pair-headroom headroom-over apply Direct.start Direct.tick Pipelined.start Pipelined.tick book-words rate-words release-words release-rate-words headroom-refusal Preview.preview arrive-words into-frame sharing-fit booking bookings row-sum column-sum sum first-from some-of word port-word
 headroom-47 = refl
 
 pub preview-47 : first-wrong-preview list-47 ≡ 0
-unfolding first-wrong-preview final apply Direct.start Direct.tick Pipelined.start Pipelined.tick book-words rate-words release-words release-rate-words headroom-refusal Preview.preview arrive-words into-frame booking bookings row-sum column-sum sum first-from some-of word port-word
+unfolding first-wrong-preview final apply Direct.start Direct.tick Pipelined.start Pipelined.tick book-words rate-words release-words release-rate-words headroom-refusal Preview.preview arrive-words into-frame sharing-fit booking bookings row-sum column-sum sum first-from some-of word port-word
 preview-47 = refl
 
 abbrev list-48 : Case
@@ -6569,7 +6572,7 @@ list-48 =
     record {
       switch =
           record {
-            clock = clock-of 33 10001 4000000000 100000001;
+            clock = clock-of 33 10001 4000000000 100000001 7;
             book = book-of (7 ∷ 2 ∷ 102 ∷ 1 ∷ 3 ∷ 101 ∷ 101 ∷ 1 ∷ 101 ∷ []) (2 ∷ 102 ∷ 1 ∷ 1 ∷ 1 ∷ 1 ∷ 104 ∷ 2 ∷ 2 ∷ []);
             credits = 4 ∷ 4 ∷ 101 ∷ 4 ∷ 7 ∷ 1 ∷ 103 ∷ 1 ∷ 4 ∷ [];
             queues = 4 ∷ 1 ∷ 102 ∷ 1 ∷ 103 ∷ 2 ∷ 103 ∷ 1 ∷ 3 ∷ [];
@@ -6578,7 +6581,7 @@ list-48 =
             flight = 101 ∷ 1 ∷ 1 ∷ 4 ∷ 1 ∷ 3 ∷ 1 ∷ 101 ∷ 4 ∷ 104 ∷ 7 ∷ 4 ∷ 3 ∷ 102 ∷ 101 ∷ 1 ∷ 4 ∷ 103 ∷ [];
           };
       calls =
-          start direct 1 7 100000000
+          start direct 1 7 100000000 plain
           ∷ book 1 1 1
           ∷ arrive 1 1 1
           ∷ arrive 1 1 2
@@ -6586,7 +6589,7 @@ list-48 =
           ∷ tick direct
           ∷ tick direct
           ∷ tick direct
-          ∷ start direct 3 6 0
+          ∷ start direct 3 6 0 fine
           ∷ book-rate 2 1 1
           ∷ book-rate 2 2 1
           ∷ book-rate 2 2 1
@@ -6714,15 +6717,15 @@ list-48 =
     }
 
 pub agrees-48 : first-wrong list-48 ≡ 0
-unfolding first-wrong entries apply Direct.start Direct.tick Pipelined.start Pipelined.tick book-words rate-words release-words release-rate-words headroom-refusal Preview.preview arrive-words into-frame booking bookings row-sum column-sum sum first-from some-of word port-word
+unfolding first-wrong entries apply Direct.start Direct.tick Pipelined.start Pipelined.tick book-words rate-words release-words release-rate-words headroom-refusal Preview.preview arrive-words into-frame sharing-fit booking bookings row-sum column-sum sum first-from some-of word port-word
 agrees-48 = refl
 
 pub headroom-48 : first-wrong-headroom list-48 ≡ 0
-unfolding first-wrong-headroom final headroom-result pair-headroom headroom-over apply Direct.start Direct.tick Pipelined.start Pipelined.tick book-words rate-words release-words release-rate-words headroom-refusal Preview.preview arrive-words into-frame booking bookings row-sum column-sum sum first-from some-of word port-word
+unfolding first-wrong-headroom final headroom-result pair-headroom headroom-over apply Direct.start Direct.tick Pipelined.start Pipelined.tick book-words rate-words release-words release-rate-words headroom-refusal Preview.preview arrive-words into-frame sharing-fit booking bookings row-sum column-sum sum first-from some-of word port-word
 headroom-48 = refl
 
 pub preview-48 : first-wrong-preview list-48 ≡ 0
-unfolding first-wrong-preview final apply Direct.start Direct.tick Pipelined.start Pipelined.tick book-words rate-words release-words release-rate-words headroom-refusal Preview.preview arrive-words into-frame booking bookings row-sum column-sum sum first-from some-of word port-word
+unfolding first-wrong-preview final apply Direct.start Direct.tick Pipelined.start Pipelined.tick book-words rate-words release-words release-rate-words headroom-refusal Preview.preview arrive-words into-frame sharing-fit booking bookings row-sum column-sum sum first-from some-of word port-word
 preview-48 = refl
 
 abbrev list-49 : Case
@@ -6730,7 +6733,7 @@ list-49 =
     record {
       switch =
           record {
-            clock = clock-of 0 1 77 1000;
+            clock = clock-of 0 1 77 1000 7;
             book = book-of (101 ∷ 102 ∷ 102 ∷ 101 ∷ 103 ∷ 103 ∷ 103 ∷ 102 ∷ 3 ∷ []) (101 ∷ 1 ∷ 1 ∷ 2 ∷ 103 ∷ 104 ∷ 2 ∷ 2 ∷ 104 ∷ []);
             credits = 102 ∷ 101 ∷ 1 ∷ 2 ∷ 103 ∷ 1 ∷ 103 ∷ 101 ∷ 2 ∷ [];
             queues = 1 ∷ 1 ∷ 1 ∷ 1 ∷ 2 ∷ 3 ∷ 2 ∷ 101 ∷ 1 ∷ [];
@@ -6739,7 +6742,7 @@ list-49 =
             flight = 4 ∷ 101 ∷ 101 ∷ 1 ∷ 4 ∷ 101 ∷ 1 ∷ 1 ∷ 4 ∷ 104 ∷ 1 ∷ 102 ∷ 104 ∷ 101 ∷ 2 ∷ 1 ∷ 2 ∷ 1 ∷ [];
           };
       calls =
-          start pipelined 2 4 100000000
+          start pipelined 2 4 100000000 plain
           ∷ book-rate 1 1 16666666
           ∷ book-rate 1 1 8333333
           ∷ book-rate 1 1 16666666
@@ -6808,15 +6811,15 @@ list-49 =
     }
 
 pub agrees-49 : first-wrong list-49 ≡ 0
-unfolding first-wrong entries apply Direct.start Direct.tick Pipelined.start Pipelined.tick book-words rate-words release-words release-rate-words headroom-refusal Preview.preview arrive-words into-frame booking bookings row-sum column-sum sum first-from some-of word port-word
+unfolding first-wrong entries apply Direct.start Direct.tick Pipelined.start Pipelined.tick book-words rate-words release-words release-rate-words headroom-refusal Preview.preview arrive-words into-frame sharing-fit booking bookings row-sum column-sum sum first-from some-of word port-word
 agrees-49 = refl
 
 pub headroom-49 : first-wrong-headroom list-49 ≡ 0
-unfolding first-wrong-headroom final headroom-result pair-headroom headroom-over apply Direct.start Direct.tick Pipelined.start Pipelined.tick book-words rate-words release-words release-rate-words headroom-refusal Preview.preview arrive-words into-frame booking bookings row-sum column-sum sum first-from some-of word port-word
+unfolding first-wrong-headroom final headroom-result pair-headroom headroom-over apply Direct.start Direct.tick Pipelined.start Pipelined.tick book-words rate-words release-words release-rate-words headroom-refusal Preview.preview arrive-words into-frame sharing-fit booking bookings row-sum column-sum sum first-from some-of word port-word
 headroom-49 = refl
 
 pub preview-49 : first-wrong-preview list-49 ≡ 0
-unfolding first-wrong-preview final apply Direct.start Direct.tick Pipelined.start Pipelined.tick book-words rate-words release-words release-rate-words headroom-refusal Preview.preview arrive-words into-frame booking bookings row-sum column-sum sum first-from some-of word port-word
+unfolding first-wrong-preview final apply Direct.start Direct.tick Pipelined.start Pipelined.tick book-words rate-words release-words release-rate-words headroom-refusal Preview.preview arrive-words into-frame sharing-fit booking bookings row-sum column-sum sum first-from some-of word port-word
 preview-49 = refl
 
 abbrev list-50 : Case
@@ -6824,7 +6827,7 @@ list-50 =
     record {
       switch =
           record {
-            clock = clock-of 3 2 77 0;
+            clock = clock-of 3 2 77 0 0;
             book = book-of (1 ∷ 1 ∷ 4 ∷ 1 ∷ 2 ∷ 3 ∷ 4 ∷ 103 ∷ 103 ∷ []) (101 ∷ 2 ∷ 3 ∷ 2 ∷ 2 ∷ 2 ∷ 102 ∷ 1 ∷ 1 ∷ []);
             credits = 1 ∷ 3 ∷ 3 ∷ 2 ∷ 104 ∷ 2 ∷ 1 ∷ 2 ∷ 7 ∷ [];
             queues = 2 ∷ 1 ∷ 4 ∷ 102 ∷ 1 ∷ 2 ∷ 2 ∷ 7 ∷ 102 ∷ [];
@@ -6833,7 +6836,7 @@ list-50 =
             flight = 1 ∷ 101 ∷ 103 ∷ 4 ∷ 4 ∷ 103 ∷ 101 ∷ 7 ∷ 7 ∷ 3 ∷ 1 ∷ 4 ∷ 1 ∷ 101 ∷ 2 ∷ 103 ∷ 7 ∷ 2 ∷ [];
           };
       calls =
-          start direct 3 2 1000
+          start direct 3 2 1000 fine
           ∷ book-rate 1 3 500
           ∷ book-rate 1 3 501
           ∷ book 2 3 1
@@ -6851,110 +6854,137 @@ list-50 =
           ∷ arrive 3 3 4
           ∷ arrive 1 2 2
           ∷ tick direct
-          ∷ preview slots-release 2 1 1
-          ∷ release-rate 1 2 1
-          ∷ headroom 3 3
+          ∷ preview slots-release 1 1 1
+          ∷ book 1 2 1
+          ∷ tick direct
+          ∷ arrive 1 3 3
           ∷ arrive 3 1 3
           ∷ tick direct
+          ∷ start direct 3 6 99999999 plain
+          ∷ book-rate 2 1 16666667
+          ∷ book-rate 2 1 5555555
+          ∷ book-rate 2 1 5555555
+          ∷ book-rate 2 1 16666667
+          ∷ book 1 2 1
+          ∷ book-rate 1 2 5555555
+          ∷ book-rate 1 2 5555556
+          ∷ book-rate 3 2 5555556
+          ∷ book-rate 2 2 5555556
+          ∷ book-rate 2 2 11111111
+          ∷ book-rate 2 2 5555556
+          ∷ arrive 2 2 47
+          ∷ arrive 3 2 76
+          ∷ arrive 2 1 66
+          ∷ arrive 2 3 85
+          ∷ arrive 1 1 77
           ∷ tick direct
-          ∷ start direct 1 6 99999999
-          ∷ book 1 1 1
-          ∷ arrive 1 1 8
-          ∷ arrive 1 1 9
           ∷ tick direct
-          ∷ book-rate 1 1 5555555
-          ∷ tick direct
-          ∷ tick direct
-          ∷ arrive 1 1 11
-          ∷ book 1 1 1
-          ∷ tick direct
-          ∷ tick direct
-          ∷ tick direct
-          ∷ release-rate 1 1 5555556
-          ∷ book-rate 1 1 5555555
-          ∷ book-rate 1 1 5555555
-          ∷ tick direct
-          ∷ arrive 1 1 11
-          ∷ tick direct
-          ∷ arrive 1 1 9
           ∷ book 1 1 3
-          ∷ arrive 1 1 12
+          ∷ arrive 2 1 78
           ∷ tick direct
           ∷ tick direct
-          ∷ release-rate 1 1 5555555
+          ∷ release-rate 2 1 5555555
           ∷ tick direct
-          ∷ arrive 2 1 1
+          ∷ arrive 4 1 1
           ∷ tick direct
-          ∷ arrive 1 1 6
-          ∷ book-rate 1 1 5555556
-          ∷ headroom 1 1
-          ∷ tick direct
-          ∷ arrive 1 1 8
-          ∷ book-rate 1 1 11111111
+          ∷ arrive 2 1 47
+          ∷ book-rate 3 3 5555556
           ∷ headroom 1 2
           ∷ tick direct
-          ∷ tick direct
-          ∷ release-rate 1 1 5555555
-          ∷ preview rate-release 1 1 11111111
-          ∷ tick direct
-          ∷ book 1 1 7
-          ∷ book-rate 1 1 5555555
+          ∷ arrive 1 2 51
+          ∷ book-rate 3 1 11111111
+          ∷ headroom 3 4
           ∷ tick direct
           ∷ tick direct
-          ∷ book-rate 1 1 11111111
-          ∷ arrive 1 1 9
-          ∷ arrive 1 1 6
-          ∷ book 1 1 1
-          ∷ release-rate 1 1 16666667
-          ∷ book-rate 1 1 16666666
-          ∷ arrive 1 1 10
-          ∷ arrive 1 1 7
-          ∷ arrive 1 1 9
+          ∷ release-rate 3 3 5555555
+          ∷ preview rate-release 2 1 38888889
+          ∷ tick direct
+          ∷ book 2 3 7
+          ∷ book-rate 2 2 5555555
+          ∷ tick direct
+          ∷ tick direct
+          ∷ book-rate 3 2 11111111
+          ∷ arrive 3 1 87
+          ∷ arrive 1 3 64
+          ∷ book 2 2 1
+          ∷ release-rate 3 2 5555557
+          ∷ book-rate 2 1 16666666
+          ∷ arrive 1 2 87
+          ∷ arrive 2 1 56
+          ∷ arrive 2 2 57
           ∷ tick direct
           ∷ tick direct
           ∷ tick direct
-          ∷ headroom 1 1
-          ∷ arrive 1 1 11
-          ∷ tick direct
-          ∷ headroom 1 1
-          ∷ tick direct
+          ∷ headroom 1 3
+          ∷ arrive 2 3 86
           ∷ tick direct
           ∷ [];
       expected =
-          claim 1 1 1 1 0 6 1
-          ∷ claim 1 1 7 3 0 6 3
-          ∷ claim 1 1 13 3 0 6 3
-          ∷ claim 1 1 19 3 0 6 3
+          claim 1 1 1 0 5 6 0
+          ∷ claim 1 1 7 0 5 6 0
+          ∷ claim 1 1 13 0 5 4 0
+          ∷ claim 1 2 1 2 1 0 0
+          ∷ claim 1 2 7 2 1 5 2
+          ∷ claim 1 2 13 2 1 4 2
+          ∷ claim 1 3 1 0 2 0 0
+          ∷ claim 1 3 7 0 3 0 0
+          ∷ claim 1 3 13 0 3 4 0
+          ∷ claim 2 1 1 3 0 6 3
+          ∷ claim 2 1 7 3 0 6 3
+          ∷ claim 2 1 13 3 0 4 3
+          ∷ claim 2 2 1 0 6 6 0
+          ∷ claim 2 2 7 0 6 6 0
+          ∷ claim 2 2 13 0 6 4 0
+          ∷ claim 2 3 1 0 3 6 0
+          ∷ claim 2 3 7 0 4 6 0
+          ∷ claim 2 3 13 0 4 4 0
+          ∷ claim 3 1 1 0 4 0 0
+          ∷ claim 3 1 7 0 5 0 0
+          ∷ claim 3 1 13 0 5 4 0
+          ∷ claim 3 2 1 1 2 6 1
+          ∷ claim 3 2 7 1 3 6 1
+          ∷ claim 3 2 13 1 3 4 1
+          ∷ claim 3 3 1 0 1 0 0
+          ∷ claim 3 3 7 1 1 0 0
+          ∷ claim 3 3 13 1 1 0 0
           ∷ [];
       headrooms =
-          told 1 1 0 (pos 3)
-          ∷ told 2 1 5 (pos 0)
+          told 1 1 0 (pos 1)
+          ∷ told 1 2 0 (pos 3)
+          ∷ told 1 3 0 (pos 3)
+          ∷ told 2 1 0 (pos 3)
+          ∷ told 2 2 0 (pos 0)
+          ∷ told 2 3 0 (pos 2)
+          ∷ told 3 1 0 (pos 1)
+          ∷ told 3 2 0 (pos 2)
+          ∷ told 3 3 0 (pos 4)
+          ∷ told 4 1 5 (pos 0)
           ∷ told 1 0 5 (pos 0)
           ∷ [];
       previews =
-          showing slots-booking 1 1 1 8 4 4
-          ∷ showing slots-booking 1 1 2 8 5 5
-          ∷ showing rate-booking 1 1 16666666 8 4 4
-          ∷ showing rate-booking 1 1 8681885 8 4 4
-          ∷ showing slots-release 1 1 1 0 2 2
-          ∷ showing slots-release 1 1 2 0 1 1
-          ∷ showing rate-release 1 1 16666666 0 2 2
-          ∷ showing rate-release 1 1 13503681 0 3 3
-          ∷ showing slots-release 1 2 1 5 0 0
-          ∷ showing slots-booking 1 1 7 6 0 0
+          showing slots-booking 3 3 1 0 3 2
+          ∷ showing slots-booking 2 3 2 8 5 3
+          ∷ showing rate-booking 3 2 5555555 0 2 3
+          ∷ showing rate-booking 3 1 34096752 8 5 6
+          ∷ showing slots-release 1 2 1 0 1 2
+          ∷ showing slots-release 2 2 1 10 0 0
+          ∷ showing rate-release 2 2 1 10 0 0
+          ∷ showing rate-release 2 1 10405920 0 2 2
+          ∷ showing slots-booking 4 3 1 5 0 0
+          ∷ showing slots-booking 1 3 7 6 0 0
           ∷ [];
     }
 
 pub agrees-50 : first-wrong list-50 ≡ 0
-unfolding first-wrong entries apply Direct.start Direct.tick Pipelined.start Pipelined.tick book-words rate-words release-words release-rate-words headroom-refusal Preview.preview arrive-words into-frame booking bookings row-sum column-sum sum first-from some-of word port-word
+unfolding first-wrong entries apply Direct.start Direct.tick Pipelined.start Pipelined.tick book-words rate-words release-words release-rate-words headroom-refusal Preview.preview arrive-words into-frame sharing-fit booking bookings row-sum column-sum sum first-from some-of word port-word
 agrees-50 = refl
 
 pub headroom-50 : first-wrong-headroom list-50 ≡ 0
-unfolding first-wrong-headroom final headroom-result pair-headroom headroom-over apply Direct.start Direct.tick Pipelined.start Pipelined.tick book-words rate-words release-words release-rate-words headroom-refusal Preview.preview arrive-words into-frame booking bookings row-sum column-sum sum first-from some-of word port-word
+unfolding first-wrong-headroom final headroom-result pair-headroom headroom-over apply Direct.start Direct.tick Pipelined.start Pipelined.tick book-words rate-words release-words release-rate-words headroom-refusal Preview.preview arrive-words into-frame sharing-fit booking bookings row-sum column-sum sum first-from some-of word port-word
 headroom-50 = refl
 
 pub preview-50 : first-wrong-preview list-50 ≡ 0
-unfolding first-wrong-preview final apply Direct.start Direct.tick Pipelined.start Pipelined.tick book-words rate-words release-words release-rate-words headroom-refusal Preview.preview arrive-words into-frame booking bookings row-sum column-sum sum first-from some-of word port-word
+unfolding first-wrong-preview final apply Direct.start Direct.tick Pipelined.start Pipelined.tick book-words rate-words release-words release-rate-words headroom-refusal Preview.preview arrive-words into-frame sharing-fit booking bookings row-sum column-sum sum first-from some-of word port-word
 preview-50 = refl
 
 abbrev list-51 : Case
@@ -6962,7 +6992,7 @@ list-51 =
     record {
       switch =
           record {
-            clock = clock-of 9 1 4000000000 0;
+            clock = clock-of 9 1 4000000000 0 7;
             book = book-of (2 ∷ 2 ∷ 4 ∷ 2 ∷ 1 ∷ 3 ∷ 2 ∷ 2 ∷ 2 ∷ []) (103 ∷ 1 ∷ 104 ∷ 102 ∷ 1 ∷ 1 ∷ 1 ∷ 1 ∷ 101 ∷ []);
             credits = 7 ∷ 102 ∷ 4 ∷ 2 ∷ 4 ∷ 7 ∷ 1 ∷ 2 ∷ 7 ∷ [];
             queues = 2 ∷ 4 ∷ 103 ∷ 2 ∷ 1 ∷ 102 ∷ 102 ∷ 1 ∷ 101 ∷ [];
@@ -6971,7 +7001,7 @@ list-51 =
             flight = 3 ∷ 7 ∷ 103 ∷ 1 ∷ 4 ∷ 101 ∷ 4 ∷ 2 ∷ 2 ∷ 7 ∷ 1 ∷ 2 ∷ 2 ∷ 2 ∷ 3 ∷ 2 ∷ 102 ∷ 7 ∷ [];
           };
       calls =
-          start pipelined 2 7 100000000
+          start pipelined 2 7 100000000 fine
           ∷ book-rate 2 2 4761904
           ∷ book-rate 2 2 4761904
           ∷ book-rate 2 1 9523809
@@ -7022,10 +7052,10 @@ list-51 =
           ∷ told 1 0 5 (pos 0)
           ∷ [];
       previews =
-          showing slots-booking 2 2 1 8 5 3
-          ∷ showing slots-booking 2 2 2 8 6 4
+          showing slots-booking 2 2 1 0 5 3
+          ∷ showing slots-booking 2 2 2 0 6 4
           ∷ showing rate-booking 2 2 4761904 0 4 2
-          ∷ showing rate-booking 2 2 20731331 8 5 3
+          ∷ showing rate-booking 2 2 20731331 0 5 3
           ∷ showing slots-release 2 1 2 10 0 0
           ∷ showing slots-release 2 1 3 10 0 0
           ∷ showing rate-release 1 1 1 10 0 0
@@ -7036,15 +7066,15 @@ list-51 =
     }
 
 pub agrees-51 : first-wrong list-51 ≡ 0
-unfolding first-wrong entries apply Direct.start Direct.tick Pipelined.start Pipelined.tick book-words rate-words release-words release-rate-words headroom-refusal Preview.preview arrive-words into-frame booking bookings row-sum column-sum sum first-from some-of word port-word
+unfolding first-wrong entries apply Direct.start Direct.tick Pipelined.start Pipelined.tick book-words rate-words release-words release-rate-words headroom-refusal Preview.preview arrive-words into-frame sharing-fit booking bookings row-sum column-sum sum first-from some-of word port-word
 agrees-51 = refl
 
 pub headroom-51 : first-wrong-headroom list-51 ≡ 0
-unfolding first-wrong-headroom final headroom-result pair-headroom headroom-over apply Direct.start Direct.tick Pipelined.start Pipelined.tick book-words rate-words release-words release-rate-words headroom-refusal Preview.preview arrive-words into-frame booking bookings row-sum column-sum sum first-from some-of word port-word
+unfolding first-wrong-headroom final headroom-result pair-headroom headroom-over apply Direct.start Direct.tick Pipelined.start Pipelined.tick book-words rate-words release-words release-rate-words headroom-refusal Preview.preview arrive-words into-frame sharing-fit booking bookings row-sum column-sum sum first-from some-of word port-word
 headroom-51 = refl
 
 pub preview-51 : first-wrong-preview list-51 ≡ 0
-unfolding first-wrong-preview final apply Direct.start Direct.tick Pipelined.start Pipelined.tick book-words rate-words release-words release-rate-words headroom-refusal Preview.preview arrive-words into-frame booking bookings row-sum column-sum sum first-from some-of word port-word
+unfolding first-wrong-preview final apply Direct.start Direct.tick Pipelined.start Pipelined.tick book-words rate-words release-words release-rate-words headroom-refusal Preview.preview arrive-words into-frame sharing-fit booking bookings row-sum column-sum sum first-from some-of word port-word
 preview-51 = refl
 
 abbrev list-52 : Case
@@ -7052,7 +7082,7 @@ list-52 =
     record {
       switch =
           record {
-            clock = clock-of 2 5 4000000000 100000001;
+            clock = clock-of 2 5 4000000000 100000001 7;
             book = book-of (2 ∷ 104 ∷ 102 ∷ 1 ∷ 2 ∷ 2 ∷ 1 ∷ 102 ∷ 101 ∷ []) (2 ∷ 1 ∷ 3 ∷ 104 ∷ 104 ∷ 101 ∷ 1 ∷ 103 ∷ 3 ∷ []);
             credits = 4 ∷ 104 ∷ 4 ∷ 1 ∷ 2 ∷ 104 ∷ 2 ∷ 103 ∷ 1 ∷ [];
             queues = 101 ∷ 4 ∷ 4 ∷ 1 ∷ 2 ∷ 4 ∷ 2 ∷ 7 ∷ 2 ∷ [];
@@ -7061,7 +7091,7 @@ list-52 =
             flight = 7 ∷ 102 ∷ 2 ∷ 3 ∷ 1 ∷ 102 ∷ 1 ∷ 4 ∷ 3 ∷ 2 ∷ 104 ∷ 104 ∷ 4 ∷ 7 ∷ 2 ∷ 2 ∷ 7 ∷ 104 ∷ [];
           };
       calls =
-          start direct 1 3 1000
+          start direct 1 3 1000 fine
           ∷ book 1 1 1
           ∷ arrive 1 1 1
           ∷ arrive 1 1 2
@@ -7092,10 +7122,10 @@ list-52 =
           ∷ preview rate-release 1 1 222
           ∷ tick direct
           ∷ book-rate 1 1 112
-          ∷ release-rate 1 1 223
+          ∷ release-rate 1 1 335
           ∷ tick direct
           ∷ book-rate 1 1 1001
-          ∷ start direct 0 3 1000
+          ∷ start direct 0 3 1000 plain
           ∷ preview slots-release 1 1 2
           ∷ tick direct
           ∷ arrive 1 1 1
@@ -7107,19 +7137,19 @@ list-52 =
           ∷ claim 1 1 7 1 0 0 0
           ∷ claim 1 1 10 2 0 0 0
           ∷ claim 1 1 13 2 0 0 0
-          ∷ claim 1 1 16 2 0 1 1
+          ∷ claim 1 1 16 3 0 1 1
           ∷ [];
       headrooms =
-          told 1 1 0 (pos 1)
+          told 1 1 0 (pos 0)
           ∷ told 2 1 5 (pos 0)
           ∷ told 1 0 5 (pos 0)
           ∷ [];
       previews =
-          showing slots-booking 1 1 1 8 3 3
-          ∷ showing slots-booking 1 1 2 8 4 4
-          ∷ showing rate-booking 1 1 334 8 3 3
-          ∷ showing rate-booking 1 1 473 8 4 4
-          ∷ showing slots-release 1 1 1 0 1 1
+          showing slots-booking 1 1 1 15 4 4
+          ∷ showing slots-booking 1 1 2 15 5 5
+          ∷ showing rate-booking 1 1 334 15 4 4
+          ∷ showing rate-booking 1 1 473 15 4 4
+          ∷ showing slots-release 1 1 1 0 2 2
           ∷ showing slots-release 1 1 2 10 0 0
           ∷ showing rate-release 1 1 111 0 2 2
           ∷ showing rate-release 1 1 178 0 2 2
@@ -7129,15 +7159,15 @@ list-52 =
     }
 
 pub agrees-52 : first-wrong list-52 ≡ 0
-unfolding first-wrong entries apply Direct.start Direct.tick Pipelined.start Pipelined.tick book-words rate-words release-words release-rate-words headroom-refusal Preview.preview arrive-words into-frame booking bookings row-sum column-sum sum first-from some-of word port-word
+unfolding first-wrong entries apply Direct.start Direct.tick Pipelined.start Pipelined.tick book-words rate-words release-words release-rate-words headroom-refusal Preview.preview arrive-words into-frame sharing-fit booking bookings row-sum column-sum sum first-from some-of word port-word
 agrees-52 = refl
 
 pub headroom-52 : first-wrong-headroom list-52 ≡ 0
-unfolding first-wrong-headroom final headroom-result pair-headroom headroom-over apply Direct.start Direct.tick Pipelined.start Pipelined.tick book-words rate-words release-words release-rate-words headroom-refusal Preview.preview arrive-words into-frame booking bookings row-sum column-sum sum first-from some-of word port-word
+unfolding first-wrong-headroom final headroom-result pair-headroom headroom-over apply Direct.start Direct.tick Pipelined.start Pipelined.tick book-words rate-words release-words release-rate-words headroom-refusal Preview.preview arrive-words into-frame sharing-fit booking bookings row-sum column-sum sum first-from some-of word port-word
 headroom-52 = refl
 
 pub preview-52 : first-wrong-preview list-52 ≡ 0
-unfolding first-wrong-preview final apply Direct.start Direct.tick Pipelined.start Pipelined.tick book-words rate-words release-words release-rate-words headroom-refusal Preview.preview arrive-words into-frame booking bookings row-sum column-sum sum first-from some-of word port-word
+unfolding first-wrong-preview final apply Direct.start Direct.tick Pipelined.start Pipelined.tick book-words rate-words release-words release-rate-words headroom-refusal Preview.preview arrive-words into-frame sharing-fit booking bookings row-sum column-sum sum first-from some-of word port-word
 preview-52 = refl
 
 abbrev list-53 : Case
@@ -7145,7 +7175,7 @@ list-53 =
     record {
       switch =
           record {
-            clock = clock-of 9 2 0 1000;
+            clock = clock-of 9 2 0 1000 7;
             book = book-of (3 ∷ 102 ∷ 2 ∷ 1 ∷ 2 ∷ 1 ∷ 7 ∷ 7 ∷ 101 ∷ []) (2 ∷ 7 ∷ 3 ∷ 2 ∷ 2 ∷ 101 ∷ 101 ∷ 2 ∷ 4 ∷ []);
             credits = 1 ∷ 104 ∷ 4 ∷ 7 ∷ 103 ∷ 1 ∷ 101 ∷ 2 ∷ 2 ∷ [];
             queues = 104 ∷ 1 ∷ 1 ∷ 102 ∷ 102 ∷ 101 ∷ 1 ∷ 4 ∷ 1 ∷ [];
@@ -7154,7 +7184,7 @@ list-53 =
             flight = 103 ∷ 4 ∷ 102 ∷ 2 ∷ 7 ∷ 1 ∷ 1 ∷ 7 ∷ 3 ∷ 3 ∷ 1 ∷ 7 ∷ 102 ∷ 104 ∷ 2 ∷ 7 ∷ 7 ∷ 2 ∷ [];
           };
       calls =
-          start pipelined 2 3 99999999
+          start pipelined 2 3 99999999 plain
           ∷ book 2 2 1
           ∷ book 2 2 1
           ∷ book-rate 2 2 22222222
@@ -7238,15 +7268,15 @@ list-53 =
     }
 
 pub agrees-53 : first-wrong list-53 ≡ 0
-unfolding first-wrong entries apply Direct.start Direct.tick Pipelined.start Pipelined.tick book-words rate-words release-words release-rate-words headroom-refusal Preview.preview arrive-words into-frame booking bookings row-sum column-sum sum first-from some-of word port-word
+unfolding first-wrong entries apply Direct.start Direct.tick Pipelined.start Pipelined.tick book-words rate-words release-words release-rate-words headroom-refusal Preview.preview arrive-words into-frame sharing-fit booking bookings row-sum column-sum sum first-from some-of word port-word
 agrees-53 = refl
 
 pub headroom-53 : first-wrong-headroom list-53 ≡ 0
-unfolding first-wrong-headroom final headroom-result pair-headroom headroom-over apply Direct.start Direct.tick Pipelined.start Pipelined.tick book-words rate-words release-words release-rate-words headroom-refusal Preview.preview arrive-words into-frame booking bookings row-sum column-sum sum first-from some-of word port-word
+unfolding first-wrong-headroom final headroom-result pair-headroom headroom-over apply Direct.start Direct.tick Pipelined.start Pipelined.tick book-words rate-words release-words release-rate-words headroom-refusal Preview.preview arrive-words into-frame sharing-fit booking bookings row-sum column-sum sum first-from some-of word port-word
 headroom-53 = refl
 
 pub preview-53 : first-wrong-preview list-53 ≡ 0
-unfolding first-wrong-preview final apply Direct.start Direct.tick Pipelined.start Pipelined.tick book-words rate-words release-words release-rate-words headroom-refusal Preview.preview arrive-words into-frame booking bookings row-sum column-sum sum first-from some-of word port-word
+unfolding first-wrong-preview final apply Direct.start Direct.tick Pipelined.start Pipelined.tick book-words rate-words release-words release-rate-words headroom-refusal Preview.preview arrive-words into-frame sharing-fit booking bookings row-sum column-sum sum first-from some-of word port-word
 preview-53 = refl
 
 abbrev list-54 : Case
@@ -7254,7 +7284,7 @@ list-54 =
     record {
       switch =
           record {
-            clock = clock-of 3 1 4000000000 1000;
+            clock = clock-of 3 1 4000000000 1000 7;
             book = book-of (104 ∷ 1 ∷ 104 ∷ 104 ∷ 102 ∷ 7 ∷ 4 ∷ 102 ∷ 7 ∷ []) (1 ∷ 2 ∷ 4 ∷ 1 ∷ 1 ∷ 7 ∷ 103 ∷ 2 ∷ 2 ∷ []);
             credits = 104 ∷ 1 ∷ 2 ∷ 102 ∷ 1 ∷ 2 ∷ 7 ∷ 1 ∷ 7 ∷ [];
             queues = 103 ∷ 104 ∷ 102 ∷ 2 ∷ 102 ∷ 2 ∷ 104 ∷ 103 ∷ 3 ∷ [];
@@ -7263,7 +7293,7 @@ list-54 =
             flight = 101 ∷ 1 ∷ 1 ∷ 3 ∷ 4 ∷ 104 ∷ 1 ∷ 3 ∷ 4 ∷ 101 ∷ 1 ∷ 7 ∷ 2 ∷ 1 ∷ 2 ∷ 2 ∷ 101 ∷ 2 ∷ [];
           };
       calls =
-          start direct 3 4 99999999
+          start direct 3 4 99999999 plain
           ∷ book 1 1 1
           ∷ book-rate 3 1 24999999
           ∷ book-rate 3 1 16666667
@@ -7281,7 +7311,7 @@ list-54 =
           ∷ preview slots-release 1 1 1
           ∷ tick direct
           ∷ tick direct
-          ∷ start direct 3 0 99999999
+          ∷ start direct 3 0 99999999 fine
           ∷ release-rate 2 3 8333333
           ∷ tick direct
           ∷ tick direct
@@ -7402,15 +7432,15 @@ list-54 =
     }
 
 pub agrees-54 : first-wrong list-54 ≡ 0
-unfolding first-wrong entries apply Direct.start Direct.tick Pipelined.start Pipelined.tick book-words rate-words release-words release-rate-words headroom-refusal Preview.preview arrive-words into-frame booking bookings row-sum column-sum sum first-from some-of word port-word
+unfolding first-wrong entries apply Direct.start Direct.tick Pipelined.start Pipelined.tick book-words rate-words release-words release-rate-words headroom-refusal Preview.preview arrive-words into-frame sharing-fit booking bookings row-sum column-sum sum first-from some-of word port-word
 agrees-54 = refl
 
 pub headroom-54 : first-wrong-headroom list-54 ≡ 0
-unfolding first-wrong-headroom final headroom-result pair-headroom headroom-over apply Direct.start Direct.tick Pipelined.start Pipelined.tick book-words rate-words release-words release-rate-words headroom-refusal Preview.preview arrive-words into-frame booking bookings row-sum column-sum sum first-from some-of word port-word
+unfolding first-wrong-headroom final headroom-result pair-headroom headroom-over apply Direct.start Direct.tick Pipelined.start Pipelined.tick book-words rate-words release-words release-rate-words headroom-refusal Preview.preview arrive-words into-frame sharing-fit booking bookings row-sum column-sum sum first-from some-of word port-word
 headroom-54 = refl
 
 pub preview-54 : first-wrong-preview list-54 ≡ 0
-unfolding first-wrong-preview final apply Direct.start Direct.tick Pipelined.start Pipelined.tick book-words rate-words release-words release-rate-words headroom-refusal Preview.preview arrive-words into-frame booking bookings row-sum column-sum sum first-from some-of word port-word
+unfolding first-wrong-preview final apply Direct.start Direct.tick Pipelined.start Pipelined.tick book-words rate-words release-words release-rate-words headroom-refusal Preview.preview arrive-words into-frame sharing-fit booking bookings row-sum column-sum sum first-from some-of word port-word
 preview-54 = refl
 
 abbrev list-55 : Case
@@ -7418,7 +7448,7 @@ list-55 =
     record {
       switch =
           record {
-            clock = clock-of 0 1 5 0;
+            clock = clock-of 0 1 5 0 7;
             book = book-of (3 ∷ 1 ∷ 104 ∷ 1 ∷ 2 ∷ 2 ∷ 2 ∷ 7 ∷ 1 ∷ []) (103 ∷ 2 ∷ 7 ∷ 4 ∷ 2 ∷ 101 ∷ 104 ∷ 2 ∷ 1 ∷ []);
             credits = 1 ∷ 4 ∷ 2 ∷ 7 ∷ 7 ∷ 102 ∷ 1 ∷ 7 ∷ 102 ∷ [];
             queues = 102 ∷ 1 ∷ 2 ∷ 3 ∷ 7 ∷ 4 ∷ 3 ∷ 4 ∷ 7 ∷ [];
@@ -7427,7 +7457,7 @@ list-55 =
             flight = 1 ∷ 2 ∷ 101 ∷ 1 ∷ 7 ∷ 7 ∷ 7 ∷ 1 ∷ 7 ∷ 2 ∷ 104 ∷ 1 ∷ 4 ∷ 102 ∷ 101 ∷ 101 ∷ 102 ∷ 103 ∷ [];
           };
       calls =
-          start pipelined 3 7 100000000
+          start pipelined 3 7 100000000 plain
           ∷ book-rate 1 1 4761905
           ∷ book-rate 1 1 4761904
           ∷ book-rate 1 1 9523809
@@ -7551,15 +7581,15 @@ list-55 =
     }
 
 pub agrees-55 : first-wrong list-55 ≡ 0
-unfolding first-wrong entries apply Direct.start Direct.tick Pipelined.start Pipelined.tick book-words rate-words release-words release-rate-words headroom-refusal Preview.preview arrive-words into-frame booking bookings row-sum column-sum sum first-from some-of word port-word
+unfolding first-wrong entries apply Direct.start Direct.tick Pipelined.start Pipelined.tick book-words rate-words release-words release-rate-words headroom-refusal Preview.preview arrive-words into-frame sharing-fit booking bookings row-sum column-sum sum first-from some-of word port-word
 agrees-55 = refl
 
 pub headroom-55 : first-wrong-headroom list-55 ≡ 0
-unfolding first-wrong-headroom final headroom-result pair-headroom headroom-over apply Direct.start Direct.tick Pipelined.start Pipelined.tick book-words rate-words release-words release-rate-words headroom-refusal Preview.preview arrive-words into-frame booking bookings row-sum column-sum sum first-from some-of word port-word
+unfolding first-wrong-headroom final headroom-result pair-headroom headroom-over apply Direct.start Direct.tick Pipelined.start Pipelined.tick book-words rate-words release-words release-rate-words headroom-refusal Preview.preview arrive-words into-frame sharing-fit booking bookings row-sum column-sum sum first-from some-of word port-word
 headroom-55 = refl
 
 pub preview-55 : first-wrong-preview list-55 ≡ 0
-unfolding first-wrong-preview final apply Direct.start Direct.tick Pipelined.start Pipelined.tick book-words rate-words release-words release-rate-words headroom-refusal Preview.preview arrive-words into-frame booking bookings row-sum column-sum sum first-from some-of word port-word
+unfolding first-wrong-preview final apply Direct.start Direct.tick Pipelined.start Pipelined.tick book-words rate-words release-words release-rate-words headroom-refusal Preview.preview arrive-words into-frame sharing-fit booking bookings row-sum column-sum sum first-from some-of word port-word
 preview-55 = refl
 
 abbrev list-56 : Case
@@ -7567,7 +7597,7 @@ list-56 =
     record {
       switch =
           record {
-            clock = clock-of 33 2 0 1000;
+            clock = clock-of 33 2 0 1000 0;
             book = book-of (1 ∷ 7 ∷ 1 ∷ 3 ∷ 2 ∷ 1 ∷ 104 ∷ 4 ∷ 2 ∷ []) (1 ∷ 1 ∷ 2 ∷ 1 ∷ 103 ∷ 4 ∷ 103 ∷ 103 ∷ 7 ∷ []);
             credits = 103 ∷ 102 ∷ 7 ∷ 2 ∷ 2 ∷ 1 ∷ 102 ∷ 1 ∷ 1 ∷ [];
             queues = 2 ∷ 4 ∷ 104 ∷ 101 ∷ 2 ∷ 1 ∷ 4 ∷ 4 ∷ 7 ∷ [];
@@ -7576,7 +7606,7 @@ list-56 =
             flight = 2 ∷ 2 ∷ 3 ∷ 2 ∷ 4 ∷ 2 ∷ 103 ∷ 104 ∷ 2 ∷ 7 ∷ 7 ∷ 4 ∷ 3 ∷ 2 ∷ 103 ∷ 3 ∷ 2 ∷ 1 ∷ [];
           };
       calls =
-          start direct 2 4 7
+          start direct 2 4 7 fine
           ∷ book-rate 2 1 1
           ∷ book-rate 2 1 1
           ∷ book-rate 2 1 2
@@ -7602,8 +7632,8 @@ list-56 =
           ∷ release 1 1 1
           ∷ tick direct
           ∷ tick direct
-          ∷ release-rate 2 1 4
-          ∷ release-rate 2 1 1
+          ∷ release-rate 2 2 2
+          ∷ release-rate 2 2 1
           ∷ tick direct
           ∷ headroom 2 2
           ∷ tick direct
@@ -7617,36 +7647,36 @@ list-56 =
           ∷ tick direct
           ∷ [];
       expected =
-          claim 1 1 1 0 2 4 0
-          ∷ claim 1 1 5 0 2 4 0
-          ∷ claim 1 1 9 0 2 4 0
-          ∷ claim 1 1 13 0 3 2 0
-          ∷ claim 1 2 1 0 0 4 0
-          ∷ claim 1 2 5 0 0 4 0
+          claim 1 1 1 0 3 4 0
+          ∷ claim 1 1 5 0 3 4 0
+          ∷ claim 1 1 9 0 3 4 0
+          ∷ claim 1 1 13 0 4 2 0
+          ∷ claim 1 2 1 0 1 4 0
+          ∷ claim 1 2 5 0 1 4 0
           ∷ claim 1 2 9 0 0 4 0
           ∷ claim 1 2 13 1 0 2 1
-          ∷ claim 2 1 1 2 0 4 2
-          ∷ claim 2 1 5 2 0 4 2
-          ∷ claim 2 1 9 2 0 4 2
-          ∷ claim 2 1 13 2 0 2 2
-          ∷ claim 2 2 1 0 2 4 0
-          ∷ claim 2 2 5 0 2 4 0
-          ∷ claim 2 2 9 0 2 4 0
-          ∷ claim 2 2 13 0 3 2 0
+          ∷ claim 2 1 1 3 1 4 3
+          ∷ claim 2 1 5 3 1 4 3
+          ∷ claim 2 1 9 3 0 4 3
+          ∷ claim 2 1 13 3 0 2 2
+          ∷ claim 2 2 1 1 3 4 1
+          ∷ claim 2 2 5 1 3 4 1
+          ∷ claim 2 2 9 0 3 4 0
+          ∷ claim 2 2 13 0 4 2 0
           ∷ [];
       headrooms =
-          told 1 1 0 (pos 1)
+          told 1 1 0 (pos 0)
           ∷ told 1 2 0 (pos 3)
-          ∷ told 2 1 0 (pos 2)
-          ∷ told 2 2 0 (pos 1)
+          ∷ told 2 1 0 (pos 1)
+          ∷ told 2 2 0 (pos 0)
           ∷ told 3 1 5 (pos 0)
           ∷ told 1 4294967297 5 (pos 0)
           ∷ [];
       previews =
-          showing slots-booking 2 1 1 8 3 3
-          ∷ showing slots-booking 2 2 1 8 3 2
+          showing slots-booking 2 1 1 0 4 4
+          ∷ showing slots-booking 2 2 1 15 4 2
           ∷ showing rate-booking 1 2 1 0 2 2
-          ∷ showing rate-booking 2 2 2 8 4 3
+          ∷ showing rate-booking 2 2 2 15 5 3
           ∷ showing slots-release 1 1 2 10 0 0
           ∷ showing slots-release 1 2 2 10 0 0
           ∷ showing rate-release 1 2 1 0 0 0
@@ -7657,15 +7687,15 @@ list-56 =
     }
 
 pub agrees-56 : first-wrong list-56 ≡ 0
-unfolding first-wrong entries apply Direct.start Direct.tick Pipelined.start Pipelined.tick book-words rate-words release-words release-rate-words headroom-refusal Preview.preview arrive-words into-frame booking bookings row-sum column-sum sum first-from some-of word port-word
+unfolding first-wrong entries apply Direct.start Direct.tick Pipelined.start Pipelined.tick book-words rate-words release-words release-rate-words headroom-refusal Preview.preview arrive-words into-frame sharing-fit booking bookings row-sum column-sum sum first-from some-of word port-word
 agrees-56 = refl
 
 pub headroom-56 : first-wrong-headroom list-56 ≡ 0
-unfolding first-wrong-headroom final headroom-result pair-headroom headroom-over apply Direct.start Direct.tick Pipelined.start Pipelined.tick book-words rate-words release-words release-rate-words headroom-refusal Preview.preview arrive-words into-frame booking bookings row-sum column-sum sum first-from some-of word port-word
+unfolding first-wrong-headroom final headroom-result pair-headroom headroom-over apply Direct.start Direct.tick Pipelined.start Pipelined.tick book-words rate-words release-words release-rate-words headroom-refusal Preview.preview arrive-words into-frame sharing-fit booking bookings row-sum column-sum sum first-from some-of word port-word
 headroom-56 = refl
 
 pub preview-56 : first-wrong-preview list-56 ≡ 0
-unfolding first-wrong-preview final apply Direct.start Direct.tick Pipelined.start Pipelined.tick book-words rate-words release-words release-rate-words headroom-refusal Preview.preview arrive-words into-frame booking bookings row-sum column-sum sum first-from some-of word port-word
+unfolding first-wrong-preview final apply Direct.start Direct.tick Pipelined.start Pipelined.tick book-words rate-words release-words release-rate-words headroom-refusal Preview.preview arrive-words into-frame sharing-fit booking bookings row-sum column-sum sum first-from some-of word port-word
 preview-56 = refl
 
 abbrev list-57 : Case
@@ -7673,7 +7703,7 @@ list-57 =
     record {
       switch =
           record {
-            clock = clock-of 1 10001 4000000000 0;
+            clock = clock-of 1 10001 4000000000 0 7;
             book = book-of (101 ∷ 102 ∷ 3 ∷ 2 ∷ 1 ∷ 101 ∷ 3 ∷ 104 ∷ 104 ∷ []) (102 ∷ 7 ∷ 1 ∷ 2 ∷ 4 ∷ 101 ∷ 101 ∷ 1 ∷ 7 ∷ []);
             credits = 2 ∷ 7 ∷ 3 ∷ 7 ∷ 1 ∷ 1 ∷ 4 ∷ 4 ∷ 102 ∷ [];
             queues = 3 ∷ 2 ∷ 101 ∷ 104 ∷ 7 ∷ 4 ∷ 102 ∷ 7 ∷ 7 ∷ [];
@@ -7682,7 +7712,7 @@ list-57 =
             flight = 2 ∷ 2 ∷ 4 ∷ 2 ∷ 7 ∷ 103 ∷ 1 ∷ 4 ∷ 7 ∷ 1 ∷ 4 ∷ 3 ∷ 1 ∷ 102 ∷ 4 ∷ 2 ∷ 2 ∷ 1 ∷ [];
           };
       calls =
-          start pipelined 3 3 100000000
+          start pipelined 3 3 100000000 plain
           ∷ book 2 2 1
           ∷ book-rate 3 3 22222222
           ∷ book-rate 1 2 11111111
@@ -7807,15 +7837,15 @@ list-57 =
     }
 
 pub agrees-57 : first-wrong list-57 ≡ 0
-unfolding first-wrong entries apply Direct.start Direct.tick Pipelined.start Pipelined.tick book-words rate-words release-words release-rate-words headroom-refusal Preview.preview arrive-words into-frame booking bookings row-sum column-sum sum first-from some-of word port-word
+unfolding first-wrong entries apply Direct.start Direct.tick Pipelined.start Pipelined.tick book-words rate-words release-words release-rate-words headroom-refusal Preview.preview arrive-words into-frame sharing-fit booking bookings row-sum column-sum sum first-from some-of word port-word
 agrees-57 = refl
 
 pub headroom-57 : first-wrong-headroom list-57 ≡ 0
-unfolding first-wrong-headroom final headroom-result pair-headroom headroom-over apply Direct.start Direct.tick Pipelined.start Pipelined.tick book-words rate-words release-words release-rate-words headroom-refusal Preview.preview arrive-words into-frame booking bookings row-sum column-sum sum first-from some-of word port-word
+unfolding first-wrong-headroom final headroom-result pair-headroom headroom-over apply Direct.start Direct.tick Pipelined.start Pipelined.tick book-words rate-words release-words release-rate-words headroom-refusal Preview.preview arrive-words into-frame sharing-fit booking bookings row-sum column-sum sum first-from some-of word port-word
 headroom-57 = refl
 
 pub preview-57 : first-wrong-preview list-57 ≡ 0
-unfolding first-wrong-preview final apply Direct.start Direct.tick Pipelined.start Pipelined.tick book-words rate-words release-words release-rate-words headroom-refusal Preview.preview arrive-words into-frame booking bookings row-sum column-sum sum first-from some-of word port-word
+unfolding first-wrong-preview final apply Direct.start Direct.tick Pipelined.start Pipelined.tick book-words rate-words release-words release-rate-words headroom-refusal Preview.preview arrive-words into-frame sharing-fit booking bookings row-sum column-sum sum first-from some-of word port-word
 preview-57 = refl
 
 abbrev list-58 : Case
@@ -7823,7 +7853,7 @@ list-58 =
     record {
       switch =
           record {
-            clock = clock-of 2 0 5 1000;
+            clock = clock-of 2 0 5 1000 0;
             book = book-of (3 ∷ 7 ∷ 102 ∷ 2 ∷ 1 ∷ 1 ∷ 1 ∷ 101 ∷ 7 ∷ []) (3 ∷ 103 ∷ 101 ∷ 1 ∷ 3 ∷ 102 ∷ 7 ∷ 104 ∷ 102 ∷ []);
             credits = 2 ∷ 7 ∷ 102 ∷ 104 ∷ 102 ∷ 4 ∷ 2 ∷ 1 ∷ 4 ∷ [];
             queues = 104 ∷ 2 ∷ 2 ∷ 1 ∷ 4 ∷ 101 ∷ 3 ∷ 102 ∷ 103 ∷ [];
@@ -7832,7 +7862,7 @@ list-58 =
             flight = 1 ∷ 4 ∷ 4 ∷ 2 ∷ 101 ∷ 101 ∷ 2 ∷ 1 ∷ 4 ∷ 4 ∷ 2 ∷ 2 ∷ 1 ∷ 2 ∷ 104 ∷ 2 ∷ 101 ∷ 102 ∷ [];
           };
       calls =
-          start direct 2 3 1000
+          start direct 2 3 1000 fine
           ∷ book-rate 2 2 222
           ∷ book-rate 2 2 111
           ∷ book-rate 2 1 333
@@ -7843,12 +7873,12 @@ list-58 =
           ∷ arrive 1 2 3
           ∷ arrive 1 2 4
           ∷ arrive 2 2 0
-          ∷ release-rate 2 1 333
+          ∷ release-rate 2 1 444
           ∷ headroom 1 2
           ∷ tick direct
           ∷ tick direct
           ∷ arrive 1 1 2
-          ∷ start direct 2 3 100000001
+          ∷ start direct 2 3 100000001 plain
           ∷ release-rate 2 2 333
           ∷ arrive 1 2 5
           ∷ tick direct
@@ -7872,7 +7902,7 @@ list-58 =
           ∷ headroom 2 2
           ∷ tick direct
           ∷ tick direct
-          ∷ start direct 0 3 1000
+          ∷ start direct 0 3 1000 plain
           ∷ tick direct
           ∷ tick direct
           ∷ tick direct
@@ -7884,7 +7914,7 @@ list-58 =
           ∷ tick direct
           ∷ tick direct
           ∷ preview slots-booking 2 2 1
-          ∷ start direct 10 32 1000
+          ∷ start direct 10 32 1000 plain
           ∷ book 1 2 0
           ∷ book 2 1 1
           ∷ tick direct
@@ -7934,10 +7964,10 @@ list-58 =
           ∷ told 1 0 5 (pos 0)
           ∷ [];
       previews =
-          showing slots-booking 2 1 2 8 4 4
-          ∷ showing slots-booking 1 2 1 8 3 3
-          ∷ showing rate-booking 1 1 334 8 4 4
-          ∷ showing rate-booking 2 1 425 8 4 4
+          showing slots-booking 2 1 2 15 4 4
+          ∷ showing slots-booking 1 2 1 15 3 3
+          ∷ showing rate-booking 1 1 334 15 4 4
+          ∷ showing rate-booking 2 1 425 15 4 4
           ∷ showing slots-release 1 2 1 0 1 1
           ∷ showing slots-release 1 1 1 0 1 1
           ∷ showing rate-release 2 2 1 10 0 0
@@ -7948,15 +7978,15 @@ list-58 =
     }
 
 pub agrees-58 : first-wrong list-58 ≡ 0
-unfolding first-wrong entries apply Direct.start Direct.tick Pipelined.start Pipelined.tick book-words rate-words release-words release-rate-words headroom-refusal Preview.preview arrive-words into-frame booking bookings row-sum column-sum sum first-from some-of word port-word
+unfolding first-wrong entries apply Direct.start Direct.tick Pipelined.start Pipelined.tick book-words rate-words release-words release-rate-words headroom-refusal Preview.preview arrive-words into-frame sharing-fit booking bookings row-sum column-sum sum first-from some-of word port-word
 agrees-58 = refl
 
 pub headroom-58 : first-wrong-headroom list-58 ≡ 0
-unfolding first-wrong-headroom final headroom-result pair-headroom headroom-over apply Direct.start Direct.tick Pipelined.start Pipelined.tick book-words rate-words release-words release-rate-words headroom-refusal Preview.preview arrive-words into-frame booking bookings row-sum column-sum sum first-from some-of word port-word
+unfolding first-wrong-headroom final headroom-result pair-headroom headroom-over apply Direct.start Direct.tick Pipelined.start Pipelined.tick book-words rate-words release-words release-rate-words headroom-refusal Preview.preview arrive-words into-frame sharing-fit booking bookings row-sum column-sum sum first-from some-of word port-word
 headroom-58 = refl
 
 pub preview-58 : first-wrong-preview list-58 ≡ 0
-unfolding first-wrong-preview final apply Direct.start Direct.tick Pipelined.start Pipelined.tick book-words rate-words release-words release-rate-words headroom-refusal Preview.preview arrive-words into-frame booking bookings row-sum column-sum sum first-from some-of word port-word
+unfolding first-wrong-preview final apply Direct.start Direct.tick Pipelined.start Pipelined.tick book-words rate-words release-words release-rate-words headroom-refusal Preview.preview arrive-words into-frame sharing-fit booking bookings row-sum column-sum sum first-from some-of word port-word
 preview-58 = refl
 
 abbrev list-59 : Case
@@ -7964,7 +7994,7 @@ list-59 =
     record {
       switch =
           record {
-            clock = clock-of 0 5 4000000000 1;
+            clock = clock-of 0 5 4000000000 1 0;
             book = book-of (101 ∷ 104 ∷ 3 ∷ 1 ∷ 7 ∷ 1 ∷ 102 ∷ 2 ∷ 4 ∷ []) (103 ∷ 102 ∷ 4 ∷ 2 ∷ 104 ∷ 3 ∷ 4 ∷ 104 ∷ 103 ∷ []);
             credits = 2 ∷ 1 ∷ 2 ∷ 1 ∷ 2 ∷ 102 ∷ 2 ∷ 102 ∷ 2 ∷ [];
             queues = 3 ∷ 104 ∷ 104 ∷ 102 ∷ 1 ∷ 7 ∷ 4 ∷ 103 ∷ 104 ∷ [];
@@ -7973,7 +8003,7 @@ list-59 =
             flight = 1 ∷ 1 ∷ 2 ∷ 3 ∷ 103 ∷ 4 ∷ 7 ∷ 102 ∷ 2 ∷ 4 ∷ 1 ∷ 2 ∷ 4 ∷ 4 ∷ 4 ∷ 4 ∷ 4 ∷ 2 ∷ [];
           };
       calls =
-          start pipelined 3 6 100000000
+          start pipelined 3 6 100000000 plain
           ∷ book 2 2 1
           ∷ book-rate 3 2 5555556
           ∷ book-rate 3 2 5555556
@@ -8091,15 +8121,15 @@ list-59 =
     }
 
 pub agrees-59 : first-wrong list-59 ≡ 0
-unfolding first-wrong entries apply Direct.start Direct.tick Pipelined.start Pipelined.tick book-words rate-words release-words release-rate-words headroom-refusal Preview.preview arrive-words into-frame booking bookings row-sum column-sum sum first-from some-of word port-word
+unfolding first-wrong entries apply Direct.start Direct.tick Pipelined.start Pipelined.tick book-words rate-words release-words release-rate-words headroom-refusal Preview.preview arrive-words into-frame sharing-fit booking bookings row-sum column-sum sum first-from some-of word port-word
 agrees-59 = refl
 
 pub headroom-59 : first-wrong-headroom list-59 ≡ 0
-unfolding first-wrong-headroom final headroom-result pair-headroom headroom-over apply Direct.start Direct.tick Pipelined.start Pipelined.tick book-words rate-words release-words release-rate-words headroom-refusal Preview.preview arrive-words into-frame booking bookings row-sum column-sum sum first-from some-of word port-word
+unfolding first-wrong-headroom final headroom-result pair-headroom headroom-over apply Direct.start Direct.tick Pipelined.start Pipelined.tick book-words rate-words release-words release-rate-words headroom-refusal Preview.preview arrive-words into-frame sharing-fit booking bookings row-sum column-sum sum first-from some-of word port-word
 headroom-59 = refl
 
 pub preview-59 : first-wrong-preview list-59 ≡ 0
-unfolding first-wrong-preview final apply Direct.start Direct.tick Pipelined.start Pipelined.tick book-words rate-words release-words release-rate-words headroom-refusal Preview.preview arrive-words into-frame booking bookings row-sum column-sum sum first-from some-of word port-word
+unfolding first-wrong-preview final apply Direct.start Direct.tick Pipelined.start Pipelined.tick book-words rate-words release-words release-rate-words headroom-refusal Preview.preview arrive-words into-frame sharing-fit booking bookings row-sum column-sum sum first-from some-of word port-word
 preview-59 = refl
 
 abbrev list-60 : Case
@@ -8107,7 +8137,7 @@ list-60 =
     record {
       switch =
           record {
-            clock = clock-of 3 0 77 1000;
+            clock = clock-of 3 0 77 1000 0;
             book = book-of (103 ∷ 103 ∷ 2 ∷ 104 ∷ 2 ∷ 3 ∷ 4 ∷ 1 ∷ 102 ∷ []) (7 ∷ 1 ∷ 104 ∷ 2 ∷ 7 ∷ 103 ∷ 102 ∷ 101 ∷ 4 ∷ []);
             credits = 103 ∷ 1 ∷ 103 ∷ 101 ∷ 3 ∷ 2 ∷ 1 ∷ 103 ∷ 2 ∷ [];
             queues = 2 ∷ 1 ∷ 101 ∷ 4 ∷ 102 ∷ 103 ∷ 1 ∷ 102 ∷ 1 ∷ [];
@@ -8116,7 +8146,7 @@ list-60 =
             flight = 3 ∷ 101 ∷ 101 ∷ 102 ∷ 104 ∷ 102 ∷ 4 ∷ 102 ∷ 104 ∷ 1 ∷ 2 ∷ 7 ∷ 4 ∷ 7 ∷ 101 ∷ 101 ∷ 7 ∷ 1 ∷ [];
           };
       calls =
-          start direct 2 3 1000
+          start direct 2 3 1000 fine
           ∷ book 1 1 2
           ∷ book-rate 1 2 111
           ∷ book-rate 1 2 222
@@ -8138,8 +8168,7 @@ list-60 =
           ∷ tick direct
           ∷ tick direct
           ∷ arrive 1 1 0
-          ∷ release-rate 1 1 1
-          ∷ tick direct
+          ∷ release-rate 1 2 112
           ∷ tick direct
           ∷ tick direct
           ∷ arrive 1 1 7
@@ -8147,8 +8176,7 @@ list-60 =
           ∷ tick direct
           ∷ tick direct
           ∷ book-rate 1 1 111
-          ∷ preview rate-release 1 2 1
-          ∷ tick direct
+          ∷ preview rate-release 2 1 1
           ∷ preview slots-release 1 1 1
           ∷ book-rate 1 2 112
           ∷ tick direct
@@ -8159,66 +8187,69 @@ list-60 =
           ∷ book-rate 1 1 111
           ∷ arrive 1 1 7
           ∷ tick direct
-          ∷ preview rate-release 1 1 1
+          ∷ preview rate-release 1 2 334
           ∷ tick direct
+          ∷ tick direct
+          ∷ tick direct
+          ∷ book-rate 2 1 334
           ∷ tick direct
           ∷ [];
       expected =
-          claim 1 1 1 2 0 3 2
-          ∷ claim 1 1 4 2 0 3 2
-          ∷ claim 1 1 7 2 0 3 2
-          ∷ claim 1 1 10 2 0 3 2
-          ∷ claim 1 1 13 2 0 3 2
-          ∷ claim 1 1 16 2 0 2 2
-          ∷ claim 1 2 1 0 2 3 0
-          ∷ claim 1 2 4 0 2 3 0
-          ∷ claim 1 2 7 0 2 3 0
-          ∷ claim 1 2 10 0 2 3 0
-          ∷ claim 1 2 13 0 2 3 0
-          ∷ claim 1 2 16 0 2 2 0
+          claim 1 1 1 2 1 3 2
+          ∷ claim 1 1 4 2 1 3 2
+          ∷ claim 1 1 7 2 1 3 2
+          ∷ claim 1 1 10 2 1 3 2
+          ∷ claim 1 1 13 2 1 3 2
+          ∷ claim 1 1 16 2 1 2 1
+          ∷ claim 1 2 1 1 2 3 1
+          ∷ claim 1 2 4 1 2 3 1
+          ∷ claim 1 2 7 1 2 3 1
+          ∷ claim 1 2 10 1 2 3 1
+          ∷ claim 1 2 13 1 2 3 1
+          ∷ claim 1 2 16 1 2 2 1
           ∷ claim 2 1 1 0 2 0 0
-          ∷ claim 2 1 4 0 2 0 0
+          ∷ claim 2 1 4 0 2 1 0
           ∷ claim 2 1 7 0 2 3 0
           ∷ claim 2 1 10 0 2 3 0
           ∷ claim 2 1 13 0 2 3 0
           ∷ claim 2 1 16 0 2 2 0
-          ∷ claim 2 2 1 0 0 3 0
-          ∷ claim 2 2 4 0 0 3 0
-          ∷ claim 2 2 7 0 0 3 0
-          ∷ claim 2 2 10 0 0 3 0
-          ∷ claim 2 2 13 0 0 3 0
-          ∷ claim 2 2 16 0 0 2 0
+          ∷ claim 2 2 1 0 1 3 0
+          ∷ claim 2 2 4 0 1 3 0
+          ∷ claim 2 2 7 0 1 3 0
+          ∷ claim 2 2 10 0 1 3 0
+          ∷ claim 2 2 13 0 1 3 0
+          ∷ claim 2 2 16 0 1 2 0
           ∷ [];
       headrooms =
-          told 1 1 0 (pos 1)
-          ∷ told 1 2 0 (pos 1)
+          told 1 1 0 (pos 0)
+          ∷ told 1 2 0 (pos 0)
           ∷ told 2 1 0 (pos 1)
-          ∷ told 2 2 0 (pos 3)
+          ∷ told 2 2 0 (pos 2)
           ∷ told 3 1 5 (pos 0)
-          ∷ told 1 4294967297 5 (pos 0)
+          ∷ told 1 0 5 (pos 0)
           ∷ [];
       previews =
-          showing slots-booking 2 2 1 0 1 1
-          ∷ showing slots-booking 1 2 2 8 4 2
-          ∷ showing rate-booking 2 2 222 0 1 1
-          ∷ showing rate-booking 2 1 467 9 2 4
-          ∷ showing slots-release 1 1 1 0 1 1
-          ∷ showing slots-release 1 1 2 0 0 0
-          ∷ showing rate-release 2 2 1 10 0 0
-          ∷ showing rate-release 1 1 384 10 0 0
-          ∷ showing slots-booking 3 1 1 5 0 0
-          ∷ showing slots-booking 2 1 4 6 0 0
+          showing slots-booking 2 2 1 15 1 2
+          ∷ showing slots-booking 1 2 1 15 4 2
+          ∷ showing rate-booking 1 2 112 15 4 2
+          ∷ showing rate-booking 2 1 436 15 2 4
+          ∷ showing slots-release 1 1 1 0 2 1
+          ∷ showing slots-release 1 1 1 0 2 1
+          ∷ showing rate-release 1 2 223 0 3 1
+          ∷ showing rate-release 1 2 40 0 3 1
+          ∷ showing slots-booking 3 2 1 5 0 0
+          ∷ showing slots-booking 2 2 4 6 0 0
           ∷ [];
     }
 
 pub agrees-60 : first-wrong list-60 ≡ 0
-unfolding first-wrong entries apply Direct.start Direct.tick Pipelined.start Pipelined.tick book-words rate-words release-words release-rate-words headroom-refusal Preview.preview arrive-words into-frame booking bookings row-sum column-sum sum first-from some-of word port-word
+unfolding first-wrong entries apply Direct.start Direct.tick Pipelined.start Pipelined.tick book-words rate-words release-words release-rate-words headroom-refusal Preview.preview arrive-words into-frame sharing-fit booking bookings row-sum column-sum sum first-from some-of word port-word
 agrees-60 = refl
 
 pub headroom-60 : first-wrong-headroom list-60 ≡ 0
-unfolding first-wrong-headroom final headroom-result pair-headroom headroom-over apply Direct.start Direct.tick Pipelined.start Pipelined.tick book-words rate-words release-words release-rate-words headroom-refusal Preview.preview arrive-words into-frame booking bookings row-sum column-sum sum first-from some-of word port-word
+unfolding first-wrong-headroom final headroom-result pair-headroom headroom-over apply Direct.start Direct.tick Pipelined.start Pipelined.tick book-words rate-words release-words release-rate-words headroom-refusal Preview.preview arrive-words into-frame sharing-fit booking bookings row-sum column-sum sum first-from some-of word port-word
 headroom-60 = refl
 
 pub preview-60 : first-wrong-preview list-60 ≡ 0
-unfolding first-wrong-preview final apply Direct.start Direct.tick Pipelined.start Pipelined.tick book-words rate-words release-words release-rate-words headroom-refusal Preview.preview arrive-words into-frame booking bookings row-sum column-sum sum first-from some-of word port-word
+unfolding first-wrong-preview final apply Direct.start Direct.tick Pipelined.start Pipelined.tick book-words rate-words release-words release-rate-words headroom-refusal Preview.preview arrive-words into-frame sharing-fit booking bookings row-sum column-sum sum first-from some-of word port-word
 preview-60 = refl

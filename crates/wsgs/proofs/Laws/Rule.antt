@@ -1,20 +1,19 @@
 -- Laws of the book's rule. Its questions are answered yes exactly where it admits a booking. What a book of either kind keeps of all its pairs: inequality
 -- (5) of the paper, which gives inequality (2), or (2) itself. Lower bookings keep it, and so does a booking that the rule admits. Assumes nothing.
-use mathlib.Core.Path.{_≡_, refl, sym}
-use mathlib.Core.Bool.{Bool, true, false, _&&_, _||_, and-true, and-false}
-use mathlib.Core.List.{List, [], _∷_}
+use mathlib.Core.Path.{_≡_, refl}
+use mathlib.Core.Bool.{Bool, true, false, _||_, and-false}
 use mathlib.Core.Logic.{_⊎_, inl, inr, _≢_}
 use Prim.Native.Nat.{ℕ, zero, suc, _+_, _-_, _*_, _≤_}
 use native.Mathlib.Omega.{arith}
 use native.Mathlib.Decide.{ℕ-discrete}
 use lib.Dec.{T, eqb, leb, leb→le, le→leb}
 use borrow.Author.Tests.{eq-eqb, ne-eqb}
-use Rattle.wsgs.specs.Basics.{pick, Port, sum, sum-without, all-of, updated₂}
+use Rattle.wsgs.specs.Basics.{pick, Port, sum, sum-without, all-of}
 use Rattle.wsgs.specs.Bookings.{row-sum, column-sum}
 use Rattle.wsgs.specs.Rule.{with-more, booked-fits, sharing-fit, rule}
 use Rattle.wsgs.specs.Claims.{Fits, Admits}
 use Rattle.wsgs.proofs.Laws.Tests.{both, join}
-use Rattle.wsgs.proofs.Laws.Sums.{sum-le, sum-ext, sum-zero, sum-parts, row-changed, column-changed}
+use Rattle.wsgs.proofs.Laws.Sums.{sum-le, sum-zero, sum-parts, row-changed, column-changed}
 use Rattle.wsgs.proofs.Laws.Questions.{Yes, Numbered}
 
 -- a test that every port passes
