@@ -516,10 +516,11 @@ fn headrooms_are_met(tally: &Tally) {
 
 /// Rates were booked, released and read, and refused with every number that a list can lead to.
 fn rates_are_met(tally: &Tally) {
-    for (name, numbers) in [("book_rate", &[0, 6, 8, 9, 15][..]), ("release_rate", &[0, 6, 10])] {
-        numbers.iter().for_each(|&number| tally.at_least_one_in(100, name, Event::Gave(number)));
+    for (name, numbers) in [("book_rate", &[0, 6][..]), ("release_rate", &[0, 6, 10])] {
+        numbers.iter().for_each(|&number| tally.at_least_one_in(50, name, Event::Gave(number)));
         tally.at_least_one_in(20, name, Event::NoBookingChanged);
     }
+    [8, 9, 15].iter().for_each(|&number| tally.at_least_one_in(100, "book_rate", Event::Gave(number)));
     for name in ["tick_direct", "tick_pipelined"] {
         tally.at_least_one_in(50, name, Event::ReadRates(Line::InRange));
     }

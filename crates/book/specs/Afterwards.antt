@@ -5,9 +5,8 @@ use mathlib.Core.List.{List}
 use Prim.Native.Nat.{ℕ, _+_, _≤_, _<_}
 use lib.ListN.{length, getD}
 use Rattle.wsgs.specs.declared.Clock.{Clock}
-use Rattle.wsgs.specs.Basics.{all-of}
 use Rattle.wsgs.specs.Bookings.{Book, bookings, row-sum, column-sum}
-use Rattle.wsgs.specs.Rule.{with-more, booked-fits}
+use Rattle.wsgs.specs.Rule.{with-more, input-fits, output-fits}
 use Rattle.book.specs.declared.afterwards.BookingRequest.{BookingRequest}
 use Rattle.book.specs.declared.all_sums.AllSums.{AllSums}
 
@@ -32,7 +31,7 @@ pub record Totals (c : Clock) (m : Book) (q : BookingRequest) (t : AllSums) : Ty
 
 -- inequality (2) of the paper would hold of each booked pair that shares the input of the request; and of each that shares its output
 abbrev pub row-fits : Clock → Book → BookingRequest → Bool
-row-fits c m q = all-of (λ y. booked-fits (c .ports) (c .frame) (afterwards c m q) (q .input .0) y) (c .ports)
+row-fits c m q = input-fits (c .ports) (c .frame) (afterwards c m q) (q .input .0)
 
 abbrev pub column-fits : Clock → Book → BookingRequest → Bool
-column-fits c m q = all-of (λ x. booked-fits (c .ports) (c .frame) (afterwards c m q) x (q .output .0)) (c .ports)
+column-fits c m q = output-fits (c .ports) (c .frame) (afterwards c m q) (q .output .0)

@@ -61,7 +61,8 @@ fn sums_refusal(
     0
 }
 
-// On a fine book: whether each booked pair that shares the input or the output would fit the frame, question 15. The sums are taken once.
+// On a fine book: whether each booked pair that shares the input or the output would fit the frame, question 15. One sweep over the pairs takes all sums,
+// then the pairs of the row and those of the column are gone over once.
 fn pairs_refusal(
     clock: Clock,
     slots: &[u32],

@@ -23,7 +23,6 @@ use previews::preview_release;
 use previews::preview_release_rate;
 use results::put_preview;
 use results::put_result;
-use starts::start_direct;
 use wsgs::BookedSlots;
 use wsgs::Input;
 use wsgs::Output;
@@ -49,7 +48,7 @@ pub extern "C" fn kivdrag_start_direct(
 {
     let at = clock_in(clock);
     let kind = fine != 0;
-    let result = start_direct(
+    let started = starts::start_direct(
         ports,
         frame,
         line,
@@ -61,11 +60,11 @@ pub extern "C" fn kivdrag_start_direct(
         queues,
         given,
     );
-    put_clock(clock, result.clock);
-    result.refusal
+    put_clock(clock, started.clock);
+    started.refusal
 }
 
-// Starts a pipelined switch, with a book of either kind.
+// Starts a pipelined switch, with a plain book where `fine` is 0, and else with a fine one.
 #[no_mangle]
 pub extern "C" fn kivdrag_start_pipelined(
     ports: u64,

@@ -19,9 +19,10 @@ ghost use Rattle.machine.specs.View.{machine-of, record-outcome-of, star
 // The most slots that a tick record asks for.
 const MAX_TICK_SLOTS: u64 = 10_000;
 
-// The rate of a line that a start or pipe record gives: none, since no record books by rate. And the kind of book: plain.
+// The rate of a line that a start or pipe record gives: none, since no record books by rate.
 const LINE_RATE: u64 = 0;
 
+// The kind of book that it gives: plain, since no field of a record tells the kind.
 const FINE: bool = false;
 
 // The machine after a start or pipe.

@@ -16,7 +16,7 @@ use Rattle.wsgs.specs.Preview.{slots-booking, rate-booking, slots-releas
 use Rattle.wsgs.specs.Preview as Previews
 use Rattle.wsgs.specs.Direct
 use Rattle.wsgs.specs.Pipelined
-use Rattle.wsgs.specs.Switch.{Switch, Form, direct, pipelined, Call, start, book, book-rate, release, release-rate, headroom, preview, arrive, tick, apply, direct-runs, pipelined-runs, final}
+use Rattle.wsgs.specs.Switch.{Switch, Form, direct, pipelined, plain, Call, start, book, book-rate, release, release-rate, headroom, preview, arrive, tick, apply, direct-runs, pipelined-runs, final}
 use Rattle.wsgs.specs.Ledger.{Ledger, booked, ledger-of}
 use Rattle.wsgs.specs.Seen.{Seen, seen}
 use Rattle.wsgs.specs.Claims.{Admits, Admitted, with-kind, FineAcceptsPlain}
@@ -83,19 +83,22 @@ module _ (s : Switch) (kind : ℕ) (is-plain : s .clock .fine ≡ 0) (bounded : 
   accepted-too (tick direct) e = same-number (Direct.tick-refusal c (direct-runs s)) (other .clock) c (direct-runs s) (Direct.ticked (other .clock) (direct-runs s)) (Direct.ticked c (direct-runs s)) refl ∙ e
   accepted-too (tick pipelined) e = same-number (Pipelined.tick-refusal c (pipelined-runs s)) (other .clock) c (pipelined-runs s) (Pipelined.ticked (other .clock) (pipelined-runs s)) (Pipelined.ticked c (pipelined-runs s)) refl ∙ e
 
--- A LIST OF CALLS: a switch whose word is 0 keeps the plain rule
-plain-kept : (g : Bool) (n f : ℕ) (a : ℕ → ℕ → ℕ) → bit g ≡ 0 → Kept g n f a → Bounded n f a
-plain-kept true n f a e k = absurd (omega arith)
-plain-kept false n f a e k = k
+-- A LIST OF CALLS whose last start gave a plain book
+module _ (m : Form) (l : Ledger) (h : Seen) (now : Switch) (t : Trace m l h now) (is-plain : l .fine ≡ plain) where
+  -- its word is 0
+  word-is-0 : now .clock .fine ≡ 0
+  word-is-0 = ap (λ c. c .fine) (t .clock) ∙ ap bit is-plain
 
-module _ (m : Form) (l : Ledger) (h : Seen) (now : Switch) (t : Trace m l h now) (is-plain : now .clock .fine ≡ 0) where
   plain-book : PlainBook now
   plain-book =
       subst (λ c. Bounded (c .ports) (c .frame) (bookings (c .ports) (c .frame) (c .line) (now .book))) (sym (t .clock))
       (kept-below (l .ports) (l .frame) _ (booked l)
       (λ x y px py. omega (arith, tells-bookings (ledger-clock l) (now .book) (l .slots) (l .rates) (t .tells) x y px py)) false
-      (plain-kept (l .fine) (l .ports) (l .frame) (booked l) (sym (ap (λ c. c .fine) (t .clock)) ∙ is-plain) (t .kept)))
+      (subst (λ g. Kept g (l .ports) (l .frame) (booked l)) is-plain (t .kept)))
 
 -- every list of one form that opens with an accepted start
 pub fine-accepts : FineAcceptsPlain
-fine-accepts m cs s o t e x kind = accepted-too (final cs s) kind e (plain-book m (ledger-of cs s) (seen cs s) (final cs s) (trace-of m cs s o t) e) x
+fine-accepts m cs s o t e x word =
+    let r = trace-of m cs s o t in
+    accepted-too (final cs s) word (word-is-0 m (ledger-of cs s) (seen cs s) (final cs s) r e)
+    (plain-book m (ledger-of cs s) (seen cs s) (final cs s) r e) x

@@ -97,8 +97,8 @@ module _ (m : Form) (l : Ledger) (h : Seen) (now : Switch) (t : Trace m l h now)
   a = bookings (c .ports) (c .frame) (c .line) (now .book) i j
 
   -- (2) holds of what is booked
-  sold : Fits (l .ports) (l .frame) (booked l) i j
-  sold = kept-fits (l .fine) (l .ports) (l .frame) (booked l) (t .kept) i j pi pj
+  fits-now : Fits (l .ports) (l .frame) (booked l) i j
+  fits-now = kept-fits (l .fine) (l .ports) (l .frame) (booked l) (t .kept) i j pi pj
 
   pub headroom-told : Headroom l (headroom-result c (now .book) i j) a i j
   unfolding headroom-result
@@ -107,13 +107,13 @@ module _ (m : Form) (l : Ledger) (h : Seen) (now : Switch) (t : Trace m l h now)
         accepted = asked;
         booking = booked-alike;
         number = told;
-        fits = sold;
+        fits = fits-now;
         of-booked = fits;
         below-zero = λ z. go (decLe 1 a) z;
       }
     where
       fits : 1 ≤ a → pos 0 ≤ℤ headroom-result c (now .book) i j .headroom
-      fits b = rw told (at-least-zero (l .ports) (l .frame) (booked l) i j pj .1 (sold (omega (arith, b, booked-alike))))
+      fits b = rw told (at-least-zero (l .ports) (l .frame) (booked l) i j pj .1 (fits-now (omega (arith, b, booked-alike))))
 
       go : Dec (1 ≤ a) → headroom-result c (now .book) i j .headroom <ℤ pos 0 → a ≡ 0
       go (yes b) z = clashℤ z (fits b)

@@ -1,5 +1,5 @@
--- The clock of a switch: from its numbers, as a start sets it, and with another last slot run. Definitions make a clock only by these.
--- Assumes nothing.
+-- The clock of a switch: from its numbers, as a start sets it, and with another last slot run. Definitions make a clock only by these. And which kind of
+-- book its word tells. Assumes nothing.
 use mathlib.Core.Bool.{Bool, not}
 use Prim.Native.Nat.{ℕ}
 use lib.Dec.{eqb}
@@ -8,11 +8,11 @@ use Rattle.wsgs.specs.Basics.{bit}
 
 -- the clock that holds these numbers
 abbrev pub clock-of : (ports frame slot line fine : ℕ) → Clock
-clock-of n f k b g = record { ports = n; frame = f; slot = k; line = b; fine = g }
+clock-of n f k b word = record { ports = n; frame = f; slot = k; line = b; fine = word }
 
 -- no slot has been run yet, and the word for the kind of the book is 0 or 1
 abbrev pub first-clock : (ports frame line : ℕ) → (fine : Bool) → Clock
-first-clock n f b g = clock-of n f 0 b (bit g)
+first-clock n f b kind = clock-of n f 0 b (bit kind)
 
 -- slot k is the last slot run
 abbrev pub at-slot : Clock → ℕ → Clock

@@ -5,7 +5,7 @@ use Prim.Native.Nat.{ℕ, zero, suc, _-_}
 use lib.ListN.{replicate}
 use Rattle.wsgs.specs.Clocks.{clock-of}
 use Rattle.wsgs.specs.Bookings.{book-of}
-use Rattle.wsgs.specs.Switch.{Switch, Form, direct, pipelined, plain, Call, start, book, book-rate, arrive, tick}
+use Rattle.wsgs.specs.Switch.{Switch, Form, direct, pipelined, plain, fine, Call, start, book, book-rate, arrive, tick}
 use Rattle.wsgs.specs.Ledger.{Ledger, ledger-of, reading, others, waited, served}
 
 -- what the ledger tells of a pair in a frame: a, b - m and the served count
@@ -163,9 +163,23 @@ pipelined-rates =
       output = 2;
     }
 
+-- a fine book, 2 ports, 3 slots: the film wall (1, 1) holds the whole line, and others have packets for its output and from its input
+abbrev whole-line : List Call
+whole-line = book 1 1 3 ∷ arrive 1 1 90 ∷ arrive 1 2 90 ∷ arrive 2 1 90 ∷ []
+
+-- direct, and pipelined the frame from slot 7 on
+abbrev pub direct-whole-line : Example
+direct-whole-line =
+    record { switch = some-switch; calls = start direct 2 3 0 fine ∷ whole-line ++ ticks direct 3; frame = 1; input = 1; output = 1 }
+
+abbrev pub pipelined-whole-line : Example
+pipelined-whole-line =
+    record { switch = some-switch; calls = start pipelined 2 3 0 fine ∷ whole-line ++ ticks pipelined 8; frame = 7; input = 1; output = 1 }
+
 -- all of them, with what they tell
 abbrev pub examples : List Example
-examples = direct-films ∷ direct-second-frame ∷ pipelined-films ∷ direct-rates ∷ pipelined-rates ∷ []
+examples =
+    direct-films ∷ direct-second-frame ∷ pipelined-films ∷ direct-rates ∷ pipelined-rates ∷ direct-whole-line ∷ pipelined-whole-line ∷ []
 
 abbrev pub expected-tallies : List Tally
-expected-tallies = all-are 2 ∷ all-are 1 ∷ all-are 2 ∷ all-are 2 ∷ all-are 2 ∷ []
+expected-tallies = all-are 2 ∷ all-are 1 ∷ all-are 2 ∷ all-are 2 ∷ all-are 2 ∷ all-are 3 ∷ all-are 3 ∷ []

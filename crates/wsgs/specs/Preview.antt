@@ -33,7 +33,7 @@ counts-as rate-release c m i j r = 0
 abbrev pub refused-by-rule : (refusal : ℕ) → Bool
 refused-by-rule r = between 8 9 r || eqb r 15
 
--- the sum that is shown: the one afterwards where the operation is accepted; where the rule refuses, the one that it asked about; else 0
+-- the sum that is shown: the one afterwards where the operation is accepted; where the rule refuses, the present one with what the operation counts as; else 0
 unfoldable pub shown : (refusal afterwards asked-about : ℕ) → ℕ
 shown r afterwards asked-about = pick (eqb r 0) afterwards (pick (refused-by-rule r) asked-about 0)
 

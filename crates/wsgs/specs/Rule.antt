@@ -28,10 +28,17 @@ unfoldable pub booked-fits : (ports frame : ℕ) (bookings : ℕ → ℕ → ℕ
 unfolding row-sum column-sum
 booked-fits n f a x y = pair-fits f (a x y) (row-sum n a x) (column-sum n a y)
 
--- each pair that shares the input i, and each that shares the output j
+-- with each pair that shares the input i, and with each that shares the output j
+abbrev pub input-fits : (ports frame : ℕ) (bookings : ℕ → ℕ → ℕ) (input : ℕ) → Bool
+input-fits n f a i = all-of (λ y. booked-fits n f a i y) n
+
+abbrev pub output-fits : (ports frame : ℕ) (bookings : ℕ → ℕ → ℕ) (output : ℕ) → Bool
+output-fits n f a j = all-of (λ x. booked-fits n f a x j) n
+
+-- with all of them
 unfoldable pub sharing-fit : (ports frame : ℕ) (bookings : ℕ → ℕ → ℕ) (input output : ℕ) → Bool
 unfolding all-of booked-fits
-sharing-fit n f a i j = all-of (λ y. booked-fits n f a i y) n && all-of (λ x. booked-fits n f a x j) n
+sharing-fit n f a i j = input-fits n f a i && output-fits n f a j
 
 -- 15, on a fine book: afterwards, does inequality (2) hold of each booked pair that shares the input or the output?
 abbrev pub pairs-admit : (ports frame : ℕ) (bookings : ℕ → ℕ → ℕ) (input output more : ℕ) → Question
