@@ -25,7 +25,7 @@ use Rattle.turns.specs.Requests.{second-output}
 use Rattle.turns.specs.Charges.{charged, noted}
 use Rattle.direct.specs.Passes.{PassState, LeftOver}
 use Rattle.turns.proofs.TurnLaws.{second-nothing}
-use Rattle.turns.proofs.Choice.{charged-some, charged-none, noted-some, noted-none}
+use Rattle.turns.proofs.Costs.{charged-some, charged-none, noted-some, noted-none}
 use Rattle.direct.proofs.PassStates.{taken-short, held-none, held-more}
 use Rattle.direct.proofs.Spent.{spent-length, spent-none, spent-row, spent-more}
 use Rattle.direct.proofs.Regiven.{regiven-own}

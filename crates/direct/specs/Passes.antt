@@ -2,14 +2,12 @@
 use mathlib.Core.Path.{_≡_}
 use mathlib.Core.Bool.{not}
 use mathlib.Core.List.{List}
-use Prim.Native.Nat.{ℕ, suc, _*_, _≤_, _<_}
-use lib.Dec.{ltb}
-use lib.ListN.{getD}
-use Rattle.wsgs.specs.Basics.{pick, Port}
+use Prim.Native.Nat.{ℕ, _≤_}
+use Rattle.wsgs.specs.Basics.{Port}
 use Rattle.wsgs.specs.Words.{word, port-word}
 use Rattle.wsgs.specs.Steps.{taken, listed, pass-one, pass-two, outputs-of, pass-word-of}
 use Rattle.wsgs.specs.Direct.{Runs, loaded, paired, spent, regiven, first-outputs}
-use Rattle.turns.specs.Masks.{in-mask, ready-mask}
+use Rattle.turns.specs.Masks.{in-mask}
 
 -- the outputs f that the inputs hold, as the mask of the free outputs, as the listed outputs, as the packets taken from the queues, and as the outputs
 -- last given
@@ -24,15 +22,10 @@ pub record PassState (n : ℕ) (start before : List ℕ) (f : ℕ → ℕ) (free
 abbrev pub ones : ℕ → (credits queues given : List ℕ) → ℕ → ℕ
 ones n credits queues given = pass-one n (word n credits) (word n queues) (port-word given) n
 
--- of the first x rows, from 0 on, the outputs that pass one, which gave the outputs `one`, leaves over for pass two: none where it served the input, else those
--- for which a packet waits in the queues
-abbrev pub LeftOver : (n x : ℕ) (one : ℕ → ℕ) (queues left : List ℕ) → Type 0
-LeftOver n x one queues left = (k : ℕ) → k < x → getD left k 0 ≡ pick (ltb 0 (one (suc k))) 0 (ready-mask queues queues (k * n) n)
-
 -- pass two, whatever the queues, the last given outputs and the outputs of pass one were that its inputs hold: they then hold those of pass two
-abbrev pub PassTwo : (n : ℕ) (left : List ℕ) (free : ℕ) (outputs queues given : List ℕ) (free′ : ℕ) (outputs′ queues′ given′ : List ℕ) → Type 0
-PassTwo n left free outputs queues given free′ outputs′ queues′ given′ =
-    (start before : List ℕ) (one : ℕ → ℕ) → PassState n start before one free outputs queues given → LeftOver n n one start left
+abbrev pub PassTwo : (n : ℕ) (free : ℕ) (outputs queues given : List ℕ) (free′ : ℕ) (outputs′ queues′ given′ : List ℕ) → Type 0
+PassTwo n free outputs queues given free′ outputs′ queues′ given′ =
+    (start before : List ℕ) (one : ℕ → ℕ) → PassState n start before one free outputs queues given
     → PassState n start before (pass-two n (word n start) (port-word before) one n) free′ outputs′ queues′ given′
 
 -- slot k has been run on the runs w, with frames of f slots on lines of the rate b: the answer is the paired inputs', and each pair has taken a packet, and by pass one a credit too, and is noted

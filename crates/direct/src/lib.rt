@@ -62,9 +62,8 @@ fn run_slot(
 {
     let ports = clock.ports as usize;
     reload(clock, slots, rates, credits);
-    let mut left_over = [0; 32];
-    let passed = pass_one(ports, credits, queues, given, &mut left_over);
-    pass_two(passed, &left_over, ports, queues, given)
+    let passed = pass_one(ports, credits, queues, given);
+    pass_two(passed, ports, queues, given)
 }
 
 // A tick: the questions, then the slot. The clock goes in and comes back whole.

@@ -5,12 +5,12 @@ ghost use lib.Dec.{ltb};
 ghost use lib.ListN.{length};
 ghost use Rattle.wsgs.specs.Steps.{marked};
 ghost use Rattle.wsgs.specs.Direct.{spent};
-ghost use Rattle.direct.specs.Passes.{PassState, ones, LeftOver, PassTwo};
-use turns::BITS;
+ghost use Rattle.direct.specs.Passes.{PassState, ones, PassTwo};
 use turns::first_requests;
 use turns::first_turn;
 use turns::masks::all_free;
 use turns::masks::take;
+use turns::second_requests;
 use turns::second_turn;
 use wsgs::Input;
 
@@ -22,20 +22,17 @@ pub struct PassResult {
     pub first_pass: u32,
 }
 
-// Pass one: the inputs in turn, each with the first in its order of the free outputs for which it has a credit and a packet. For pass two it writes
-// down the outputs for which an input has a packet, and none where it has served the input.
+// Pass one: the inputs in turn, each with the first in its order of the free outputs for which it has a credit and a packet.
 pub fn pass_one(
     ports: usize,
     credits: &mut [u32],
     queues: &mut [u32],
     given: &mut [u32],
-    left_over: &mut [u32; 32],
 ) -> PassResult
     requires ports { ⌜ ports ≤ 32 ⌝ }
     requires credits_fit { ⌜ ports * ports ≤ length (now credits) ⌝ }
     requires queues_fit { ⌜ ports * ports ≤ length (now queues) ⌝ }
     requires given_fits { ⌜ ports ≤ length (now given) ⌝ }
-    requires left_over_fits { ⌜ ports ≤ length (now «left_over») ⌝ }
     ensures state { λ r. ⌜ PassState ports (now (queues .entry)) (now (given .entry))
         (ones ports (now (credits .entry)) (now (queues .entry)) (now (given .entry)))
         (r .free) (r .outputs) (now (queues .exit)) (now (given .exit)) ⌝ }
@@ -43,26 +40,19 @@ pub fn pass_one(
         ≡ marked 32 (λ i. ltb 0 (ones ports (now (credits .entry)) (now (queues .entry)) (now (given .entry)) i)) ⌝ }
     ensures credits_exit { λ r. ⌜ now (credits .exit)
         ≡ spent ports (now (credits .entry)) (ones ports (now (credits .entry)) (now (queues .entry)) (now (given .entry))) ports ⌝ }
-    ensures left_over_exit { λ r. ⌜ LeftOver ports ports
-        (ones ports (now (credits .entry)) (now (queues .entry)) (now (given .entry)))
-        (now (queues .entry)) (now («left_over» .exit)) ⌝ }
 {
     let mut free = all_free(ports);
     let mut outputs = [0u8; 32];
     let mut first_pass = 0u32;
-    let bits = BITS;
     for row in 0..ports {
         let input = Input(row as u64 + 1);
-        let asked = first_requests(&bits, ports, input, credits, queues);
-        let output = first_turn(free, asked.ready, ports, input, credits, queues, given);
-        if output.0 == 0 {
-            left_over[row] = asked.waiting;
-            continue;
+        let asked = first_requests(ports, input, credits, queues);
+        let choice = first_turn(free, asked, ports, input, credits, queues, given);
+        if choice.output.0 > 0 {
+            free = take(free, choice.output);
+            outputs[row] = choice.output.0 as u8;
+            first_pass |= 1 << row;
         }
-        left_over[row] = 0;
-        free = take(free, output);
-        outputs[row] = output.0 as u8;
-        first_pass |= 1 << row;
     }
     PassResult {
         free,
@@ -71,10 +61,9 @@ pub fn pass_one(
     }
 }
 
-// Pass two: the inputs in turn, each with the first in its order of the free outputs that pass one left over for it.
+// Pass two: the inputs in turn that pass one did not serve, each with the first in its order of the free outputs for which it has a packet.
 pub fn pass_two(
     passed: PassResult,
-    left_over: &[u32; 32],
     ports: usize,
     queues: &mut [u32],
     given: &mut [u32],
@@ -82,21 +71,22 @@ pub fn pass_two(
     requires ports { ⌜ ports ≤ 32 ⌝ }
     requires queues_fit { ⌜ ports * ports ≤ length (now queues) ⌝ }
     requires given_fits { ⌜ ports ≤ length (now given) ⌝ }
-    ensures pass_two { λ r. ⌜ PassTwo ports (now («left_over» .entry)) (passed .free) (passed .outputs)
-        (now (queues .entry)) (now (given .entry))
+    ensures pass_two { λ r. ⌜ PassTwo ports (passed .free) (passed .outputs) (now (queues .entry)) (now (given .entry))
         (r .free) (r .outputs) (now (queues .exit)) (now (given .exit)) ⌝ }
     ensures first_pass { λ r. ⌜ r .«first_pass» ≡ passed .«first_pass» ⌝ }
 {
     let mut free = passed.free;
     let mut outputs = passed.outputs;
     for row in 0..ports {
-        let input = Input(row as u64 + 1);
-        let output = second_turn(free, left_over[row], ports, input, queues, given);
-        if output.0 == 0 {
-            continue;
+        if outputs[row] == 0 {
+            let input = Input(row as u64 + 1);
+            let asked = second_requests(ports, input, queues);
+            let choice = second_turn(free, asked, ports, input, queues, given);
+            if choice.output.0 > 0 {
+                free = take(free, choice.output);
+                outputs[row] = choice.output.0 as u8;
+            }
         }
-        free = take(free, output);
-        outputs[row] = output.0 as u8;
     }
     PassResult {
         free,

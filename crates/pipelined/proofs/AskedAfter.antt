@@ -18,7 +18,7 @@ use Rattle.wsgs.proofs.Laws.Marked.{marked-ext, marked-set, marked-bit}
 use Rattle.wsgs.proofs.Laws.Words.{less-is, less-length}
 use Rattle.turns.specs.Masks.{without, ready-mask}
 use Rattle.turns.proofs.BitLaws.{bits, alone}
-use Rattle.turns.proofs.Choice.{charged-some, charged-none}
+use Rattle.turns.proofs.Costs.{charged-some, charged-none}
 use Rattle.turns.proofs.MaskLaws.{none-out, one-out}
 use Rattle.pipelined.specs.Turnings.{AskedBefore}
 

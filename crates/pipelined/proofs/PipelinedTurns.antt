@@ -17,7 +17,7 @@ use Rattle.wsgs.proofs.Laws.InTurn.{in-turn-ext, in-turn-nobody}
 use Rattle.turns.specs.Masks.{in-mask, is-open, ready-mask}
 use Rattle.turns.specs.Charges.{charged, noted}
 use Rattle.pipelined.specs.Turnings.{turn-runs-of}
-use Rattle.turns.proofs.Choice.{charged-some, charged-none, noted-some, noted-none}
+use Rattle.turns.proofs.Costs.{charged-some, charged-none, noted-some, noted-none}
 use Rattle.turns.proofs.Ready.{nothing-asked}
 
 -- a choice between two turnings

@@ -1,16 +1,13 @@
--- The runs that the turns of a pipelined tick change, put together from lists; that those lent to it are long enough; what an input asked for before it
--- took an output; what the tick knows of the slots ahead; and what it gives back. Assumes nothing.
+-- The runs that the turns of a pipelined tick change, put together from lists; that those lent to it are long enough; what the tick knows of the slots ahead; and what it gives back. Assumes nothing.
 use mathlib.Core.Path.{_≡_}
 use mathlib.Core.List.{List}
-use Prim.Native.Nat.{ℕ, _+_, _-_, _*_, _%_, _≤_, _<_}
+use Prim.Native.Nat.{ℕ, _+_, _*_, _%_, _≤_, _<_}
 use lib.ListN.{length}
 use Rattle.wsgs.specs.declared.Clock.{Clock}
 use Rattle.wsgs.specs.declared.TickResult.{TickResult}
 use Rattle.wsgs.specs.Frames.{into-frame}
 use Rattle.wsgs.specs.Steps.{Matching, outputs-of, pass-word-of}
 use Rattle.wsgs.specs.Pipelined.{TurnRuns}
-use Rattle.turns.specs.Masks.{ready-mask}
-use Rattle.turns.specs.Charges.{charged}
 
 -- the credits, the queues, the outputs last given and the rows in flight
 abbrev pub turn-runs-of : (credits queues given flight : List ℕ) → TurnRuns
@@ -24,12 +21,6 @@ pub record RunsFit (n : ℕ) (a c q g f : List ℕ) : Type 0 where
   pub queues : n * n ≤ length q
   pub given : n ≤ length g
   pub flight : 2 * n * n ≤ length f
-
--- what input i asked for by its queues before its pass-one turn, which then took output j, or none where j is 0
-pub record AskedBefore (n i j : ℕ) (queues : List ℕ) (waiting : ℕ) : Type 0 where
-  pub before : List ℕ
-  pub taken : queues ≡ charged n before i j
-  pub packets : waiting ≡ ready-mask before before ((i - 1) * n) n
 
 -- what a tick at time k knows of the slots ahead: the rows of slots k + 2n + 1 and k + n + 1, and how many slots of its frame come before slot
 -- k + 2n. The frames have a slot for each port.

@@ -1,32 +1,27 @@
 // The turns of a pipelined tick: each input works on one slot by pass one and on another by pass two.
 ghost use mathlib.Core.Path.{_≡_};
 ghost use mathlib.Core.List.{List};
-ghost use Prim.Native.Nat.{ℕ, _+_, _-_, _*_, _%_, _≤_, _<_};
+ghost use Prim.Native.Nat.{ℕ, _+_, _*_, _%_, _≤_, _<_};
 ghost use lib.ListN.{length};
 ghost use Rattle.wsgs.specs.Basics.{Port};
 ghost use Rattle.wsgs.specs.Frames.{into-frame};
 ghost use Rattle.wsgs.specs.Pipelined.{slot-one, turn-one, turn-two, reloaded, turns-of, turns};
-ghost use Rattle.turns.specs.Masks.{powers, ready-mask};
-ghost use Rattle.turns.specs.Charges.{charged};
-ghost use Rattle.pipelined.specs.Turnings.{turn-runs-of, RunsFit, AskedBefore, Lookahead};
+ghost use Rattle.pipelined.specs.Turnings.{turn-runs-of, RunsFit, Lookahead};
 use super::flight::free_for;
 use super::flight::output_of;
 use super::flight::row_before;
-use turns::BITS;
 use turns::first_requests;
 use turns::first_turn;
 use turns::load_credits;
 use turns::masks::take;
+use turns::second_requests;
 use turns::second_turn;
-use words::places::place_of;
 use words::places::row_of;
 use wsgs::Input;
-use wsgs::Output;
 
-// An input's pass-one turn for the slot whose row begins at a place, where it asks for some outputs: it takes one if it has no output for the slot yet.
-// Where it asks for none the row is not read.
+// An input's pass-one turn for the slot whose row begins at a place: it takes an output if it has none for the slot yet. Where it asks for none the row is
+// not read.
 fn turn_one(
-    asked: u32,
     ports: usize,
     row: usize,
     input: Input,
@@ -34,90 +29,63 @@ fn turn_one(
     queues: &mut [u32],
     given: &mut [u32],
     flight: &mut [u32],
-) -> Output
+)
     requires few_ports { ⌜ ports ≤ 32 ⌝ }
     requires input { ⌜ Port ports (input .0) ⌝ }
     requires credits_fit { ⌜ ports * ports ≤ length (now credits) ⌝ }
     requires queues_fit { ⌜ ports * ports ≤ length (now queues) ⌝ }
     requires given_fits { ⌜ ports ≤ length (now given) ⌝ }
     requires row_fits { ⌜ row + ports ≤ length (now flight) ⌝ }
-    requires asked { ⌜ asked ≡ ready-mask (now credits) (now queues) ((input .0 - 1) * ports) ports ⌝ }
     ensures turn { λ _. ⌜ ((s : ℕ) → row ≡ s % (2 * ports) * ports
         → turn-runs-of (now (credits .exit)) (now (queues .exit)) (now (given .exit)) (now (flight .exit))
         ≡ turn-one ports s (input .0)
         (turn-runs-of (now (credits .entry)) (now (queues .entry)) (now (given .entry)) (now (flight .entry)))) ⌝ }
-    ensures output { λ r. ⌜ r .0 ≤ ports ⌝ }
-    ensures queues_exit { λ r. ⌜ now (queues .exit) ≡ charged ports (now (queues .entry)) (input .0) (r .0) ⌝ }
 {
+    let asked = first_requests(ports, input, credits, queues);
     if asked == 0 {
-        return Output(0);
+        return;
     }
     let at = row + (input.0 - 1) as usize;
     if output_of(ports, flight[at]).0 > 0 {
-        return Output(0);
+        return;
     }
     let free = free_for(ports, row, flight);
-    let output = first_turn(free, asked, ports, input, credits, queues, given);
-    if output.0 > 0 {
-        flight[at] = 100 + output.0 as u32;
+    let choice = first_turn(free, asked, ports, input, credits, queues, given);
+    if choice.output.0 > 0 {
+        flight[at] = 100 + choice.output.0 as u32;
     }
-    output
 }
 
-// What an input asks for at its pass-two turn: `waiting` is what it asked for by its queues before its pass-one turn, which took an output or none.
-// An output for which no packet is left is no longer asked for.
-fn asked_after(ports: usize, input: Input, waiting: u32, taken: Output, queues: &[u32]) -> u32
-    requires few_ports { ⌜ ports ≤ 32 ⌝ }
-    requires input { ⌜ Port ports (input .0) ⌝ }
-    requires taken { ⌜ taken .0 ≤ ports ⌝ }
-    requires queues_fit { ⌜ ports * ports ≤ length (now queues) ⌝ }
-    requires known { ⌜ AskedBefore ports (input .0) (taken .0) (now queues) waiting ⌝ }
-    ensures asked { λ r. ⌜ r ≡ ready-mask (now (queues .entry)) (now (queues .entry)) ((input .0 - 1) * ports) ports ⌝ }
-{
-    if taken.0 == 0 {
-        return waiting;
-    }
-    if queues[place_of(ports, input, taken)] > 0 {
-        return waiting;
-    }
-    take(waiting, taken)
-}
-
-// An input's pass-two turn for the slot whose row begins at a place, if it asks for some outputs and has none for the slot yet. Where it asks for none the
-// row is not read.
+// An input's pass-two turn for the slot whose row begins at a place, likewise. It often has an output by then, so that is asked first.
 fn turn_two(
     ports: usize,
     row: usize,
     input: Input,
-    waiting: u32,
-    taken: Output,
     queues: &mut [u32],
     given: &mut [u32],
     flight: &mut [u32],
 )
     requires few_ports { ⌜ ports ≤ 32 ⌝ }
     requires input { ⌜ Port ports (input .0) ⌝ }
-    requires taken { ⌜ taken .0 ≤ ports ⌝ }
     requires queues_fit { ⌜ ports * ports ≤ length (now queues) ⌝ }
     requires given_fits { ⌜ ports ≤ length (now given) ⌝ }
     requires row_fits { ⌜ row + ports ≤ length (now flight) ⌝ }
-    requires known { ⌜ AskedBefore ports (input .0) (taken .0) (now queues) waiting ⌝ }
     ensures turn { λ _. ⌜ ((s : ℕ) → row ≡ s % (2 * ports) * ports → (c : List ℕ)
         → turn-runs-of c (now (queues .exit)) (now (given .exit)) (now (flight .exit))
         ≡ turn-two ports s (input .0) (turn-runs-of c (now (queues .entry)) (now (given .entry)) (now (flight .entry)))) ⌝ }
 {
-    let asked = asked_after(ports, input, waiting, taken, queues);
-    if asked == 0 {
-        return;
-    }
     let at = row + (input.0 - 1) as usize;
     if output_of(ports, flight[at]).0 > 0 {
         return;
     }
+    let asked = second_requests(ports, input, queues);
+    if asked == 0 {
+        return;
+    }
     let free = free_for(ports, row, flight);
-    let output = second_turn(free, asked, ports, input, queues, given);
-    if output.0 > 0 {
-        flight[at] = output.0 as u32;
+    let choice = second_turn(free, asked, ports, input, queues, given);
+    if choice.output.0 > 0 {
+        flight[at] = choice.output.0 as u32;
     }
 }
 
@@ -171,7 +139,6 @@ pub fn look_ahead(ports: usize, frame: u64, time: u64) -> SlotsAhead
 // An input's part in a tick: it reloads its credits, and has its turn of each pass. It has none before the time that is its number, when its
 // slots would be below 2N + 1 and N + 1.
 fn turns_of(
-    bits: &[u32; 32],
     ports: usize,
     time: u64,
     ahead: SlotsAhead,
@@ -186,7 +153,6 @@ fn turns_of(
     requires row_one { ⌜ ahead .one < 2 * ports ⌝ }
     requires row_two { ⌜ ahead .two < 2 * ports ⌝ }
     requires input { ⌜ Port ports (input .0) ⌝ }
-    requires bits { ⌜ now bits ≡ powers 0 32 ⌝ }
     ensures turns { λ _. ⌜ ((frame : ℕ) → Lookahead ports frame time (ahead .one) (ahead .two) (ahead .into)
         → turn-runs-of (now (credits .exit)) (now (queues .exit)) (now (given .exit)) (now (flight .exit))
         ≡ turns-of ports frame (now (copy .entry)) time (input .0)
@@ -195,28 +161,9 @@ fn turns_of(
     if input.0 <= time {
         reload_row(ports, ahead.into, input, copy, credits);
         let one = row_before(ports, ahead.one, input);
-        let asked = first_requests(bits, ports, input, credits, queues);
-        let taken = turn_one(
-            asked.ready,
-            ports,
-            one,
-            input,
-            credits,
-            queues,
-            given,
-            flight,
-        );
+        turn_one(ports, one, input, credits, queues, given, flight);
         let two = row_before(ports, ahead.two, input);
-        turn_two(
-            ports,
-            two,
-            input,
-            asked.waiting,
-            taken,
-            queues,
-            given,
-            flight,
-        );
+        turn_two(ports, two, input, queues, given, flight);
     }
 }
 
@@ -239,11 +186,9 @@ pub fn all_turns(
         ≡ turns ports frame (now (copy .entry)) time
         (turn-runs-of (now (credits .entry)) (now (queues .entry)) (now (given .entry)) (now (flight .entry))) ports) ⌝ }
 {
-    let bits = BITS;
     for done in 0..ports {
         let input = Input(done as u64 + 1);
         turns_of(
-            &bits,
             ports,
             time,
             ahead,

@@ -4,5 +4,6 @@ pub mod BitLaws
 pub mod TrailingLaws
 pub mod Ready
 pub mod MaskLaws
-pub mod Choice
+pub mod Seen
+pub mod Costs
 pub mod TurnLaws

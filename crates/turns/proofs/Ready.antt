@@ -1,101 +1,109 @@
--- What an input asks for, gathered one column after the other; by the table of all bits it is the word of its ready columns, and the lowest bit
--- that such a word has in common with the free outputs, above the last given one or else of all, is the first open output in turn. Assumes nothing.
+-- What an input asks for, one column after the other: the word of its ready columns. And the search by bits: the lowest bit that such a word has in common
+-- with the free outputs, above the last given one or else of all, is the first open output in turn. Assumes nothing.
 use mathlib.Core.Path.{_≡_, refl, sym, _∙_, ap}
-use mathlib.Core.Bool.{Bool, true, false, not, _&&_, and-true}
-use mathlib.Core.Logic.{_≢_}
+use mathlib.Core.Bool.{Bool, true, false, not, _&&_, _||_, and-true, and-false}
 use mathlib.Core.List.{List}
 use Prim.Native.Nat.{ℕ, zero, suc, _+_, _-_, _*_, _/_, _%_, _^_, _≤_, _<_}
 use native.Mathlib.Decide.{decLt, decLe}
-use borrow.Author.Tests.{ne-eqb, lt-ltb}
-use native.Mathlib.Nat.{zero-div, lt-of-le-of-lt}
+use borrow.Author.Tests.{ne-eqb, lt-ltb, le-ltb}
+use native.Mathlib.Nat.{zero-div}
 use native.Mathlib.Numerals.{add-one}
 use native.Mathlib.Omega.{arith}
-use lib.Bits.{bitAnd, bitOr, and-le-l, and-shr, and-mod, and-self, and-zero-l, and-zero-r, or-shifted-r}
+use lib.Bits.{bitAnd, bitOr, and-shr, and-mod, and-self, and-zero-l, and-zero-r, or-shr, or-mod, or-shifted-r, or-add-and, and-le-l, and-le-r}
 use lib.Count.{trailingZeros}
-use lib.Dec.{T, eqb, ltb, T-not}
+use lib.Dec.{T, eqb, ltb}
 use lib.ListN.{getD}
-use mir.Val.{boolByte}
-use Rattle.wsgs.specs.Basics.{pick, bit, Port, in-turn, later}
+use Rattle.wsgs.specs.Basics.{pick, bit, Port, some-of, in-turn, later}
 use Rattle.wsgs.specs.Words.{place, word}
 use Rattle.wsgs.specs.Steps.{marked}
 use Rattle.wsgs.proofs.Laws.Tests.{both}
-use Rattle.wsgs.proofs.Laws.InTurn.{in-turn-ext, in-turn-some, in-turn-none, in-turn-lowest, in-turn-nobody, in-turn-above, in-turn-wide}
-use Rattle.wsgs.proofs.Laws.Marked.{marked-suc, marked-lt, marked-bit}
-use Rattle.turns.specs.Masks.{in-mask, all-free, powers, is-open, ready-mask}
-use Rattle.turns.specs.Requests.{both-above, gathered, requested, common-in-turn}
+use Rattle.wsgs.proofs.Laws.Some.{some-there}
+use Rattle.wsgs.proofs.Laws.InTurn.{in-turn-ext, in-turn-lowest, in-turn-nobody, in-turn-above, in-turn-wide}
+use Rattle.wsgs.proofs.Laws.Marked.{marked-suc, marked-lt, marked-bit, marked-ext, marked-none}
+use Rattle.turns.specs.Masks.{in-mask, all-free, is-open, ready-mask}
+use Rattle.turns.specs.Requests.{common-in-turn}
 use Rattle.turns.proofs.BitLaws.{bits, mask-bit}
 use Rattle.turns.proofs.MaskLaws.{free-first, past-unset}
 use Rattle.turns.proofs.TrailingLaws.{below-unset, lowest-set, lowest-within}
 
--- no column has been looked at
-pub gathered-start : (table : List ℕ) (test : ℕ → Bool) → 0 ≡ gathered table test 0
-unfolding gathered
-gathered-start table test = refl
+-- THE SWEEP of a row. The words of two runs in column k, from 0, of the row that begins at a place are both above 0
+abbrev both-above : (one two : List ℕ) (row k : ℕ) → Bool
+both-above one two row k = ltb 0 (getD one (row + k) 0) && ltb 0 (getD two (row + k) 0)
 
--- one column more
-pub gathered-next : (table : List ℕ) (test : ℕ → Bool) (n w b : ℕ) → w ≡ gathered table test n → b ≡ pick (test n) (getD table n 0) 0
-    → bitOr w b ≡ gathered table test (n + 1)
-unfolding gathered
-gathered-next table test n w b e f = rw (e, f, add-one n)
+-- the bit of a column, by two tests: an and of what each leaves
+pub column-two : (v : ℕ) (a b : Bool) (x y : ℕ) → x ≡ pick b v 0 → y ≡ pick a v 0 → bitAnd x y ≡ pick (a && b) v 0
+column-two v true true x y d e = rw (d, e) (and-self v)
+column-two v true false x y d e = rw (d, and-zero-l)
+column-two v false true x y d e = rw (e, and-zero-r)
+column-two v false false x y d e = rw (d, and-zero-l)
 
--- a word v or 0, as a test says
-module _ (v : ℕ) where
-  -- by a product, which fits a word
-  pub word-fits : (a : Bool) → v < 2 ^ 32 → boolByte a * v < 2 ^ 32
-  word-fits true h = omega arith
-  word-fits false h = omega arith
+-- and by one test, which is also the test twice
+pub column-one : (v : ℕ) (a : Bool) (x : ℕ) → x ≡ pick a v 0 → x ≡ pick (a && a) v 0
+column-one v true x e = e
+column-one v false x e = e
 
-  pub word-picked : (a : Bool) → boolByte a * v ≡ pick a v 0
-  word-picked true = omega arith
-  word-picked false = omega arith
+module _ (one two : List ℕ) (row : ℕ) where
+  -- no column has been swept
+  pub ready-start : 0 ≡ ready-mask one two row 0
+  unfolding ready-mask marked
+  ready-start = refl
 
-  -- by one test, which is also the test twice
-  pub column-one : (a : Bool) (x : ℕ) → x ≡ pick a v 0 → x ≡ pick (a && a) v 0
-  column-one true x e = e
-  column-one false x e = e
+  -- one column more, by an or with its bit
+  pub ready-next : (n w b : ℕ) → w ≡ ready-mask one two row n → b ≡ pick (both-above one two row n) (2 ^ n) 0 → bitOr w b ≡ ready-mask one two row (n + 1)
+  unfolding ready-mask
+  ready-next n w b e f =
+      let p : ℕ → Bool = λ j. both-above one two row (j - 1) in
+      let d : suc n - 1 ≡ n = omega arith in
+      rw (e, f, add-one n)
+      (ap (bitOr (marked n p)) (chosen (both-above one two row n) ∙ ap (λ z. bit (both-above one two row z) * 2 ^ n) (sym d))
+      ∙ or-shifted-r (bit (p (suc n))) n (marked n p) (marked-lt n p) ∙ sym (marked-suc n p))
+    where
+      chosen : (a : Bool) → pick a (2 ^ n) 0 ≡ bit a * 2 ^ n
+      chosen true = omega arith
+      chosen false = omega arith
 
-  -- by two tests, by an and of what each leaves
-  pub column-two : (a b : Bool) (x y : ℕ) → x ≡ pick b v 0 → y ≡ pick a v 0 → bitAnd x y ≡ pick (a && b) v 0
-  column-two true true x y d e = rw (d, e) (and-self v)
-  column-two true false x y d e = rw (d, and-zero-l)
-  column-two false true x y d e = rw (e, and-zero-r)
-  column-two false false x y d e = rw (d, and-zero-l)
+  -- by where the row begins
+  pub ready-at : (n place : ℕ) {r : ℕ} → row ≡ place → r ≡ ready-mask one two row n → r ≡ ready-mask one two place n
+  ready-at n place e h = h ∙ ap (λ z. ready-mask one two z n) e
 
--- one of m powers of 2
-power-at : (k m j : ℕ) → j < m → getD (powers k m) j 0 ≡ 2 ^ (k + j)
-unfolding powers
-power-at k zero j h = absurd (omega arith)
-power-at k (suc m) zero h = ap (λ z. 2 ^ z) (omega arith)
-power-at k (suc m) (suc j) h = power-at (suc k) m j (omega arith) ∙ ap (λ z. 2 ^ z) (omega arith)
+  -- a row of which the first run has nothing is not ready anywhere
+  pub nothing-ready : (n : ℕ) → some-of (λ j. ltb 0 (getD one (row + (j - 1)) 0)) n ≡ false → 0 ≡ ready-mask one two row n
+  unfolding ready-mask
+  nothing-ready n h = sym (marked-ext n _ (λ j. false) (λ j p. none j (ltb 0 (getD one (row + (j - 1)) 0)) (some-there _ n j p)) ∙ marked-none n)
+    where
+      none : (j : ℕ) (b : Bool) → (T b → T (some-of (λ j. ltb 0 (getD one (row + (j - 1)) 0)) n))
+          → (b && ltb 0 (getD two (row + (j - 1)) 0)) ≡ false
+      none j true f = absurd (rw h at (f tt))
+      none j false f = refl
 
--- of the table of all bits of a word
-column-bit : (table : List ℕ) (n : ℕ) → table ≡ powers 0 32 → n < 32 → getD table n 0 ≡ 2 ^ n
-column-bit table n e h = ap (λ t. getD t n 0) e ∙ power-at 0 32 n h ∙ ap (λ z. 2 ^ z) (omega arith)
-
--- one column more, by an or with its bit
-mark-next : (n : ℕ) (p : ℕ → Bool) → bitOr (marked n p) (bit (p (suc n)) * 2 ^ n) ≡ marked (suc n) p
-mark-next n p = or-shifted-r (bit (p (suc n))) n (marked n p) (marked-lt n p) ∙ sym (marked-suc n p)
-
--- by the table of all bits, the columns that pass a test are the bits of a word
-gathered-marked : (table : List ℕ) → table ≡ powers 0 32 → (test : ℕ → Bool) (n : ℕ) → n ≤ 32 → gathered table test n ≡ marked n (λ j. test (j - 1))
-unfolding gathered marked
-gathered-marked table e test zero few = refl
-gathered-marked table e test (suc n) few =
-    let d : suc n - 1 ≡ n = omega arith in
-    rw (gathered-marked table e test n (omega arith), column-bit table n e (omega arith))
-    (ap (bitOr (marked n (λ j. test (j - 1)))) (chosen (test n) ∙ ap (λ z. bit (test z) * 2 ^ n) (sym d)) ∙ mark-next n (λ j. test (j - 1)))
+-- whether a row has something, one column after the other: the or of its words so far is above 0
+or-above : (a b : ℕ) → ltb 0 (bitOr a b) ≡ (ltb 0 b || ltb 0 a)
+or-above a b = go (decLt 0 a) (decLt 0 b)
   where
-    chosen : (a : Bool) → pick a (2 ^ n) 0 ≡ bit a * 2 ^ n
-    chosen true = omega arith
-    chosen false = omega arith
+    sum-up : bitOr a b + bitAnd a b ≡ a + b
+    sum-up = or-add-and a b
 
--- so what an input asks for is the word of its ready columns
-pub requested-ready : (table : List ℕ) → table ≡ powers 0 32 → (one two : List ℕ) (n i : ℕ) → n ≤ 32
-    → requested table one two n i ≡ ready-mask one two ((i - 1) * n) n
-unfolding requested ready-mask
-requested-ready table e one two n i few = gathered-marked table e (both-above one two ((i - 1) * n)) n few
+    go : Dec (0 < a) → Dec (0 < b) → ltb 0 (bitOr a b) ≡ (ltb 0 b || ltb 0 a)
+    go u (yes l) = rw (lt-ltb 0 b l) (lt-ltb 0 (bitOr a b) (omega (arith, sum-up, and-le-l a b)))
+    go (yes l) (no m) = rw (lt-ltb 0 a l, le-ltb 0 b (omega arith)) (lt-ltb 0 (bitOr a b) (omega (arith, sum-up, and-le-r a b)))
+    go (no l) (no m) = rw (le-ltb 0 a (omega arith), le-ltb 0 b (omega arith)) (le-ltb 0 (bitOr a b) (omega (arith, sum-up)))
 
--- its bits
+module _ (run : List ℕ) (row : ℕ) where
+  abbrev above-zero : ℕ → Bool
+  above-zero j = ltb 0 (getD run (row + (j - 1)) 0)
+
+  pub none-yet : ltb 0 0 ≡ some-of above-zero 0
+  unfolding some-of
+  none-yet = refl
+
+  pub some-next : (n found word : ℕ) → ltb 0 found ≡ some-of above-zero n → word ≡ getD run (row + n) 0
+      → ltb 0 (bitOr found word) ≡ some-of above-zero (n + 1)
+  unfolding some-of
+  some-next n found word e f =
+      let d : suc n - 1 ≡ n = omega arith in
+      rw (add-one n, d) (or-above found word ∙ rw (e, f))
+
+-- THE BITS of what an input asks for
 ready-bit : (one two : List ℕ) (row n k : ℕ) → k < n → bits (ready-mask one two row n) k ≡ both-above one two row k
 unfolding ready-mask bits
 ready-bit one two row n k h =
@@ -132,7 +140,27 @@ pub common-outputs : (free asked j : ℕ) → 1 ≤ j → in-mask (bitAnd free a
 common-outputs free asked zero h = absurd (omega arith)
 common-outputs free asked (suc k) h = rw (mask-bit free k, mask-bit asked k, mask-bit (bitAnd free asked) k) (common-bit free asked k)
 
--- the lowest output of a word that is not 0 is that of its lowest bit
+-- and those of either
+either-bit : (a b k : ℕ) → bits (bitOr a b) k ≡ (bits a k || bits b k)
+unfolding bits
+either-bit a b k =
+    ap (λ v. eqb v 1) (ap (λ x. x % 2) (or-shr a b k) ∙ or-mod (a / 2 ^ k) (b / 2 ^ k) 1)
+    ∙ go (a / 2 ^ k % 2) (b / 2 ^ k % 2) (omega arith) (omega arith)
+  where
+    go : (x y : ℕ) → x < 2 → y < 2 → eqb (bitOr x y) 1 ≡ (eqb x 1 || eqb y 1)
+    go zero zero h l = refl
+    go zero (suc zero) h l = refl
+    go (suc zero) zero h l = refl
+    go (suc zero) (suc zero) h l = refl
+    go (suc (suc x)) y h l = absurd (omega arith)
+    go zero (suc (suc y)) h l = absurd (omega arith)
+    go (suc zero) (suc (suc y)) h l = absurd (omega arith)
+
+pub either-output : (a b j : ℕ) → 1 ≤ j → in-mask (bitOr a b) j ≡ (in-mask a j || in-mask b j)
+either-output a b zero h = absurd (omega arith)
+either-output a b (suc k) h = rw (mask-bit a k, mask-bit b k, mask-bit (bitOr a b) k) (either-bit a b k)
+
+-- THE SEARCH. The lowest output of a word that is not 0 is that of its lowest bit
 pub lowest-is : (w : ℕ) → 1 ≤ w → w < 2 ^ 32 → in-turn (in-mask w) 32 0 ≡ suc (trailingZeros 32 w)
 lowest-is w h fits =
     let low = lowest-within 32 w fits h in
@@ -164,46 +192,33 @@ first-of-pool w last higher pool h fits above within e = ap (λ v. suc (trailing
         let z : higher ≡ 0 = omega arith in
         rw (z, in-turn-nobody (in-mask 0) 32 0 (λ y p. unset-in-0 y (p .low)), lowest-is w h fits)
 
--- what two words have in common fits where the first does
-pub open-fits : (a b : ℕ) → a < 2 ^ 32 → bitAnd a b < 2 ^ 32
-open-fits a b h = lt-of-le-of-lt (and-le-l a b) h
+-- an empty word has none in turn
+pub none-in-turn : (w last : ℕ) → w ≡ 0 → 0 ≡ in-turn (in-mask w) 32 last
+none-in-turn w last e = sym (in-turn-nobody (in-mask w) 32 last (λ y p. rw e (unset-in-0 y (p .low))))
 
--- the outputs of n ports that two words have in common, in turn
-module _ (n : ℕ) (few : n ≤ 32) (free asked last all : ℕ) (full : all ≡ all-free n) where
-  abbrev open-word : ℕ
-  open-word = bitAnd free (bitAnd asked all)
+-- the free outputs of n ports, and those of them that are asked for
+module _ (n : ℕ) (few : n ≤ 32) (free all : ℕ) (full : all ≡ all-free n) where
+  abbrev pub outputs : ℕ
+  outputs = bitAnd free all
 
-  three : (j : ℕ) → 1 ≤ j → in-mask open-word j ≡ (in-mask free j && (in-mask asked j && in-mask all j))
-  three j h = common-outputs free (bitAnd asked all) j h ∙ ap (λ b. in-mask free j && b) (common-outputs asked all j h)
+  pub free-inside : (j : ℕ) → Port n j → in-mask outputs j ≡ in-mask free j
+  free-inside j p = common-outputs free all j (p .low) ∙ rw (free-first n all few full j p, and-true (in-mask free j))
 
-  pub open-turn : in-turn (in-mask open-word) 32 last ≡ common-in-turn free asked n last
-  open-turn =
-      in-turn-wide n 32 few (in-mask open-word) last
-      (λ y p t. inside y p (both (in-mask asked y) _ (both (in-mask free y) _ (rw (three y (p .low)) at t) .1) .1))
-      ∙ in-turn-ext _ _ n last last (λ y p. three y (p .low) ∙ rw (free-first n all few full y p, and-true (in-mask asked y))) refl
+  pub none-past : (j : ℕ) → Port 32 j → n < j → in-mask outputs j ≡ false
+  none-past j p h = common-outputs free all j (p .low) ∙ rw (past-unset n all few full j h, and-false (in-mask free j))
+
+  pub open-turn : (asked last : ℕ) → in-turn (in-mask (bitAnd outputs asked)) 32 last ≡ common-in-turn free asked n last
+  open-turn asked last =
+      in-turn-wide n 32 few (in-mask (bitAnd outputs asked)) last
+      (λ y p t. inside y p (both (in-mask outputs y) (in-mask asked y) (rw (common-outputs outputs asked y (p .low)) at t) .0))
+      ∙ in-turn-ext _ _ n last last (λ y p. common-outputs outputs asked y (p .low) ∙ ap (λ b. b && in-mask asked y) (free-inside y p)) refl
     where
-      inside : (y : ℕ) → Port 32 y → T (in-mask all y) → y ≤ n
+      inside : (y : ℕ) → Port 32 y → T (in-mask outputs y) → y ≤ n
       inside y p t = go (decLe y n)
         where
           go : Dec (y ≤ n) → y ≤ n
           go (yes h) = h
-          go (no h) = absurd (rw (past-unset n all few full y (omega arith)) at t)
-
-  -- none where they have none
-  pub none-open : open-word ≡ 0 → 0 ≡ common-in-turn free asked n last
-  none-open e = sym (sym open-turn ∙ in-turn-nobody _ 32 last (λ y p. rw e (unset-in-0 y (p .low))))
-
-  -- and else one
-  pub some-open : (r : ℕ) → open-word ≢ 0 → open-word < 2 ^ 32 → r ≡ in-turn (in-mask open-word) 32 last → Port n r
-  some-open r h fits e = in-turn-some _ n last r (e ∙ open-turn) (go (decLt 0 r)) .0
-    where
-      go : Dec (0 < r) → 1 ≤ r
-      go (yes s) = s
-      go (no s) =
-          let low = lowest-within 32 open-word fits (omega (arith, h)) in
-          absurd (T-not (in-mask open-word (suc (trailingZeros 32 open-word)))
-          (in-turn-none _ 32 last r (suc (trailingZeros 32 open-word)) e (omega arith) (omega (arith, low)))
-          (rw (mask-bit open-word (trailingZeros 32 open-word), lowest-set 32 open-word low) tt))
+          go (no h) = absurd (rw (none-past y p (omega arith)) at t)
 
 -- where the second word has the ready columns of input i, what they have in common is open to it
 module _ (n free : ℕ) (one two : List ℕ) (i w : ℕ) (is : w ≡ ready-mask one two ((i - 1) * n) n) where

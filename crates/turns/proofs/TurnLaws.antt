@@ -1,5 +1,5 @@
--- When an input has a turn; and, where it has one, what it asks for by the table of all bits, and what it takes: the first in turn of the outputs that are
--- open to it. Assumes nothing.
+-- When an input has a turn; and, where it has one, what it asks for, and what it takes: the first in turn of the outputs that are open to it. Assumes
+-- nothing.
 use mathlib.Core.Path.{_≡_, refl, sym, _∙_, ap}
 use mathlib.Core.Bool.{Bool, true, false, not, _&&_, and-false}
 use mathlib.Core.List.{List}
@@ -11,12 +11,12 @@ use lib.ListN.{length}
 use Rattle.wsgs.specs.Basics.{pick, Port, in-turn}
 use Rattle.wsgs.specs.Words.{port-word}
 use Rattle.wsgs.proofs.Laws.Tests.{both, holds}
-use Rattle.wsgs.proofs.Laws.InTurn.{in-turn-some, in-turn-nobody}
+use Rattle.wsgs.proofs.Laws.InTurn.{in-turn-some}
 use Rattle.words.specs.Places.{is-port, row-of}
 use Rattle.words.proofs.PlaceLaws.{known, port-passes, row-is}
-use Rattle.turns.specs.Masks.{in-mask, powers, is-open, ready-mask}
-use Rattle.turns.specs.Requests.{has-turn, Turn, Asked, both-above, gathered, requested, first-ready, first-waiting, common-in-turn, first-output, second-output}
-use Rattle.turns.proofs.Ready.{unset-in-0, requested-ready, requested-in-turn}
+use Rattle.turns.specs.Masks.{is-open, ready-mask}
+use Rattle.turns.specs.Requests.{has-turn, Turn, first-requested, second-requested, common-in-turn, first-output, second-output}
+use Rattle.turns.proofs.Ready.{requested-in-turn}
 
 -- THE QUESTION for a turn of input i of n ports, on a run of so many words
 module _ (n i words : ℕ) where
@@ -69,21 +69,13 @@ first-no b p = rw p
 pub second-no : (a : Bool) {b : Bool} → b ≡ false → (a && b) ≡ false
 second-no a q = rw (q, and-false a)
 
--- what input i asks for, by where its row begins
-pub requested-at : (table one two : List ℕ) (n i row w : ℕ) → row ≡ (i - 1) * n → w ≡ gathered table (both-above one two row) n
-    → w ≡ requested table one two n i
-unfolding requested
-requested-at table one two n i row w d e = e ∙ ap (λ z. gathered table (both-above one two z) n) d
+-- WHAT AN INPUT ASKS FOR where it has a turn
+pub first-asks : (n i : ℕ) (credits queues : List ℕ) → Turn n i credits → Turn n i queues → (r : ℕ) → r ≡ first-requested n i credits queues
+    → r ≡ ready-mask credits queues ((i - 1) * n) n
+first-asks n i credits queues paid sent r e = e ∙ rw (both-yes (is-due n i credits paid) (is-due n i queues sent))
 
--- WHAT AN INPUT ASKS FOR where it has a turn, by the table of all bits
-pub first-tells : (n i : ℕ) (table : List ℕ) → table ≡ powers 0 32 → (credits queues : List ℕ) → Turn n i credits → Turn n i queues → (r w : ℕ)
-    → r ≡ first-ready table n i credits queues → w ≡ first-waiting table n i credits queues → Asked n i credits queues r w
-first-tells n i table all credits queues paid sent r w d e =
-    let due : (has-turn n i (length credits) && has-turn n i (length queues)) ≡ true = both-yes (is-due n i credits paid) (is-due n i queues sent) in
-    record {
-      both = d ∙ rw due (requested-ready table all credits queues n i (sent .few));
-      packets = e ∙ rw due (requested-ready table all queues queues n i (sent .few));
-    }
+pub second-asks : (n i : ℕ) (queues : List ℕ) → Turn n i queues → (r : ℕ) → r ≡ second-requested n i queues → r ≡ ready-mask queues queues ((i - 1) * n) n
+second-asks n i queues sent r e = e ∙ rw (is-due n i queues sent)
 
 -- WHAT A TURN of input i takes, where it has one and asks for the ready columns
 module _ (n i : ℕ) (queues given : List ℕ) (sent : Turn n i queues) (known : n ≤ length given) where
@@ -105,15 +97,3 @@ second-port free asked n i queues given r e h = go (has-turn n i (length queues)
     go : (b : Bool) → r ≡ pick b (common-in-turn free asked n (port-word given i)) 0 → Port n r
     go true d = in-turn-some _ n (port-word given i) r d h .0
     go false d = absurd (omega arith)
-
--- one that asks for nothing takes none
-pub second-nothing : (free n i : ℕ) (queues given : List ℕ) → second-output free 0 n i queues given ≡ 0
-second-nothing free n i queues given = go (has-turn n i (length queues) && leb n (length given))
-  where
-    none : (j : ℕ) (b : Bool) → T (not (in-mask 0 j)) → T (not (b && in-mask 0 j))
-    none j true h = h
-    none j false h = tt
-
-    go : (b : Bool) → pick b (common-in-turn free 0 n (port-word given i)) 0 ≡ 0
-    go true = in-turn-nobody _ n (port-word given i) (λ j p. none j (in-mask free j) (unset-in-0 j (p .low)))
-    go false = refl

@@ -1,7 +1,7 @@
--- A set of outputs as one word, bit j - 1 for output j; the powers of 2; and the outputs that are open to an input. Assumes nothing.
+-- A set of outputs as one word, bit j - 1 for output j; and the outputs that are open to an input. Assumes nothing.
 use mathlib.Core.Bool.{Bool, _&&_}
-use mathlib.Core.List.{List, [], _∷_}
-use Prim.Native.Nat.{ℕ, zero, suc, _+_, _-_, _/_, _%_, _^_, min}
+use mathlib.Core.List.{List}
+use Prim.Native.Nat.{ℕ, _+_, _-_, _/_, _%_, _^_, min}
 use lib.Dec.{eqb, ltb}
 use lib.ListN.{getD}
 use Rattle.wsgs.specs.Basics.{pick, between}
@@ -25,11 +25,6 @@ without free j = pick (is-free free j) (free - 2 ^ (j - 1)) free
 -- the set of all outputs 1..n, of which a word has 32
 unfoldable pub all-free : ℕ → ℕ
 all-free n = 2 ^ min n 32 - 1
-
--- the m powers of 2 from the k-th on
-unfoldable pub powers : ℕ → ℕ → List ℕ
-powers k zero = []
-powers k (suc m) = 2 ^ k ∷ powers (suc k) m
 
 -- output j is free, and the words of the pair (i, j) in two runs are above 0
 unfoldable pub is-open : ℕ → ℕ → List ℕ → List ℕ → ℕ → ℕ → Bool

@@ -1,12 +1,16 @@
--- `turns::first_requests` meets its contract: where the input has a turn, the sweep gives the outputs by which it goes. Assumes nothing.
-use mathlib.Core.Path.{_≡_}
+-- `turns::first_requests` meets its contract: where the input has a turn and a credit, the sweep gives what it asks for. Assumes nothing.
+use Prim.Native.Nat.{ℕ}
+use mathlib.Core.Path.{_≡_, sym, _∙_}
 use mathlib.Core.Bool.{false, _&&_}
 use mathlib.Core.Logic.{inl, inr}
 use native.Mathlib.Omega.{arith}
 use borrow.Author.Needs.{needs}
+use borrow.Author.Tests.{not-true}
 use lib.ListN.{length}
-use Rattle.turns.specs.Requests.{has-turn, Turn, first-ready, first-waiting}
-use Rattle.turns.proofs.TurnLaws.{due, is-due, not-due, row-there, with-turn, without-turn, both-yes, first-no, second-no, requested-at, first-tells}
+use Rattle.turns.specs.Masks.{ready-mask}
+use Rattle.turns.specs.Requests.{has-turn, Turn, first-requested}
+use Rattle.turns.proofs.Ready.{ready-at, nothing-ready}
+use Rattle.turns.proofs.TurnLaws.{due, is-due, not-due, row-there, with-turn, without-turn, both-yes, first-no, second-no}
 use Rattle.turns.proofs.first_requests.Statement.{statement}
 use Rattle.turns.proofs.first_requests.Tie as tie
 
@@ -20,22 +24,14 @@ by-credits c = let e = c .before .before in due _ _ _ (e .before .has-turn .ensu
 by-queues : (c : tie.Else2) → let a = start c .args in Turn (a .ports) (a .input .0) (a .queues .now)
 by-queues c = due _ _ _ (c .before .has-turn2 .ensures) (c .if2 .left)
 
--- what the sweep gives
-ready : (q : tie.After-requests-of) → let a = start (q .before .before) .args in
-    q .requests-of .result .ready ≡ first-ready (a .bits .now) (a .ports) (a .input .0) (a .credits .now) (a .queues .now)
-ready q =
-    let w = q .before in
+-- what the row that it has gives is what it asks for
+asked : (w : tie.After-row-of) (r : ℕ) → let a = start (w .before) .args in
+    r ≡ ready-mask (a .credits .now) (a .queues .now) (w .row-of .result) (a .ports)
+    → r ≡ first-requested (a .ports) (a .input .0) (a .credits .now) (a .queues .now)
+asked w r h =
     let e = w .before in
     with-turn (both-yes (is-due _ _ _ (by-credits e)) (is-due _ _ _ (by-queues e)))
-    (requested-at _ _ _ _ (start e .args .input .0) _ _ (row-there _ _ _ (by-queues e) _ (w .row-of .ensures .0)) (q .requests-of .ensures .0))
-
-waiting : (q : tie.After-requests-of) → let a = start (q .before .before) .args in
-    q .requests-of .result .waiting ≡ first-waiting (a .bits .now) (a .ports) (a .input .0) (a .credits .now) (a .queues .now)
-waiting q =
-    let w = q .before in
-    let e = w .before in
-    with-turn (both-yes (is-due _ _ _ (by-credits e)) (is-due _ _ _ (by-queues e)))
-    (requested-at _ _ _ _ (start e .args .input .0) _ _ (row-there _ _ _ (by-queues e) _ (w .row-of .ensures .0)) (q .requests-of .ensures .1))
+    (ready-at _ _ _ _ _ (row-there _ _ _ (by-queues e) _ (w .row-of .ensures .0)) h)
 
 has-turn-requires : tie.Need-has-turn-requires
 has-turn-requires c κs = search needs
@@ -54,23 +50,29 @@ none c =
     ]
 
 returns : tie.Need-returns
-returns c =
-    let e = without-turn _ (none c) in
-    let w = without-turn _ (none c) in
-    (e, (w, λ all paid sent. first-tells _ _ _ all _ _ paid sent _ _ e w))
+returns c = without-turn _ (none c)
 
 row-of-requires : tie.Need-row-of-requires
 row-of-requires c κs = search needs
 
-requests-of-requires : tie.Need-requests-of-requires
-requests-of-requires c κs =
-    let w = c in
+has-credit-requires : tie.Need-has-credit-requires
+has-credit-requires c κs = omega (arith, c .row-of .ensures .1, by-credits (c .before) .long)
+
+-- it has no credit
+returns-2 : tie.Need-returns-2
+returns-2 c =
+    let k = c .before in
+    asked (k .before) 0 (nothing-ready _ _ _ _ (sym (k .has-credit .ensures) ∙ not-true _ (c .if3 .taken)))
+
+ready-in-requires : tie.Need-ready-in-requires
+ready-in-requires c κs =
+    let w = c .before .before in
     let d = by-queues (w .before) in
     let inside = w .row-of .ensures .1 in
     (d .few, (omega (arith, inside, by-credits (w .before) .long), omega (arith, inside, d .long)))
 
-returns-2 : tie.Need-returns-2
-returns-2 c = (ready c, (waiting c, λ all paid sent. first-tells _ _ _ all _ _ paid sent _ _ (ready c) (waiting c)))
+returns-3 : tie.Need-returns-3
+returns-3 c = asked (c .before .before .before) _ (c .ready-in .ensures)
 
 pub first-requests-spec : {M : Type 1} → statement M
 first-requests-spec =
@@ -80,5 +82,7 @@ first-requests-spec =
     has-turn-requires-2
     returns
     row-of-requires
-    requests-of-requires
-    returns-2)
+    has-credit-requires
+    returns-2
+    ready-in-requires
+    returns-3)

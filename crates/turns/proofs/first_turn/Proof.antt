@@ -2,9 +2,9 @@
 use mathlib.Core.Path.{_≡_, sym, _∙_}
 use native.Mathlib.Omega.{arith}
 use borrow.Author.Needs.{needs}
-use Rattle.turns.specs.Requests.{has-turn, Turn, first-output}
-use Rattle.turns.proofs.Choice.{charged-some, charged-none, noted-none}
-use Rattle.turns.proofs.TurnLaws.{due, is-due, not-due, with-turn, without-turn, second-port, first-takes}
+use Rattle.turns.specs.Requests.{Turn, first-output, first-looks}
+use Rattle.turns.proofs.Costs.{charged-some, charged-none, noted-none}
+use Rattle.turns.proofs.TurnLaws.{due, is-due, not-due, with-turn, without-turn, second-port}
 use Rattle.turns.proofs.first_turn.Statement.{statement}
 use Rattle.turns.proofs.first_turn.Tie as tie
 
@@ -18,10 +18,14 @@ allowed c = due _ _ _ (c .before .has-turn .ensures) (c .if1 .left)
 abbrev asked : tie.After-second-turn → tie.Else1
 asked o = o .before .before .before
 
--- the output that is found
+-- what is found, and at how many outputs it has looked
 found : (o : tie.After-second-turn) → let a = start (asked o .before) .args in
-    o .second-turn .result .0 ≡ first-output (a .free) (a .asked) (a .ports) (a .input .0) (a .credits .now) (a .queues .now) (a .given .now)
+    o .second-turn .result .output .0 ≡ first-output (a .free) (a .asked) (a .ports) (a .input .0) (a .credits .now) (a .queues .now) (a .given .now)
 found o = with-turn (is-due _ _ _ (allowed (asked o))) (o .second-turn .ensures .0)
+
+counted : (o : tie.After-second-turn) → let a = start (asked o .before) .args in
+    o .second-turn .result .looks ≡ first-looks (a .free) (a .asked) (a .ports) (a .input .0) (a .credits .now) (a .queues .now) (a .given .now)
+counted o = with-turn (is-due _ _ _ (allowed (asked o))) (o .second-turn .ensures .1 .0)
 
 abbrev turned : tie.After-struct-known → tie.After-second-turn
 turned s = s .before .before .before .before .before
@@ -31,8 +35,13 @@ has-turn-requires c κs = search needs
 
 returns : tie.Need-returns
 returns c =
-    let e = without-turn _ (not-due _ _ _ (c .before .has-turn .ensures) (c .if1 .taken)) in
-    (e, (sym (charged-none _ _ _ _ (omega arith)), (sym (charged-none _ _ _ _ (omega arith)), (sym (noted-none _ _ _ (omega arith)), λ is paid sent known. first-takes _ _ _ _ sent known _ paid _ is _ _ e))))
+    let none = not-due _ _ _ (c .before .has-turn .ensures) (c .if1 .taken) in (
+      without-turn _ none,
+      (
+        without-turn _ none,
+        (sym (charged-none _ _ _ _ (omega arith)), (sym (charged-none _ _ _ _ (omega arith)), sym (noted-none _ _ _ (omega arith)))),
+      ),
+    )
 
 second-turn-requires : tie.Need-second-turn-requires
 second-turn-requires c κs = search needs
@@ -60,13 +69,7 @@ returns-2 c =
     let p = c .before .before in
     let t = p .before .before in
     let o = turned (t .before) in
-    let q = o .second-turn .ensures .1 in (
-      found o,
-      (
-        p .spend-credit .ensures ∙ sym (charged-some _ _ _ _ (t .if2 .taken)),
-        (q .0, (q .1 .0, λ is paid sent known. first-takes _ _ _ _ sent known _ paid _ is _ _ (found o))),
-      ),
-    )
+    (found o, (counted o, (p .spend-credit .ensures ∙ sym (charged-some _ _ _ _ (t .if2 .taken)), o .second-turn .ensures .1 .1)))
 
 same-length-4 : tie.Need-same-length-4
 same-length-4 c = search needs
@@ -77,13 +80,7 @@ same-length-5 c = search needs
 returns-3 : tie.Need-returns-3
 returns-3 c =
     let o = turned (c .before) in
-    let q = o .second-turn .ensures .1 in (
-      found o,
-      (
-        sym (charged-none _ _ _ _ (c .if2 .left)),
-        (q .0, (q .1 .0, λ is paid sent known. first-takes _ _ _ _ sent known _ paid _ is _ _ (found o))),
-      ),
-    )
+    (found o, (counted o, (sym (charged-none _ _ _ _ (c .if2 .left)), o .second-turn .ensures .1 .1)))
 
 pub first-turn-spec : {M : Type 1} → statement M
 first-turn-spec =

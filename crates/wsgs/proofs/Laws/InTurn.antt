@@ -40,7 +40,7 @@ next-port n x h = go (decLt x n)
     go (no l) = rw (next-wraps n x (omega arith)) (omega arith)
 
 -- told from the next one on, each but k itself comes one earlier
-ahead-next : (n k y : ℕ) → Port n k → Port n y → y ≢ k → ahead n k y ≡ suc (ahead n (next n k) y)
+pub ahead-next : (n k y : ℕ) → Port n k → Port n y → y ≢ k → ahead n k y ≡ suc (ahead n (next n k) y)
 ahead-next n k y pk py d = go (decLt k n) (decLe k y)
   where
     go : Dec (k < n) → Dec (k ≤ y) → ahead n k y ≡ suc (ahead n (next n k) y)
@@ -50,7 +50,7 @@ ahead-next n k y pk py d = go (decLt k n) (decLe k y)
     go (no l) (no h) = rw (next-wraps n k (omega arith), ahead-below n k y (omega arith), ahead-from n 1 y (py .low)) (omega arith)
 
 -- k itself is the first, and no two are told at the same place, of which there are n
-ahead-own : (n k : ℕ) → ahead n k k ≡ 0
+pub ahead-own : (n k : ℕ) → ahead n k k ≡ 0
 ahead-own n k = ahead-from n k k (omega arith) ∙ omega arith
 
 module _ (n k x y : ℕ) (pk : Port n k) (px : Port n x) (py : Port n y) where
@@ -100,13 +100,13 @@ ahead-within n k y pk py = go (decLe k y)
     go (no h) = omega (arith, ahead-below n k y (omega arith))
 
 -- THE SEARCH. v is 0 and none of the first m from k on passes the test, or v is the first of them that does
-abbrev Found : (ℕ → Bool) → (n k m v : ℕ) → Type 0
+abbrev pub Found : (ℕ → Bool) → (n k m v : ℕ) → Type 0
 Found p n k m v =
     ((v ≡ 0) × ((y : ℕ) → Port n y → ahead n k y < m → T (not (p y))))
     ⊎ (Port n v × (ahead n k v < m) × T (p v) × ((y : ℕ) → Port n y → ahead n k y < ahead n k v → T (not (p y))))
 
 -- so it is with `first-from`
-first-is : (p : ℕ → Bool) (n k m : ℕ) → Port n k → Found p n k m (first-from p n k m)
+pub first-is : (p : ℕ → Bool) (n k m : ℕ) → Port n k → Found p n k m (first-from p n k m)
 unfolding first-from
 first-is p n k zero pk = inl (refl, λ y q h. absurd (omega arith))
 first-is p n k (suc m) pk = go (p k) refl (first-is p n (next n k) m (next-port n k (omega arith)))

@@ -7,7 +7,7 @@ use Rattle.wsgs.specs.Basics.{in-turn}
 use Rattle.wsgs.specs.Words.{port-word}
 use Rattle.wsgs.proofs.Laws.InTurn.{in-turn-some}
 use Rattle.turns.specs.Masks.{is-open}
-use Rattle.turns.proofs.Choice.{charged-none}
+use Rattle.turns.proofs.Costs.{charged-none}
 use Rattle.pipelined.proofs.PipelinedTurns.{turn-one-unasked, turn-one-held, turn-one-some, turn-one-none}
 use Rattle.pipelined.proofs.pipeline_turns.turn_one.Statement.{statement}
 use Rattle.pipelined.proofs.pipeline_turns.turn_one.Tie as tie

@@ -1,10 +1,10 @@
--- `search::has_turn` meets its contract: an input that is no port has no turn, and else the run's length decides. Assumes nothing.
+-- `sweep::has_turn` meets its contract: an input that is no port has no turn, and else the run's length decides. Assumes nothing.
 use native.Mathlib.Omega.{arith}
 use borrow.Author.Needs.{needs}
 use Rattle.words.proofs.PlaceLaws.{IsPort, known, unknown, product-fits}
 use Rattle.turns.proofs.TurnLaws.{no-turn, run-decides}
-use Rattle.turns.proofs.search.has_turn.Statement.{statement}
-use Rattle.turns.proofs.search.has_turn.Tie as tie
+use Rattle.turns.proofs.sweep.has_turn.Statement.{statement}
+use Rattle.turns.proofs.sweep.has_turn.Tie as tie
 
 -- what is known where the input is a port
 port : (c : tie.Else1) → let a = c .before .before .args in IsPort (a .ports) (a .input .0)
