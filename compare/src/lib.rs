@@ -4,6 +4,7 @@ use second::Rules;
 
 pub mod calls;
 pub mod tally;
+pub mod turn_calls;
 pub mod turns;
 
 /// The rules in force: the file LEVEL at the repository's root holds the level.

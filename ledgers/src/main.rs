@@ -11,6 +11,7 @@
 //! - `headroom I J REFUSAL NUMBER`: every pair after the last call, and two that the switch has not;
 //! - `preview OPERATION I J AMOUNT REFUSAL ROW COLUMN`: ten operations after the last call, of every kind.
 
+use ledgers::Random;
 use second::book::Preview;
 use second::ledger::{Claim, Ledger};
 use second::switch::{used, EVERY_RUN, MAX_FRAME, MAX_LINE_RATE, MAX_PACKETS, MAX_PORTS, MAX_QUEUE};
@@ -20,37 +21,6 @@ use std::fmt;
 /// Small, since a checker has to compute with them.
 const MOST_PORTS: u64 = 3;
 const LONGEST_FRAME: u64 = 7;
-
-/// Random numbers: splitmix64 from a seed.
-struct Random(u64);
-
-impl Random {
-    fn next(&mut self) -> u64 {
-        self.0 = self.0.wrapping_add(0x9E37_79B9_7F4A_7C15);
-        let mut z = self.0;
-        z = (z ^ (z >> 30)).wrapping_mul(0xBF58_476D_1CE4_E5B9);
-        z = (z ^ (z >> 27)).wrapping_mul(0x94D0_49BB_1331_11EB);
-        z ^ (z >> 31)
-    }
-
-    /// A number from low to high.
-    fn within(&mut self, low: u64, high: u64) -> u64 {
-        low + self.next() % (high - low + 1)
-    }
-
-    fn one_in(&mut self, n: u64) -> bool {
-        self.within(1, n) == 1
-    }
-
-    fn of<T: Copy>(&mut self, choices: &[T]) -> T {
-        choices[self.within(0, choices.len() as u64 - 1) as usize]
-    }
-
-    /// Other numbers: what a level adds is drawn from these, so that what is drawn after it stays that of the level before.
-    fn apart(&self) -> Random {
-        Random(!self.0)
-    }
-}
 
 /// The operations on the book, named as crates/wsgs/specs/Preview.antt names them.
 #[derive(Clone, Copy)]

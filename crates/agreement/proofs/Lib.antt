@@ -1,3 +1,4 @@
--- One computed theorem for each seed.
+-- Computed theorems, from what the second program says today.
 pub mod Seeds
 pub mod Ledgers
+pub mod Looks

@@ -3,28 +3,26 @@
 use mathlib.Core.Path.{_≡_, refl, sym, _∙_, ap, fun-ext}
 use mathlib.Core.Bool.{Bool, true, false, not, _&&_, and-self}
 use mathlib.Core.List.{List}
-use Prim.Native.Nat.{ℕ, zero, suc, _-_, _*_, _^_, _≤_, _<_}
+use mathlib.Core.Logic.{_≢_}
+use Prim.Native.Nat.{ℕ, zero, suc, _*_, _^_, _≤_, _<_}
 use native.Mathlib.Decide.{ℕ-discrete}
 use native.Mathlib.Omega.{arith}
-use borrow.Author.Count.{below-more}
-use borrow.Author.Tests.{lt-ltb, ltb-false}
+use borrow.Author.Tests.{lt-ltb, le-ltb}
 use lib.Bits.{bitOr}
 use lib.Dec.{eqb, ltb}
 use lib.ListN.{length, getD, set, replicate}
-use lib.Seq.{getD-set-same, getD-set-other}
 use Rattle.wsgs.specs.Basics.{pick, Port, in-turn, updated}
-use Rattle.wsgs.specs.Words.{place, word, port-word}
+use Rattle.wsgs.specs.Words.{word, port-word}
 use Rattle.wsgs.specs.Steps.{taken, pass-one, pass-two, marked}
 use Rattle.wsgs.specs.Direct.{spent}
 use Rattle.wsgs.proofs.Laws.Tests.{updated-at, updated-other}
 use Rattle.wsgs.proofs.Laws.InTurn.{in-turn-ext, in-turn-some}
 use Rattle.wsgs.proofs.Steps.{two-untouched}
+use Rattle.wsgs.proofs.Laws.Listed.{listed-at}
 use Rattle.wsgs.proofs.Laws.Marked.{marked-none, marked-ext, marked-set}
-use Rattle.turns.specs.Masks.{in-mask, without, is-open, ready-mask}
-use Rattle.turns.specs.Requests.{second-output}
+use Rattle.turns.specs.Masks.{in-mask, without, is-open}
 use Rattle.turns.specs.Charges.{charged, noted}
-use Rattle.direct.specs.Passes.{PassState, LeftOver}
-use Rattle.turns.proofs.TurnLaws.{second-nothing}
+use Rattle.direct.specs.Passes.{PassState}
 use Rattle.turns.proofs.Costs.{charged-some, charged-none, noted-some, noted-none}
 use Rattle.direct.proofs.PassStates.{taken-short, held-none, held-more}
 use Rattle.direct.proofs.Spent.{spent-length, spent-none, spent-row, spent-more}
@@ -61,30 +59,6 @@ module _ (n : ℕ) (start other before : List ℕ) (f : ℕ → ℕ) (free : ℕ
   pub first-is : in-turn (is-open n free one queues k) n (port-word given k)
       ≡ in-turn (λ j. not (taken f n j) && (ltb 0 (word n other k j) && ltb 0 (word n start k j))) n (port-word before k)
   first-is = in-turn-ext _ _ n _ _ open-is (ap (λ g. port-word g k) (h .gifts) ∙ regiven-own before f k n (pk .low) none)
-
--- where input k holds none, the outputs for which it has packets are those at the start
-row-waiting : (n : ℕ) (start before : List ℕ) (f : ℕ → ℕ) (free : ℕ) (outputs queues given : List ℕ)
-    → PassState n start before f free outputs queues given
-    → n * n ≤ length queues → (x k : ℕ) → k ≡ suc x → x < n → f k ≡ 0
-    → ready-mask queues queues ((k - 1) * n) n ≡ ready-mask start start (x * n) n
-unfolding ready-mask word place
-row-waiting n start before f free outputs queues given h enough x k next l none =
-    let m : n * n ≤ length start = rw (h .cost, spent-length n start f n) at enough in
-    let row : k - 1 ≡ x = omega arith in
-    marked-ext n _ _ (λ j p. ap (λ v. ltb 0 v && ltb 0 v) (same m j p)) ∙ ap (λ z. ready-mask start start (z * n) n) row
-  where
-    same : n * n ≤ length start → (j : ℕ) → Port n j → word n queues k j ≡ word n start k j
-    same m j p = ap (λ q. word n q k j) (h .cost) ∙ spent-row n start m f (h .bound) k j (omega arith) p none
-
--- what is left over for pass two is known of one row more, whose input gets output r, or none
-left-next : (n : ℕ) (start left : List ℕ) (f : ℕ → ℕ) (x r w : ℕ) → x < length left → LeftOver n x f start left
-    → w ≡ pick (ltb 0 r) 0 (ready-mask start start (x * n) n) → LeftOver n (suc x) (updated f (suc x) r) start (set left x w)
-left-next n start left f x r w l known e k u =
-    below-more (λ k. getD (set left x w) k 0 ≡ pick (ltb 0 (updated f (suc x) r (suc k))) 0 (ready-mask start start (k * n) n)) x
-    (λ k u. getD-set-other left x k w 0 (λ d. absurd (omega arith)) ∙ known k u
-    ∙ ap (λ v. pick (ltb 0 v) 0 (ready-mask start start (k * n) n)) (sym (updated-other f (suc x) (suc k) r (omega arith))))
-    (getD-set-same left x w 0 l ∙ e ∙ ap (λ v. pick (ltb 0 v) 0 (ready-mask start start (x * n) n)) (sym (updated-at f (suc x) (suc x) r refl)))
-    k (omega arith)
 
 -- PASS ONE: what the inputs hold, with the credits that they have spent and the word of those that hold an output
 pub record PassOneState (n : ℕ) (other start words : List ℕ) (f : ℕ → ℕ) (free first : ℕ) (outputs credits queues given : List ℕ) : Type 0 where
@@ -129,24 +103,6 @@ module _ (n : ℕ) (few : n ≤ 32) (other start words : List ℕ) where
     one-next : before k ≡ updated (before x) k r
     one-next = rw next (at-turn (rw next at found))
 
-    -- what is left over for pass two
-    abbrev left-by : (y : ℕ) (left : List ℕ) → Type 0
-    left-by y left = LeftOver n y (before y) start left
-
-    left-more : (left : List ℕ) → x < length left → left-by x left → (w : ℕ) → w ≡ pick (ltb 0 r) 0 (ready-mask start start (x * n) n) → left-by k (set left x w)
-    left-more left u known w e = rw (one-next, next) (left-next n start left (before x) x r w u known e)
-
-    -- where it takes none, the outputs for which it has packets
-    pub one-left : r ≡ 0 → (left : List ℕ) → x < length left → left-by x left → (w : ℕ) → w ≡ ready-mask queues queues ((k - 1) * n) n → left-by k (set left x w)
-    one-left z left u known w e =
-        left-more left u known w
-        (e ∙ row-waiting n start words (before x) free outputs queues given (h .held) enough x k next l free-yet
-        ∙ ap (λ v. pick (ltb 0 v) 0 (ready-mask start start (x * n) n)) (sym z))
-
-    -- and nothing where it takes one
-    pub none-left : 1 ≤ r → (left : List ℕ) → x < length left → left-by x left → left-by k (set left x 0)
-    none-left p left u known = left-more left u known 0 (ap (λ b. pick b 0 (ready-mask start start (x * n) n)) (sym (lt-ltb 0 r p)))
-
     -- it takes none
     pub one-none : r ≡ 0 → (credits′ queues′ given′ : List ℕ) → credits′ ≡ charged n credits k r → queues′ ≡ charged n queues k r
         → given′ ≡ noted given k r → PassOneState n other start words (before k) free first outputs credits′ queues′ given′
@@ -181,62 +137,50 @@ module _ (n : ℕ) (few : n ≤ 32) (start words : List ℕ) (one : ℕ → ℕ)
     held-yet : after x (suc x) ≡ one (suc x)
     held-yet = two-untouched n (word n start) (port-word words) one x (suc x) (omega arith)
 
+    -- which stands in the list
+    listed-yet : x < n → getD outputs x 0 ≡ one (suc x)
+    listed-yet l = ap (λ o. getD o x 0) (h .list) ∙ listed-at 32 (after x) x (omega arith) ∙ held-yet
+
     stay : ltb 0 (one (suc x)) ≡ true → after (suc x) ≡ after x
     unfolding pass-two
     stay e = rw e (updated-same (after x) (suc x) (one (suc x)) held-yet)
 
-    -- it was not served by pass one, and holds none
-    none-yet : ltb 0 (one (suc x)) ≡ false → after x (suc x) ≡ 0
-    none-yet idle = held-yet ∙ omega (arith, ltb-false 0 (one (suc x)) idle)
+    -- where pass one served it, it has no turn
+    pub two-served : x < n → getD outputs x 0 ≢ 0 → PassState n start words (after k) free outputs queues given
+    two-served l d = rw (next, stay (lt-ltb 0 (one (suc x)) (omega (arith, listed-yet l, d)))) h
 
-    -- its turn, in which it asks for what is left over for it
-    module _ (l : x < n) (enough : n * n ≤ length queues) (asked : ℕ) (left : asked ≡ pick (ltb 0 (one (suc x))) 0 (ready-mask start start (x * n) n)) (r : ℕ)
-        (answer : r ≡ second-output free asked n k queues given)
-        (takes : asked ≡ ready-mask queues queues ((k - 1) * n) n → r ≡ in-turn (is-open n free queues queues k) n (port-word given k)) where
-      -- where pass one served it, it takes none
-      served-none : ltb 0 (one (suc x)) ≡ true → r ≡ 0
-      served-none e =
-          answer ∙ ap (λ w. second-output free w n k queues given) (left ∙ ap (λ b. pick b 0 (ready-mask start start (x * n) n)) e)
-          ∙ second-nothing free n k queues given
+    -- else it holds none at its turn, and takes what the search finds
+    module _ (l : x < n) (enough : n * n ≤ length queues) (none : getD outputs x 0 ≡ 0) (r : ℕ)
+        (found : r ≡ in-turn (is-open n free queues queues k) n (port-word given k)) where
+      idle : ltb 0 (one (suc x)) ≡ false
+      idle = le-ltb 0 (one (suc x)) (omega (arith, listed-yet l))
 
-      module _ (idle : ltb 0 (one (suc x)) ≡ false) where
-        -- else it takes what the search finds
-        found : r ≡ in-turn (is-open n free queues queues k) n (port-word given k)
-        found =
-            takes
-            (left ∙ ap (λ b. pick b 0 (ready-mask start start (x * n) n)) idle
-            ∙ sym (row-waiting n start words (after x) free outputs queues given h enough x k next l (ap (after x) next ∙ none-yet idle)))
+      none-yet : after x (suc x) ≡ 0
+      none-yet = held-yet ∙ sym (listed-yet l) ∙ none
 
-        next-turn : r ≡ in-turn (is-open n free queues queues (suc x)) n (port-word given (suc x)) → after (suc x) ≡ updated (after x) (suc x) r
-        unfolding pass-two
-        next-turn e =
-            rw idle
-            (ap (updated (after x) (suc x))
-            (sym (e
-            ∙ first-is n start start words (after x) free outputs queues given queues h (h .cost) enough enough (suc x) (omega arith) (none-yet idle)
-            ∙ in-turn-ext _ _ n _ _ (λ j p. ap (λ b. not (taken (after x) n j) && b) (and-self (ltb 0 (word n start (suc x) j)))) refl)))
+      next-turn : r ≡ in-turn (is-open n free queues queues (suc x)) n (port-word given (suc x)) → after (suc x) ≡ updated (after x) (suc x) r
+      unfolding pass-two
+      next-turn e =
+          rw idle
+          (ap (updated (after x) (suc x))
+          (sym (e
+          ∙ first-is n start start words (after x) free outputs queues given queues h (h .cost) enough enough (suc x) (omega arith) none-yet
+          ∙ in-turn-ext _ _ n _ _ (λ j p. ap (λ b. not (taken (after x) n j) && b) (and-self (ltb 0 (word n start (suc x) j)))) refl)))
 
-        two-next : after k ≡ updated (after x) k r
-        two-next = rw next (next-turn (rw next at found))
+      two-next : after k ≡ updated (after x) k r
+      two-next = rw next (next-turn (rw next at found))
 
-      -- it takes none, so that it holds what it held
-      same : r ≡ 0 → (b : Bool) → ltb 0 (one (suc x)) ≡ b → after k ≡ after x
-      same z true e = ap after next ∙ stay e
-      same z false e = two-next e ∙ updated-same (after x) k r (ap (after x) next ∙ none-yet e ∙ sym z)
-
+      -- it takes none
       pub two-none : r ≡ 0 → (queues′ given′ : List ℕ) → queues′ ≡ charged n queues k r → given′ ≡ noted given k r
           → PassState n start words (after k) free outputs queues′ given′
       two-none z queues′ given′ q g =
-          rw (same z (ltb 0 (one (suc x))) refl, q ∙ charged-none n queues k r (omega arith), g ∙ noted-none given k r (omega arith)) h
+          let e : after k ≡ after x = two-next ∙ updated-same (after x) k r (ap (after x) next ∙ none-yet ∙ sym z) in
+          rw (e, q ∙ charged-none n queues k r (omega arith), g ∙ noted-none given k r (omega arith)) h
 
       -- it takes output r
       pub two-some : 1 ≤ r → (free′ : ℕ) → free′ ≡ without free r → (queues′ given′ : List ℕ)
           → queues′ ≡ charged n queues k r → given′ ≡ noted given k r → PassState n start words (after k) free′ (set outputs x r) queues′ given′
-      two-some p free′ m queues′ given′ q g = go (ltb 0 (one (suc x))) refl
-        where
-          go : (b : Bool) → ltb 0 (one (suc x)) ≡ b → PassState n start words (after k) free′ (set outputs x r) queues′ given′
-          go true e = absurd (omega (arith, served-none e))
-          go false e =
-              let port : Port n r = in-turn-some _ n _ r (found e) p .0 in
-              rw (two-next e, m, q ∙ charged-some n queues k r p, g ∙ noted-some given k r p, next)
-              (held-more n few start words (after x) free outputs queues given h x r l (none-yet e) port)
+      two-some p free′ m queues′ given′ q g =
+          let port : Port n r = in-turn-some _ n _ r found p .0 in
+          rw (two-next, m, q ∙ charged-some n queues k r p, g ∙ noted-some given k r p, next)
+          (held-more n few start words (after x) free outputs queues given h x r l none-yet port)

@@ -78,14 +78,15 @@ pub fn pass_two(
     let mut free = passed.free;
     let mut outputs = passed.outputs;
     for row in 0..ports {
-        if outputs[row] == 0 {
-            let input = Input(row as u64 + 1);
-            let asked = second_requests(ports, input, queues);
-            let choice = second_turn(free, asked, ports, input, queues, given);
-            if choice.output.0 > 0 {
-                free = take(free, choice.output);
-                outputs[row] = choice.output.0 as u8;
-            }
+        if outputs[row] > 0 {
+            continue;
+        }
+        let input = Input(row as u64 + 1);
+        let asked = second_requests(ports, input, queues);
+        let choice = second_turn(free, asked, ports, input, queues, given);
+        if choice.output.0 > 0 {
+            free = take(free, choice.output);
+            outputs[row] = choice.output.0 as u8;
         }
     }
     PassResult {

@@ -17,7 +17,7 @@ pass-one-requires c κs = search needs
 
 pass-two-requires : tie.Need-pass-two-requires
 pass-two-requires c κs =
-    let o = c .before .before .before .before .before .before .before .before .before .before in
+    let o = c .before .before .before .before .before .before .before .before in
     let p = o .before .before .before .before .before .before .before .before .before .before .before .before .before .before .pre in
     (omega (arith, p), (omega (arith, p), omega (arith, p)))
 
@@ -33,11 +33,11 @@ same-length-3 c = search needs
 returns : tie.Need-returns
 returns c =
     let t = c .before .before .before .before in
-    let o = t .before .before .before .before .before .before .before .before .before .before in
-    let l = o .before .before .before .before .before .before .before in
+    let o = t .before .before .before .before .before .before .before .before .before in
+    let l = o .before .before .before .before .before .before in
     let one = o .pass-one .ensures in
     let two = t .pass-two .ensures in
-    slot-run _ _ _ _ _ _ (l .reload .ensures) _ _ _ _ _ _ (two .0 _ _ _ (one .0) (one .1 .1 .1)) (two .1 ∙ one .1 .0) (one .1 .1 .0)
+    slot-run _ _ _ _ _ _ (l .reload .ensures) _ _ _ _ _ _ (two .0 _ _ _ (one .0)) (two .1 ∙ one .1 .0) (one .1 .1)
 
 pub run-slot-spec : {M : Type 1} → statement M
 run-slot-spec =

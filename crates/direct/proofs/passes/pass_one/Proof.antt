@@ -1,40 +1,36 @@
 -- `passes::pass_one` meets its contract. The loop's invariant is `PassOneState`: the outputs that the inputs hold are the definition's for the inputs so
--- far, and mask, list, words and mark are as these say; besides, what is left over of those inputs for pass two is known, and the table has the
--- bits of a word. The measure is the inputs left. Assumes nothing.
+-- far, and mask, list, words and mark are as these say. The measure is the inputs left. Assumes nothing.
 use Prim.Native.Nat.{_+_, _-_, _*_, _≤_, _<_}
 use mathlib.Core.Path.{_≡_, refl, _∙_}
+use mathlib.Core.Logic.{inl, inr}
 use native.Mathlib.Numerals.{add-one}
 use native.Mathlib.Omega.{arith}
 use borrow.Author.Needs.{needs}
-use lib.ListN.{length, length-set}
+use lib.ListN.{length}
 use Rattle.wsgs.specs.Basics.{Port, in-turn}
 use Rattle.wsgs.specs.Words.{word, port-word}
 use Rattle.wsgs.specs.Steps.{pass-one}
 use Rattle.wsgs.proofs.Laws.InTurn.{in-turn-some}
-use Rattle.turns.specs.Masks.{powers, is-open}
-use Rattle.turns.specs.Requests.{Asked}
-use Rattle.direct.specs.Passes.{LeftOver}
+use Rattle.turns.specs.Masks.{is-open}
+use Rattle.turns.specs.Requests.{Turn}
 use Rattle.turns.proofs.BitLaws.{one-shl}
 use Rattle.turns.proofs.MaskLaws.{free-first}
-use Rattle.direct.proofs.PassLaws.{PassOneState, one-start, one-left, none-left, one-none, one-some}
+use Rattle.turns.proofs.TurnLaws.{first-asks, first-takes}
+use Rattle.direct.proofs.PassLaws.{PassOneState, one-start, one-none, one-some}
 use Rattle.direct.proofs.passes.pass_one.Statement.{statement}
 use Rattle.direct.proofs.passes.pass_one.Tie as tie
 
 abbrev Inv-loop : tie.InvT-loop
-Inv-loop ports credits₀ queues₀ given₀ left-over₀ free₀ outputs₀ first-pass₀ bits row₀ credits queues given left-over free outputs first-pass row =
+Inv-loop ports credits₀ queues₀ given₀ free₀ outputs₀ first-pass₀ row₀ credits queues given free outputs first-pass row =
     (row ≤ ports)
     × (length credits ≡ length credits₀)
     × (length queues ≡ length queues₀)
     × (length given ≡ length given₀)
     × PassOneState ports credits₀ queues₀ given₀ (pass-one ports (word ports credits₀) (word ports queues₀) (port-word given₀) row) free first-pass
     outputs credits queues given
-    × (length left-over ≡ length left-over₀)
-    × LeftOver ports row (pass-one ports (word ports credits₀) (word ports queues₀) (port-word given₀) row) queues₀ left-over
-    × (bits ≡ powers 0 32)
 
 abbrev μ-loop : tie.MeasureT-loop
-μ-loop ports credits₀ queues₀ given₀ left-over₀ free₀ outputs₀ first-pass₀ bits row₀ credits queues given left-over free outputs first-pass row =
-    ports - row
+μ-loop ports credits₀ queues₀ given₀ free₀ outputs₀ first-pass₀ row₀ credits queues given free outputs first-pass row = ports - row
 
 -- from the test of a turn's output back to the turn, and from there to the loop's head and the entry
 abbrev turn : tie.After-struct-known Inv-loop μ-loop → tie.After-first-turn Inv-loop μ-loop
@@ -44,40 +40,36 @@ abbrev asked : tie.After-first-turn Inv-loop μ-loop → tie.After-first-request
 asked c = c .before .before .before .before
 
 abbrev head : tie.After-first-turn Inv-loop μ-loop → tie.At-loop Inv-loop μ-loop
-head c = asked c .before .before .before .before .before
+head c = asked c .before .before .before .before
 
 abbrev start : tie.At-loop Inv-loop μ-loop → tie.Start Inv-loop μ-loop
 start c = c .before .before .before .before .before
 
 -- the input is one of the ports, which are few, and its runs are long enough
 within : (t : tie.After-first-turn Inv-loop μ-loop) → let l = head t in let n = start l .args .ports in
-    (l .loop .row < n) × (n ≤ 32) × (n * n ≤ length (l .loop .credits)) × (n * n ≤ length (l .loop .queues)) × (l .loop .row < length (l .loop .left-over))
-within t = (omega arith, omega arith, omega arith, omega arith, omega (arith, head t .loop .inv .5))
-
--- what the input asks for
-requests : (t : tie.After-first-turn Inv-loop μ-loop) → let l = head t in let o = asked t .first-requests .result in
-    Asked (start l .args .ports) (l .loop .row + 1) (l .loop .credits) (l .loop .queues) (o .ready) (o .waiting)
-requests t = asked t .first-requests .ensures .1 .1 (head t .loop .inv .7) (search needs) (search needs)
+    (l .loop .row < n) × (n ≤ 32) × (n * n ≤ length (l .loop .credits)) × (n * n ≤ length (l .loop .queues)) × (n ≤ length (l .loop .given))
+within t = (omega arith, omega arith, omega arith, omega arith, omega (arith, head t .loop .inv .3))
 
 -- the output that a turn finds
 found : (t : tie.After-first-turn Inv-loop μ-loop) → let l = head t in let n = start l .args .ports in
-    t .first-turn .result .0
+    t .first-turn .result .output .0
     ≡ in-turn (is-open n (l .loop .free) (l .loop .credits) (l .loop .queues) (l .loop .row + 1)) n (port-word (l .loop .given) (l .loop .row + 1))
-found t = t .first-turn .ensures .1 .1 .1 .1 (requests t .both) (search needs) (search needs) (omega (arith, head t .loop .inv .3))
-
--- the output that is taken is a port
-taken : (c : tie.Else1 Inv-loop μ-loop) → let t = turn (c .before) in Port (start (head t) .args .ports) (t .first-turn .result .0)
-taken c = in-turn-some _ _ _ _ (found (turn (c .before))) (omega (arith, c .if1 .left)) .0
+found t =
+    let l = head t in
+    let i = within t in
+    let n = start l .args .ports in
+    let paid : Turn n (l .loop .row + 1) (l .loop .credits) = record { few = i .1; port = omega (arith, i .0); long = i .2 } in
+    let sent : Turn n (l .loop .row + 1) (l .loop .queues) = record { few = i .1; port = omega (arith, i .0); long = i .3 } in
+    first-takes _ _ _ _ sent (i .4) _ paid _ (first-asks _ _ _ _ paid sent _ (asked t .first-requests .ensures)) _ _ (t .first-turn .ensures .0)
 
 all-free-requires : tie.Need-all-free-requires Inv-loop μ-loop
 all-free-requires c κs = search needs
 
 loop-holds : tie.Need-loop-holds Inv-loop μ-loop
-unfolding powers
-loop-holds c = (search needs, refl, refl, refl, one-start _ (omega arith) _ _ _ _ (free-first _ _ (omega arith) (c .all-free .ensures)), refl, (λ k l. absurd (omega arith)), refl)
+loop-holds c = (search needs, refl, refl, refl, one-start _ (omega arith) _ _ _ _ (free-first _ _ (omega arith) (c .all-free .ensures)))
 
-add-t17 : tie.Need-add-t17 Inv-loop μ-loop
-add-t17 c = search needs
+add-t14 : tie.Need-add-t14 Inv-loop μ-loop
+add-t14 c = search needs
 
 first-requests-requires : tie.Need-first-requests-requires Inv-loop μ-loop
 first-requests-requires c κs = search needs
@@ -85,39 +77,9 @@ first-requests-requires c κs = search needs
 first-turn-requires : tie.Need-first-turn-requires Inv-loop μ-loop
 first-turn-requires c κs = search needs
 
-mul-left-over : tie.Need-mul-left-over Inv-loop μ-loop
-mul-left-over c = search needs
-
-element-write-left-over : tie.Need-element-write-left-over Inv-loop μ-loop
-element-write-left-over c = search needs
-
-add-row : tie.Need-add-row Inv-loop μ-loop
-add-row c = search needs
-
-loop-less : tie.Need-loop-less Inv-loop μ-loop
-loop-less c = search needs
-
-loop-again : tie.Need-loop-again Inv-loop μ-loop
-loop-again c =
-    let t = turn (c .before) in
-    let l = head t in (
-      omega arith,
-      t .first-turn .kept .1 .1 .1 .1 .0 ∙ l .loop .inv .1,
-      t .first-turn .kept .1 .1 .1 .1 .1 .0 ∙ l .loop .inv .2,
-      t .first-turn .kept .1 .1 .1 .1 .1 .1 .0 ∙ l .loop .inv .3,
-      one-none _ (omega arith) _ _ _ _ _ _ _ _ _ (omega arith) (omega arith) (l .loop .row) _ (add-one _) (omega arith) (l .loop .inv .4) _
-          (found t) (c .if1 .taken) _ _ _ (t .first-turn .ensures .1 .0) (t .first-turn .ensures .1 .1 .0) (t .first-turn .ensures .1 .1 .1 .0),
-      length-set (l .loop .left-over) _ _ ∙ l .loop .inv .5,
-      one-left _ (omega arith) _ _ _ _ _ _ _ _ _ (omega arith) (omega arith) (l .loop .row) _ (add-one _) (omega arith) (l .loop .inv .4) _
-          (found t) (c .if1 .taken) (l .loop .left-over) (omega (arith, l .loop .inv .5)) (l .loop .inv .6) _ (requests t .packets),
-      l .loop .inv .7,
-    )
-
-mul-left-over-2 : tie.Need-mul-left-over-2 Inv-loop μ-loop
-mul-left-over-2 c = search needs
-
-element-write-left-over-2 : tie.Need-element-write-left-over-2 Inv-loop μ-loop
-element-write-left-over-2 c = search needs
+-- the output that is taken is a port
+taken : (c : tie.Then1 Inv-loop μ-loop) → let t = turn (c .before) in Port (start (head t) .args .ports) (t .first-turn .result .output .0)
+taken c = in-turn-some _ _ _ _ (found (turn (c .before))) (c .if1 .taken) .0
 
 take-requires : tie.Need-take-requires Inv-loop μ-loop
 take-requires c κs = search needs
@@ -134,29 +96,32 @@ cast-first-pass c = search needs
 shl-first-pass : tie.Need-shl-first-pass Inv-loop μ-loop
 shl-first-pass c = search needs
 
-add-row-2 : tie.Need-add-row-2 Inv-loop μ-loop
-add-row-2 c = search needs
+add-row : tie.Need-add-row Inv-loop μ-loop
+add-row c = search needs
 
-loop-less-2 : tie.Need-loop-less-2 Inv-loop μ-loop
-loop-less-2 c = search needs
+loop-less : tie.Need-loop-less Inv-loop μ-loop
+loop-less c = search needs
 
-loop-again-2 : tie.Need-loop-again-2 Inv-loop μ-loop
-loop-again-2 c =
-    let w = c .before in
-    let t = turn (w .before .before) in
+loop-again : tie.Need-loop-again Inv-loop μ-loop
+loop-again c =
+    let t = turn (c .before) in
     let l = head t in
-    let i = within t in (
+    let i = within t in
+    let paid = t .first-turn .ensures .1 .1 in (
       omega (arith, i .0),
       t .first-turn .kept .1 .1 .1 .1 .0 ∙ l .loop .inv .1,
       t .first-turn .kept .1 .1 .1 .1 .1 .0 ∙ l .loop .inv .2,
       t .first-turn .kept .1 .1 .1 .1 .1 .1 .0 ∙ l .loop .inv .3,
-      one-some _ (i .1) _ _ _ _ _ _ _ _ _ (i .2) (i .3) (l .loop .row) _ (add-one _) (i .0) (l .loop .inv .4) _
-          (found t) (taken (w .before) .low) _ (w .take .ensures) _ (one-shl 32 (l .loop .row) (omega (arith, i .0, i .1))) _ _ _
-          (t .first-turn .ensures .1 .0) (t .first-turn .ensures .1 .1 .0) (t .first-turn .ensures .1 .1 .1 .0),
-      length-set (l .loop .left-over) _ _ ∙ l .loop .inv .5,
-      none-left _ (i .1) _ _ _ _ _ _ _ _ _ (i .2) (i .3) (l .loop .row) _ (add-one _) (i .0) (l .loop .inv .4) _
-          (found t) (taken (w .before) .low) (l .loop .left-over) (i .4) (l .loop .inv .6),
-      l .loop .inv .7,
+      elim (c .if1 .came) [
+        | inl w ↦
+            rw (w .3, w .4, w .5)
+            (one-some _ (i .1) _ _ _ _ _ _ _ _ _ (i .2) (i .3) (l .loop .row) _ (add-one _) (i .0) (l .loop .inv .4) _ (found t) (w .0 .taken)
+            _ (w .1 .ensures) _ (one-shl 32 (l .loop .row) (omega (arith, i .0, i .1))) _ _ _ (paid .0) (paid .1 .0) (paid .1 .1))
+        | inr w ↦
+            rw (w .1, w .2, w .3)
+            (one-none _ (i .1) _ _ _ _ _ _ _ _ _ (i .2) (i .3) (l .loop .row) _ (add-one _) (i .0) (l .loop .inv .4) _ (found t) (omega (arith, w .0 .left))
+            _ _ _ (paid .0) (paid .1 .0) (paid .1 .1))
+      ],
     )
 
 same-length : tie.Need-same-length Inv-loop μ-loop
@@ -173,7 +138,7 @@ returns c =
     let l = c .before in
     let e : l .loop .row ≡ start l .args .ports = omega arith in
     let o = rw e at (l .loop .inv .4) in
-    (o .held, (o .mark, (o .cost, rw e at (l .loop .inv .6))))
+    (o .held, (o .mark, o .cost))
 
 pub pass-one-spec : {M : Type 1} → statement M
 pass-one-spec =
@@ -183,24 +148,17 @@ pass-one-spec =
     μ-loop
     all-free-requires
     loop-holds
-    add-t17
+    add-t14
     first-requests-requires
     first-turn-requires
-    mul-left-over
-    element-write-left-over
-    add-row
-    loop-less
-    loop-again
-    mul-left-over-2
-    element-write-left-over-2
     take-requires
     cast-outputs
     array-write-outputs
     cast-first-pass
     shl-first-pass
-    add-row-2
-    loop-less-2
-    loop-again-2
+    add-row
+    loop-less
+    loop-again
     same-length
     same-length-2
     same-length-3
