@@ -9,10 +9,10 @@ pub mod exported {
         pub fn kivdrag_test_first_turn(
             free: u32, ports: usize, input: u64, credits: *mut u32, credits_len: usize, queues: *mut u32, queues_len: usize,
             given: *mut u32, given_len: usize, looks: *mut u32,
-        ) -> u32;
+        ) -> u64;
         pub fn kivdrag_test_second_turn(
             free: u32, ports: usize, input: u64, queues: *mut u32, queues_len: usize, given: *mut u32, given_len: usize, looks: *mut u32,
-        ) -> u32;
+        ) -> u64;
     }
 }
 
@@ -85,7 +85,7 @@ impl TurnCall {
                 )
             },
         };
-        Gave { output: output as u64, looks }
+        Gave { output, looks }
     }
 
     /// The choice, and what it pays. Without a turn nothing is given, and nothing changes.

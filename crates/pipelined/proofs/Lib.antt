@@ -1,5 +1,4 @@
 -- Laws that the functions' proofs cite.
-pub mod AskedAfter
 pub mod FlightLaws
 pub mod FlightMasks
 pub mod FlightPairs

@@ -1,4 +1,5 @@
--- The runs that the turns of a pipelined tick change, put together from lists; that those lent to it are long enough; what the tick knows of the slots ahead; and what it gives back. Assumes nothing.
+-- The runs that the turns of a pipelined tick change, put together from lists; that those lent to it are long enough; what the tick knows of the slots
+-- ahead; and what it gives back. Assumes nothing.
 use mathlib.Core.Path.{_≡_}
 use mathlib.Core.List.{List}
 use Prim.Native.Nat.{ℕ, _+_, _*_, _%_, _≤_, _<_}

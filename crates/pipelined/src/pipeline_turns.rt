@@ -13,7 +13,6 @@ use super::flight::row_before;
 use turns::first_requests;
 use turns::first_turn;
 use turns::load_credits;
-use turns::masks::take;
 use turns::second_requests;
 use turns::second_turn;
 use words::places::row_of;

@@ -31,14 +31,14 @@ mask-full : (n k : ℕ) → Port n k → in-mask (2 ^ n - 1) k ≡ true
 mask-full n zero p = absurd (omega arith)
 mask-full n (suc k) p = mask-bit (2 ^ n - 1) k ∙ low-set n k (omega arith)
 
--- at first no output past the ports is free, of at most 32 ports
+-- at first no output past the ports is free
 pub past-unset : (n w : ℕ) → n ≤ 32 → w ≡ all-free n → (k : ℕ) → n < k → in-mask w k ≡ false
 unfolding all-free in-mask
 past-unset n w few e k h =
     let low : n ≤ k - 1 = omega arith in
     ap (λ v. in-mask v k) e ∙ rw (min-eq-left few, div-eq-of-lt (lt-of-lt-of-le (ones-lt n) (pow-mono low)))
 
--- and each of theirs is
+-- and each of the ports' is, of at most 32
 pub free-first : (n w : ℕ) → n ≤ 32 → w ≡ all-free n → (k : ℕ) → Port n k → in-mask w k ≡ true
 unfolding all-free
 free-first n w few e k p = ap (λ v. in-mask v k) e ∙ rw (min-eq-left few) (mask-full n k p)
@@ -72,19 +72,6 @@ module _ (w k : ℕ) (small : k < 32) where
   tests : is-free w (suc k) ≡ bits w k
   unfolding is-free
   tests = rw (has-bit, mask-bit w k)
-
-  -- where it is not, nothing is taken out, and else its power of 2
-  pub none-out : bits w k ≡ false → without w (suc k) ≡ w
-  unfolding without
-  none-out h = rw (tests, h)
-
-  pub one-out : bits w k ≡ true → without w (suc k) + 2 ^ k ≡ w
-  unfolding without
-  one-out h =
-      let set : w / 2 ^ k % 2 ≡ 1 = eqb-true (w / 2 ^ k % 2) 1 (bit-set h) in
-      let a : bitAnd w (2 ^ k) ≡ 2 ^ k = alone w k ∙ rw set (omega arith) in
-      let e : suc k - 1 ≡ k = omega arith in
-      rw (tests, h, e) (omega (arith, and-le-l w (2 ^ k)))
 
   -- it is tested by a shift and a mask
   pub tested : (j : ℕ) → j ≡ suc k → eqb (bitAnd (w / 2 ^ k) 1) 1 ≡ is-free w j

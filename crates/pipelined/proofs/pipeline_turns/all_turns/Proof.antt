@@ -6,14 +6,13 @@ use native.Mathlib.Omega.{arith}
 use borrow.Author.Needs.{needs}
 use lib.ListN.{length}
 use Rattle.wsgs.specs.Pipelined.{turns}
-use Rattle.turns.specs.Masks.{powers}
 use Rattle.pipelined.specs.Turnings.{turn-runs-of, Lookahead}
 use Rattle.pipelined.proofs.PipelinedTurns.{turns-more}
 use Rattle.pipelined.proofs.pipeline_turns.all_turns.Statement.{statement}
 use Rattle.pipelined.proofs.pipeline_turns.all_turns.Tie as tie
 
 abbrev Inv-loop : tie.InvT-loop
-Inv-loop ports time ahead copy credits₀ queues₀ given₀ flight₀ bits done₀ credits queues given flight done =
+Inv-loop ports time ahead copy credits₀ queues₀ given₀ flight₀ done₀ credits queues given flight done =
     (done ≤ ports)
     × (length credits ≡ length credits₀)
     × (length queues ≡ length queues₀)
@@ -21,20 +20,19 @@ Inv-loop ports time ahead copy credits₀ queues₀ given₀ flight₀ bits done
     × (length flight ≡ length flight₀)
     × ((frame : ℕ) → Lookahead ports frame time (ahead .one) (ahead .two) (ahead .into)
     → turn-runs-of credits queues given flight ≡ turns ports frame copy time (turn-runs-of credits₀ queues₀ given₀ flight₀) done)
-    × (bits ≡ powers 0 32)
 
 abbrev μ-loop : tie.MeasureT-loop
-μ-loop ports time ahead copy credits₀ queues₀ given₀ flight₀ bits done₀ credits queues given flight done = ports - done
+μ-loop ports time ahead copy credits₀ queues₀ given₀ flight₀ done₀ credits queues given flight done = ports - done
 
 loop-holds : tie.Need-loop-holds Inv-loop μ-loop
-unfolding turns powers
-loop-holds c = (search needs, refl, refl, refl, refl, λ frame a. refl, refl)
+unfolding turns
+loop-holds c = (search needs, refl, refl, refl, refl, λ frame a. refl)
 
-add-t15 : tie.Need-add-t15 Inv-loop μ-loop
-add-t15 c = search needs
+add-t13 : tie.Need-add-t13 Inv-loop μ-loop
+add-t13 c = search needs
 
 turns-of-requires : tie.Need-turns-of-requires Inv-loop μ-loop
-turns-of-requires c κs = (search needs, (search needs, (search needs, (search needs, search needs))))
+turns-of-requires c κs = (search needs, (search needs, (search needs, search needs)))
 
 add-done : tie.Need-add-done Inv-loop μ-loop
 add-done c = search needs
@@ -45,14 +43,13 @@ loop-less c = search needs
 loop-again : tie.Need-loop-again Inv-loop μ-loop
 loop-again c =
     let t = c .before .before .before .before .before .before .before .before in
-    let l = t .before .before .before .before .before .before .before in (
+    let l = t .before .before .before .before .before .before in (
       omega arith,
-      t .turns-of .kept .1 .1 .1 .1 .1 .1 .0 ∙ l .loop .inv .1,
-      t .turns-of .kept .1 .1 .1 .1 .1 .1 .1 .0 ∙ l .loop .inv .2,
-      t .turns-of .kept .1 .1 .1 .1 .1 .1 .1 .1 .0 ∙ l .loop .inv .3,
-      t .turns-of .kept .1 .1 .1 .1 .1 .1 .1 .1 .1 .0 ∙ l .loop .inv .4,
+      t .turns-of .kept .1 .1 .1 .1 .1 .0 ∙ l .loop .inv .1,
+      t .turns-of .kept .1 .1 .1 .1 .1 .1 .0 ∙ l .loop .inv .2,
+      t .turns-of .kept .1 .1 .1 .1 .1 .1 .1 .0 ∙ l .loop .inv .3,
+      t .turns-of .kept .1 .1 .1 .1 .1 .1 .1 .1 .0 ∙ l .loop .inv .4,
       λ frame a. turns-more _ frame _ _ _ _ _ _ (l .loop .inv .5 frame a) (t .turns-of .ensures frame a),
-      l .loop .inv .6,
     )
 
 same-length : tie.Need-same-length Inv-loop μ-loop
@@ -77,7 +74,7 @@ all-turns-spec =
     Inv-loop
     μ-loop
     loop-holds
-    add-t15
+    add-t13
     turns-of-requires
     add-done
     loop-less
