@@ -91,7 +91,7 @@ note-given-requires c κs =
     let t = c .before .before .before .before .before in
     let e = asked (t .before .before) in
     let d = allowed e in
-    (d .port .low, (omega (arith, d .port .high, long e), omega (arith, taken t .high, d .few)))
+    (omega (arith, d .port), (omega (arith, d .port, long e), omega (arith, taken t .high, d .few)))
 
 same-length : tie.Need-same-length
 same-length c = search needs
