@@ -1,10 +1,10 @@
-//! Links the archives that `rt staticlib NAME` writes to target/staticlib at the repository's root: the library, and the turns for tests alone.
+//! Links target/staticlib/libkivdrag_c.a, which `rt staticlib kivdrag_c` writes at the repository's root. tests/turns.rs links libturns_c.a beside it.
 
 fn main() {
-    let folder = std::path::Path::new(env!("CARGO_MANIFEST_DIR")).join("../target/staticlib");
-    println!("cargo:rustc-link-search=native={}", folder.display());
-    for name in ["kivdrag_c", "turns_c"] {
-        println!("cargo:rustc-link-lib=static={name}");
-        println!("cargo:rerun-if-changed={}", folder.join(format!("lib{name}.a")).display());
+    let archive = std::path::Path::new(env!("CARGO_MANIFEST_DIR")).join("../target/staticlib");
+    println!("cargo:rustc-link-search=native={}", archive.display());
+    println!("cargo:rustc-link-lib=static=kivdrag_c");
+    for library in ["libkivdrag_c.a", "libturns_c.a"] {
+        println!("cargo:rerun-if-changed={}", archive.join(library).display());
     }
 }

@@ -4,7 +4,6 @@ use second::Rules;
 
 pub mod calls;
 pub mod tally;
-pub mod turn_calls;
 pub mod turns;
 
 /// The rules in force: the file LEVEL at the repository's root holds the level.
@@ -56,4 +55,16 @@ impl Random {
 /// A number that a test takes from the environment, or else this one.
 pub fn setting(name: &str, default: u64) -> u64 {
     std::env::var(name).ok().map_or(default, |v| v.parse().unwrap_or_else(|_| panic!("{name} is a number")))
+}
+
+/// Last given outputs of every kind: ports, 0, and words outside the ports.
+pub fn any_given(r: &mut Random, n: u64, length: usize) -> Vec<u32> {
+    let word = |r: &mut Random| match r.within(0, 11) {
+        0 => 0,
+        1 => r.of(&[n as u32 + 1, n as u32 + 32, n as u32 + 100, 1 << 31, u32::MAX]),
+        2 => n as u32,
+        3 => r.next() as u32,
+        _ => r.within(1, n.max(1)) as u32,
+    };
+    (0..length).map(|_| word(r)).collect()
 }

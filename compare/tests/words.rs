@@ -3,7 +3,7 @@
 
 use compare::calls::{any_kind, Arguments, Call, Lent, Reply, CALLS, MOST_LISTED};
 use compare::tally::{counts_as, Choice, Event, Headroom, Line, Place, Tally, KINDS};
-use compare::{rules, setting, Random};
+use compare::{any_given, rules, setting, Random};
 use second::ledger::Ledger;
 use second::switch::{used, EVERY_RUN};
 use second::{Clock, Form, Run, Switch, Words};
@@ -96,18 +96,6 @@ fn any_run(r: &mut Random, n: u64, length: usize) -> Vec<u32> {
 /// The words of a run that a switch of either form uses.
 fn most_used(n: u64, run: Run) -> usize {
     FORMS.into_iter().filter_map(|form| used(rules(), form, true, n, run)).max().unwrap_or(0)
-}
-
-/// Last given outputs of every kind: ports, 0, and words outside the ports.
-fn any_given(r: &mut Random, n: u64, length: usize) -> Vec<u32> {
-    let word = |r: &mut Random| match r.within(0, 11) {
-        0 => 0,
-        1 => r.of(&[n as u32 + 1, n as u32 + 100, u32::MAX]),
-        2 => n as u32,
-        3 => r.next() as u32,
-        _ => r.within(1, n.max(1)) as u32,
-    };
-    (0..length).map(|_| word(r)).collect()
 }
 
 /// A clock of any contents, also where the level in force does not look. Its book is plain: `Lent` sets the kind of book.

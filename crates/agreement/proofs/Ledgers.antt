@@ -2,7 +2,7 @@
 -- preview give what the second program gives. A theorem that is refused tells the list, and where the checker prints what it computed, the
 -- number of the first claim, headroom or preview that differs. Written by tools/ledgers: do not edit. Assumes nothing.
 use mathlib.Core.Path.{_≡_, refl}
-use mathlib.Core.List.{List, [], _∷_}
+use mathlib.Core.List.{[], _∷_}
 use lib.IntN.{pos, negsuc}
 use Rattle.wsgs.specs.Clocks.{clock-of}
 use Rattle.wsgs.specs.Basics.{sum, some-of, first-from}

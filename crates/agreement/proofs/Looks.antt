@@ -3,7 +3,7 @@
 use mathlib.Core.Path.{_≡_, refl}
 use mathlib.Core.List.{List, [], _∷_}
 use Rattle.wsgs.specs.Basics.{first-from, looks-from}
-use Rattle.agreement.specs.Looks.{Search, searched, first-wrong-look}
+use Rattle.agreement.specs.Looks.{Search, searched, first-wrong-search}
 
 abbrev searches : List Search
 searches =
@@ -407,8 +407,58 @@ searches =
     ∷ searched 4 3 (2 ∷ 3 ∷ 5 ∷ 6 ∷ []) [] 0 2
     ∷ searched 32 0 (1 ∷ 4 ∷ 5 ∷ 7 ∷ 10 ∷ 11 ∷ 12 ∷ 15 ∷ 17 ∷ 21 ∷ 22 ∷ 25 ∷ 27 ∷ 28 ∷ 29 ∷ 31 ∷ []) [] 0 16
     ∷ searched 2 1 (2 ∷ 3 ∷ 4 ∷ []) (1 ∷ []) 0 1
+    ∷ searched 6 1 (6 ∷ []) (1 ∷ 3 ∷ 4 ∷ 6 ∷ []) 6 1
+    ∷ searched 1 1 [] (1 ∷ []) 0 0
+    ∷ searched 6 5 (1 ∷ 2 ∷ 3 ∷ 4 ∷ 5 ∷ 6 ∷ []) (3 ∷ 4 ∷ 6 ∷ []) 6 1
+    ∷ searched 6 6 (3 ∷ 4 ∷ 5 ∷ 6 ∷ 7 ∷ 8 ∷ []) (2 ∷ 4 ∷ []) 4 2
+    ∷ searched 5 5 (1 ∷ 2 ∷ 3 ∷ []) [] 0 3
+    ∷ searched 5 1 [] [] 0 0
+    ∷ searched 3 2 (1 ∷ 2 ∷ 3 ∷ 4 ∷ 5 ∷ []) (1 ∷ 3 ∷ []) 3 1
+    ∷ searched 3 0 (1 ∷ 2 ∷ 3 ∷ []) (1 ∷ 3 ∷ []) 1 1
+    ∷ searched 6 5 [] (1 ∷ 2 ∷ 3 ∷ 5 ∷ []) 0 0
+    ∷ searched 2 0 (1 ∷ []) (1 ∷ 2 ∷ []) 1 1
+    ∷ searched 1 1 [] [] 0 0
+    ∷ searched 5 5 (2 ∷ 3 ∷ 4 ∷ []) (1 ∷ 3 ∷ 4 ∷ []) 3 2
+    ∷ searched 4 0 (1 ∷ 2 ∷ 3 ∷ 4 ∷ []) (1 ∷ 2 ∷ 3 ∷ 4 ∷ []) 1 1
+    ∷ searched 6 7 (1 ∷ 2 ∷ 3 ∷ 4 ∷ 5 ∷ 6 ∷ 8 ∷ []) (2 ∷ 4 ∷ []) 2 2
+    ∷ searched 6 6 (2 ∷ 4 ∷ 5 ∷ 7 ∷ []) (1 ∷ 2 ∷ 3 ∷ 5 ∷ []) 2 1
+    ∷ searched 2 3 [] (2 ∷ []) 0 0
+    ∷ searched 6 5 (2 ∷ 5 ∷ 6 ∷ []) [] 0 3
+    ∷ searched 4 0 (3 ∷ []) [] 0 1
+    ∷ searched 6 3 (2 ∷ []) (5 ∷ []) 0 1
+    ∷ searched 1 1 [] [] 0 0
+    ∷ searched 3 5 (1 ∷ 2 ∷ 3 ∷ []) [] 0 3
+    ∷ searched 6 1 [] (1 ∷ 2 ∷ 3 ∷ 4 ∷ 5 ∷ 6 ∷ []) 0 0
+    ∷ searched 3 0 [] (1 ∷ 2 ∷ 3 ∷ []) 0 0
+    ∷ searched 6 4 (3 ∷ 4 ∷ 6 ∷ []) (3 ∷ []) 3 2
+    ∷ searched 5 0 (1 ∷ 2 ∷ 3 ∷ 4 ∷ []) (2 ∷ 3 ∷ 4 ∷ []) 2 2
+    ∷ searched 2 2 (1 ∷ 2 ∷ []) [] 0 2
+    ∷ searched 4 3 (2 ∷ 3 ∷ 4 ∷ 5 ∷ []) [] 0 3
+    ∷ searched 1 1 (1 ∷ []) [] 0 1
+    ∷ searched 6 4 (1 ∷ 4 ∷ 7 ∷ []) [] 0 2
+    ∷ searched 6 2 (1 ∷ 2 ∷ 3 ∷ 4 ∷ 5 ∷ 6 ∷ []) (1 ∷ 2 ∷ 3 ∷ []) 3 1
+    ∷ searched 4 4 [] (3 ∷ []) 0 0
+    ∷ searched 2 1 [] (1 ∷ []) 0 0
+    ∷ searched 1 1 (2 ∷ 3 ∷ []) [] 0 0
+    ∷ searched 6 6 (1 ∷ 2 ∷ 3 ∷ 4 ∷ 6 ∷ []) (1 ∷ 2 ∷ []) 1 1
+    ∷ searched 1 4294967295 (1 ∷ 2 ∷ []) [] 0 1
+    ∷ searched 3 3 (1 ∷ 2 ∷ 3 ∷ 4 ∷ 5 ∷ []) (3 ∷ []) 3 3
+    ∷ searched 4 1 [] [] 0 0
+    ∷ searched 5 4294967295 (2 ∷ 3 ∷ 4 ∷ 5 ∷ []) (1 ∷ 3 ∷ 4 ∷ 5 ∷ []) 3 2
+    ∷ searched 5 3 (1 ∷ 2 ∷ 3 ∷ 4 ∷ []) (2 ∷ 4 ∷ []) 4 1
+    ∷ searched 6 0 (1 ∷ 2 ∷ 3 ∷ 4 ∷ 5 ∷ 6 ∷ []) (1 ∷ 2 ∷ 3 ∷ 4 ∷ 5 ∷ 6 ∷ []) 1 1
+    ∷ searched 2 4294967295 [] [] 0 0
+    ∷ searched 6 4 (1 ∷ 2 ∷ 3 ∷ 4 ∷ 5 ∷ 6 ∷ 7 ∷ 8 ∷ []) (1 ∷ 6 ∷ []) 6 2
+    ∷ searched 4 4 (4 ∷ []) (2 ∷ 3 ∷ []) 0 1
+    ∷ searched 6 3 (2 ∷ 3 ∷ 4 ∷ 5 ∷ 6 ∷ []) (6 ∷ []) 6 3
+    ∷ searched 1 1 [] (1 ∷ []) 0 0
+    ∷ searched 6 6 (4 ∷ 6 ∷ []) (5 ∷ []) 0 2
+    ∷ searched 3 1 (1 ∷ 2 ∷ 3 ∷ []) (3 ∷ []) 3 2
+    ∷ searched 2 1 [] [] 0 0
+    ∷ searched 6 0 (1 ∷ 2 ∷ 3 ∷ 4 ∷ 5 ∷ []) (1 ∷ 2 ∷ 3 ∷ 4 ∷ 5 ∷ 6 ∷ []) 1 1
+    ∷ searched 32 17 [] (1 ∷ 2 ∷ 5 ∷ 6 ∷ 7 ∷ 8 ∷ 12 ∷ 13 ∷ 14 ∷ 15 ∷ 16 ∷ 17 ∷ 20 ∷ 23 ∷ 25 ∷ 27 ∷ 28 ∷ 30 ∷ []) 0 0
     ∷ []
 
-pub agrees : first-wrong-look 1 searches ≡ 0
-unfolding first-wrong-look first-from looks-from
+pub agrees : first-wrong-search 1 searches ≡ 0
+unfolding first-wrong-search first-from looks-from
 agrees = refl

@@ -23,7 +23,7 @@ same-search (searched n last free permitted chosen count) =
     && eqb (looks (listed-in free) (listed-in permitted) n last) count
 
 -- the number of the first search in which they do not, the first being k; 0 where they do in all
-unfoldable pub first-wrong-look : ℕ → List Search → ℕ
+unfoldable pub first-wrong-search : ℕ → List Search → ℕ
 unfolding same-search
-first-wrong-look k [] = 0
-first-wrong-look k (s ∷ ss) = elim (same-search s) [ true ↦ first-wrong-look (suc k) ss | false ↦ k ]
+first-wrong-search k [] = 0
+first-wrong-search k (s ∷ ss) = elim (same-search s) [ true ↦ first-wrong-search (suc k) ss | false ↦ k ]

@@ -59,7 +59,7 @@ module _ (f b s r more : ℕ) where
   rise-is h = rw (le-leb f 10000 h)
 
 -- A WORD IS 0 where the union of words has no bit
-or-none : (a b : ℕ) → ltb 0 (bitOr a b) ≡ (ltb 0 b || ltb 0 a)
+pub or-none : (a b : ℕ) → ltb 0 (bitOr a b) ≡ (ltb 0 b || ltb 0 a)
 or-none a b = go (ℕ-discrete a 0) (ℕ-discrete b 0)
   where
     go : Dec (a ≡ 0) → Dec (b ≡ 0) → ltb 0 (bitOr a b) ≡ (ltb 0 b || ltb 0 a)

@@ -20,9 +20,10 @@ use Rattle.wsgs.proofs.Laws.InTurn.{in-turn-ext, in-turn-some}
 use Rattle.wsgs.proofs.Steps.{two-untouched}
 use Rattle.wsgs.proofs.Laws.Listed.{listed-at}
 use Rattle.wsgs.proofs.Laws.Marked.{marked-none, marked-ext, marked-set}
-use Rattle.turns.specs.Masks.{in-mask, without, is-open}
+use Rattle.turns.specs.Masks.{in-mask, without}
 use Rattle.turns.specs.Charges.{charged, noted}
 use Rattle.direct.specs.Passes.{PassState}
+use Rattle.turns.proofs.Ready.{is-open}
 use Rattle.turns.proofs.Costs.{charged-some, charged-none, noted-some, noted-none}
 use Rattle.direct.proofs.PassStates.{taken-short, held-none, held-more}
 use Rattle.direct.proofs.Spent.{spent-length, spent-none, spent-row, spent-more}

@@ -14,11 +14,11 @@ use Rattle.wsgs.specs.Words.{word, less-one, port-word, put-port}
 use Rattle.wsgs.specs.Frames.{first-of-frame}
 use Rattle.wsgs.specs.Pipelined.{TurnRuns, loaded, reloaded, output-in, flight-place, in-flight, reserved, standing, turn-one, turn-two, slot-one, slot-two, pass-one-turn, turns-of, turns}
 use Rattle.wsgs.proofs.Laws.InTurn.{in-turn-ext, in-turn-nobody}
-use Rattle.turns.specs.Masks.{in-mask, is-open, ready-mask}
+use Rattle.turns.specs.Masks.{in-mask, ready-mask}
 use Rattle.turns.specs.Charges.{charged, noted}
 use Rattle.pipelined.specs.Turnings.{turn-runs-of}
 use Rattle.turns.proofs.Costs.{charged-some, charged-none, noted-some, noted-none}
-use Rattle.turns.proofs.Ready.{nothing-asked}
+use Rattle.turns.proofs.Ready.{is-open, nothing-asked}
 
 -- a choice between two turnings
 by-test : (b : Bool) (x y : TurnRuns) → _≡_ {A = TurnRuns} (elim b [ true ↦ x | false ↦ y ]) (pick b x y)

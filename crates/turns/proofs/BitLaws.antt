@@ -1,4 +1,4 @@
--- The bits of a word, from 0 on: after one is cleared or set, and where the lowest n are set; and the ports of a mask, which are the bits from
+-- The bits of a word, from 0 on: after one is cleared, and where the lowest n are set; and the ports of a mask, which are the bits from
 -- 1 on. They hold bit by bit. Assumes nothing.
 use mathlib.Core.Path.{_≡_, refl, sym, ap, _∙_}
 use mathlib.Core.Bool.{Bool, true, not, _&&_, and-true}

@@ -4,6 +4,6 @@ pub mod BitLaws
 pub mod TrailingLaws
 pub mod Ready
 pub mod MaskLaws
-pub mod Seen
+pub mod LookLaws
 pub mod Costs
 pub mod TurnLaws

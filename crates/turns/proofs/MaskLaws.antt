@@ -3,12 +3,12 @@
 use mathlib.Core.Path.{_≡_, refl, sym, _∙_, ap}
 use mathlib.Core.Bool.{Bool, true, false, not, _&&_, and-true, and-false}
 use mathlib.Core.Logic.{_⊎_, inl, inr, _≢_}
-use Prim.Native.Nat.{ℕ, zero, suc, _+_, _-_, _*_, _/_, _%_, _^_, _≤_, _<_, min}
+use Prim.Native.Nat.{ℕ, zero, suc, _-_, _*_, _/_, _%_, _^_, _≤_, _<_, min}
 use native.Mathlib.Nat.{min-eq-left, min-eq-right, div-eq-of-lt, div-add-mod, lt-of-lt-of-le}
 use native.Mathlib.Decide.{ℕ-discrete, decLe}
 use native.Mathlib.Omega.{arith}
 use borrow.Author.Tests.{ne-eqb, eqb-true, lt-leb}
-use lib.Bits.{bitAnd, bitXor, and-le-l, and-mask, xor-add-and}
+use lib.Bits.{bitAnd, bitXor, and-mask, xor-add-and}
 use lib.Dec.{eqb, leb, ltb, eqb·suc-suc}
 use lib.Pow.{pow-lt, pow-mono, ones-lt}
 use Rattle.wsgs.specs.Basics.{pick, between, Port}

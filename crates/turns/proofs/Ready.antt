@@ -5,11 +5,11 @@ use mathlib.Core.Bool.{Bool, true, false, not, _&&_, _||_, and-true, and-false}
 use mathlib.Core.List.{List}
 use Prim.Native.Nat.{ℕ, zero, suc, _+_, _-_, _*_, _/_, _%_, _^_, _≤_, _<_}
 use native.Mathlib.Decide.{decLt, decLe}
-use borrow.Author.Tests.{ne-eqb, lt-ltb, le-ltb}
+use borrow.Author.Tests.{ne-eqb, lt-ltb}
 use native.Mathlib.Nat.{zero-div}
 use native.Mathlib.Numerals.{add-one}
 use native.Mathlib.Omega.{arith}
-use lib.Bits.{bitAnd, bitOr, and-shr, and-mod, and-self, and-zero-l, and-zero-r, or-shr, or-mod, or-shifted-r, or-add-and, and-le-l, and-le-r}
+use lib.Bits.{bitAnd, bitOr, and-shr, and-mod, and-self, and-zero-l, and-zero-r, or-shr, or-mod, or-shifted-r}
 use lib.Count.{trailingZeros}
 use lib.Dec.{T, eqb, ltb}
 use lib.ListN.{getD}
@@ -20,7 +20,8 @@ use Rattle.wsgs.proofs.Laws.Tests.{both}
 use Rattle.wsgs.proofs.Laws.Some.{some-there}
 use Rattle.wsgs.proofs.Laws.InTurn.{in-turn-ext, in-turn-lowest, in-turn-nobody, in-turn-above, in-turn-wide}
 use Rattle.wsgs.proofs.Laws.Marked.{marked-suc, marked-lt, marked-bit, marked-ext, marked-none}
-use Rattle.turns.specs.Masks.{in-mask, all-free, is-open, ready-mask}
+use Rattle.bookings.proofs.Laws.{or-none}
+use Rattle.turns.specs.Masks.{in-mask, all-free, ready-mask}
 use Rattle.turns.specs.Requests.{common-in-turn}
 use Rattle.turns.proofs.BitLaws.{bits, mask-bit}
 use Rattle.turns.proofs.MaskLaws.{free-first, past-unset}
@@ -76,18 +77,12 @@ module _ (one two : List ℕ) (row : ℕ) where
       none j true f = absurd (rw h at (f tt))
       none j false f = refl
 
+-- the ready columns of the row of input i, by its pairs
+pub ready-pairs : (n i : ℕ) (one two : List ℕ) → ready-mask one two ((i - 1) * n) n ≡ marked n (λ j. ltb 0 (word n one i j) && ltb 0 (word n two i j))
+unfolding ready-mask word place
+ready-pairs n i one two = refl
+
 -- whether a row has something, one column after the other: the or of its words so far is above 0
-or-above : (a b : ℕ) → ltb 0 (bitOr a b) ≡ (ltb 0 b || ltb 0 a)
-or-above a b = go (decLt 0 a) (decLt 0 b)
-  where
-    sum-up : bitOr a b + bitAnd a b ≡ a + b
-    sum-up = or-add-and a b
-
-    go : Dec (0 < a) → Dec (0 < b) → ltb 0 (bitOr a b) ≡ (ltb 0 b || ltb 0 a)
-    go u (yes l) = rw (lt-ltb 0 b l) (lt-ltb 0 (bitOr a b) (omega (arith, sum-up, and-le-l a b)))
-    go (yes l) (no m) = rw (lt-ltb 0 a l, le-ltb 0 b (omega arith)) (lt-ltb 0 (bitOr a b) (omega (arith, sum-up, and-le-r a b)))
-    go (no l) (no m) = rw (le-ltb 0 a (omega arith), le-ltb 0 b (omega arith)) (le-ltb 0 (bitOr a b) (omega (arith, sum-up)))
-
 module _ (run : List ℕ) (row : ℕ) where
   abbrev above-zero : ℕ → Bool
   above-zero j = ltb 0 (getD run (row + (j - 1)) 0)
@@ -101,7 +96,7 @@ module _ (run : List ℕ) (row : ℕ) where
   unfolding some-of
   some-next n found word e f =
       let d : suc n - 1 ≡ n = omega arith in
-      rw (add-one n, d) (or-above found word ∙ rw (e, f))
+      rw (add-one n, d) (or-none found word ∙ rw (e, f))
 
 -- THE BITS of what an input asks for
 ready-bit : (one two : List ℕ) (row n k : ℕ) → k < n → bits (ready-mask one two row n) k ≡ both-above one two row k
@@ -161,7 +156,7 @@ either-output a b zero h = absurd (omega arith)
 either-output a b (suc k) h = rw (mask-bit a k, mask-bit b k, mask-bit (bitOr a b) k) (either-bit a b k)
 
 -- THE SEARCH. The lowest output of a word that is not 0 is that of its lowest bit
-pub lowest-is : (w : ℕ) → 1 ≤ w → w < 2 ^ 32 → in-turn (in-mask w) 32 0 ≡ suc (trailingZeros 32 w)
+lowest-is : (w : ℕ) → 1 ≤ w → w < 2 ^ 32 → in-turn (in-mask w) 32 0 ≡ suc (trailingZeros 32 w)
 lowest-is w h fits =
     let low = lowest-within 32 w fits h in
     in-turn-lowest (in-mask w) 32 (suc (trailingZeros 32 w)) (omega (arith, low)) (rw (mask-bit w (trailingZeros 32 w), lowest-set 32 w low) tt) below
@@ -171,7 +166,7 @@ lowest-is w h fits =
     below (suc k) p l = rw (mask-bit w k, below-unset 32 w k (omega arith)) tt
 
 -- 0 has no output
-pub unset-in-0 : (y : ℕ) → 1 ≤ y → T (not (in-mask 0 y))
+unset-in-0 : (y : ℕ) → 1 ≤ y → T (not (in-mask 0 y))
 unset-in-0 zero h = absurd (omega arith)
 unset-in-0 (suc k) h = rw (mask-bit 0 k, no-bits k) tt
 
@@ -219,6 +214,10 @@ module _ (n : ℕ) (few : n ≤ 32) (free all : ℕ) (full : all ≡ all-free n)
           go : Dec (y ≤ n) → y ≤ n
           go (yes h) = h
           go (no h) = absurd (rw (none-past y p (omega arith)) at t)
+
+-- WHAT IS OPEN to input i: output j is free, and the words of the pair (i, j) in two runs are above 0
+unfoldable pub is-open : ℕ → ℕ → List ℕ → List ℕ → ℕ → ℕ → Bool
+is-open n free one two i j = in-mask free j && (ltb 0 (word n one i j) && ltb 0 (word n two i j))
 
 -- where the second word has the ready columns of input i, what they have in common is open to it
 module _ (n free : ℕ) (one two : List ℕ) (i w : ℕ) (is : w ≡ ready-mask one two ((i - 1) * n) n) where

@@ -12,12 +12,12 @@ use lib.Pow.{shr-shr}
 use Rattle.turns.proofs.BitLaws.{bits}
 
 -- the lowest bit
-bits-zero : (w : ℕ) → bits w zero ≡ eqb (w % 2) 1
+pub bits-zero : (w : ℕ) → bits w zero ≡ eqb (w % 2) 1
 unfolding bits
 bits-zero w = rw (div-one w)
 
 -- and the others, those of the half
-bits-suc : (w k : ℕ) → bits w (suc k) ≡ bits (w / 2) k
+pub bits-suc : (w k : ℕ) → bits w (suc k) ≡ bits (w / 2) k
 unfolding bits
 bits-suc w k = rw (shr-shr w 1 k, one-add k)
 

@@ -1,22 +1,24 @@
 -- When an input has a turn; and, where it has one, what it asks for, and what it takes: the first in turn of the outputs that are open to it. Assumes
 -- nothing.
-use mathlib.Core.Path.{_≡_, refl, sym, _∙_, ap}
-use mathlib.Core.Bool.{Bool, true, false, not, _&&_, and-false}
+use mathlib.Core.Path.{_≡_, refl, sym, _∙_}
+use mathlib.Core.Bool.{Bool, true, false, not, _&&_, and-false, and-self}
 use mathlib.Core.List.{List}
 use Prim.Native.Nat.{ℕ, _-_, _*_, _≤_}
 use native.Mathlib.Omega.{arith}
 use borrow.Author.Tests.{le-leb, not-true, not-false}
-use lib.Dec.{T, leb, leb→le}
+use lib.Dec.{leb, ltb, leb→le}
 use lib.ListN.{length}
 use Rattle.wsgs.specs.Basics.{pick, Port, in-turn}
-use Rattle.wsgs.specs.Words.{port-word}
+use Rattle.wsgs.specs.Words.{word, port-word}
+use Rattle.wsgs.specs.Steps.{marked}
 use Rattle.wsgs.proofs.Laws.Tests.{both, holds}
+use Rattle.wsgs.proofs.Laws.Marked.{marked-ext}
 use Rattle.wsgs.proofs.Laws.InTurn.{in-turn-some}
 use Rattle.words.specs.Places.{is-port, row-of}
 use Rattle.words.proofs.PlaceLaws.{known, port-passes, row-is}
-use Rattle.turns.specs.Masks.{is-open, ready-mask}
-use Rattle.turns.specs.Requests.{has-turn, Turn, first-requested, second-requested, common-in-turn, first-output, second-output}
-use Rattle.turns.proofs.Ready.{requested-in-turn}
+use Rattle.turns.specs.Masks.{ready-mask}
+use Rattle.turns.specs.Requests.{has-turn, first-requested, second-requested, common-in-turn, first-output, second-output}
+use Rattle.turns.proofs.Ready.{ready-pairs, is-open, requested-in-turn}
 
 -- THE QUESTION for a turn of input i of n ports, on a run of so many words
 module _ (n i words : ℕ) where
@@ -34,7 +36,12 @@ module _ (n i words : ℕ) where
   pub not-due : {answer : Bool} → answer ≡ has-turn n i words → not answer ≡ true → has-turn n i words ≡ false
   not-due e h = sym e ∙ not-true _ h
 
--- A TURN of input i of n ports on a run
+-- A TURN that input i of n ports has on a run
+pub record Turn (n i : ℕ) (run : List ℕ) : Type 0 where
+  pub few : n ≤ 32
+  pub port : Port n i
+  pub long : n * n ≤ length run
+
 module _ (n i : ℕ) (run : List ℕ) where
   -- is one where the question is answered yes
   pub due : {answer : Bool} → answer ≡ has-turn n i (length run) → not answer ≡ false → Turn n i run
@@ -69,13 +76,18 @@ first-no b p = rw p
 pub second-no : (a : Bool) {b : Bool} → b ≡ false → (a && b) ≡ false
 second-no a q = rw (q, and-false a)
 
+-- the columns of the row of input i that have packets, by its pairs
+pub waiting-pairs : (n i : ℕ) (queues : List ℕ) → ready-mask queues queues ((i - 1) * n) n ≡ marked n (λ j. ltb 0 (word n queues i j))
+waiting-pairs n i queues = ready-pairs n i queues queues ∙ marked-ext n _ _ (λ j p. and-self (ltb 0 (word n queues i j)))
+
 -- WHAT AN INPUT ASKS FOR where it has a turn
 pub first-asks : (n i : ℕ) (credits queues : List ℕ) → Turn n i credits → Turn n i queues → (r : ℕ) → r ≡ first-requested n i credits queues
     → r ≡ ready-mask credits queues ((i - 1) * n) n
-first-asks n i credits queues paid sent r e = e ∙ rw (both-yes (is-due n i credits paid) (is-due n i queues sent))
+first-asks n i credits queues paid sent r e =
+    e ∙ rw (both-yes (is-due n i credits paid) (is-due n i queues sent)) (sym (ready-pairs n i credits queues))
 
 pub second-asks : (n i : ℕ) (queues : List ℕ) → Turn n i queues → (r : ℕ) → r ≡ second-requested n i queues → r ≡ ready-mask queues queues ((i - 1) * n) n
-second-asks n i queues sent r e = e ∙ rw (is-due n i queues sent)
+second-asks n i queues sent r e = e ∙ rw (is-due n i queues sent) (sym (waiting-pairs n i queues))
 
 -- WHAT A TURN of input i takes, where it has one and asks for the ready columns
 module _ (n i : ℕ) (queues given : List ℕ) (sent : Turn n i queues) (known : n ≤ length given) where

@@ -1,11 +1,10 @@
--- A set of outputs as one word, bit j - 1 for output j; and the outputs that are open to an input. Assumes nothing.
+-- A set of outputs as one word, bit j - 1 for output j; and the columns of a row in which two runs have something. Assumes nothing.
 use mathlib.Core.Bool.{Bool, _&&_}
 use mathlib.Core.List.{List}
 use Prim.Native.Nat.{ℕ, _+_, _-_, _/_, _%_, _^_, min}
 use lib.Dec.{eqb, ltb}
 use lib.ListN.{getD}
 use Rattle.wsgs.specs.Basics.{pick, between}
-use Rattle.wsgs.specs.Words.{word}
 use Rattle.wsgs.specs.Steps.{marked}
 
 -- output j stands in the set: bit j - 1 of the word is set
@@ -25,10 +24,6 @@ without free j = pick (is-free free j) (free - 2 ^ (j - 1)) free
 -- the set of all outputs 1..n, of which a word has 32
 unfoldable pub all-free : ℕ → ℕ
 all-free n = 2 ^ min n 32 - 1
-
--- output j is free, and the words of the pair (i, j) in two runs are above 0
-unfoldable pub is-open : ℕ → ℕ → List ℕ → List ℕ → ℕ → ℕ → Bool
-is-open n free one two i j = in-mask free j && (ltb 0 (word n one i j) && ltb 0 (word n two i j))
 
 -- the columns k below n, from 0 on, of the row that begins at a place, in which the words of two runs are above 0: bit k for column k
 unfoldable pub ready-mask : List ℕ → List ℕ → ℕ → ℕ → ℕ

@@ -1,37 +1,32 @@
 -- What a turn goes by and what it answers, for any runs and any numbers. Assumes nothing.
 use mathlib.Core.Bool.{Bool, _&&_}
 use mathlib.Core.List.{List}
-use Prim.Native.Nat.{ℕ, _-_, _*_, _≤_}
-use lib.Dec.{leb}
+use Prim.Native.Nat.{ℕ, _*_}
+use lib.Dec.{leb, ltb}
 use lib.ListN.{length}
-use Rattle.wsgs.specs.Basics.{pick, Port, in-turn, looks}
-use Rattle.wsgs.specs.Words.{port-word}
+use Rattle.wsgs.specs.Basics.{pick, in-turn, looks}
+use Rattle.wsgs.specs.Words.{word, port-word}
+use Rattle.wsgs.specs.Steps.{marked}
 use Rattle.words.specs.Places.{is-port}
-use Rattle.turns.specs.Masks.{in-mask, ready-mask}
+use Rattle.turns.specs.Masks.{in-mask}
 
 -- input i of n ports has a turn on a run of so many words: it is one of at most 32 ports, and the run holds a word for each pair
 unfoldable pub has-turn : (n i words : ℕ) → Bool
 unfolding is-port
 has-turn n i words = is-port n i && leb (n * n) words
 
--- a turn that it has, on a run
-pub record Turn (n i : ℕ) (run : List ℕ) : Type 0 where
-  pub few : n ≤ 32
-  pub port : Port n i
-  pub long : n * n ≤ length run
-
 -- the first in turn of the outputs 1..n that stand in two sets, or 0
 abbrev pub common-in-turn : (free asked n last : ℕ) → ℕ
 common-in-turn free asked n last = in-turn (λ j. in-mask free j && in-mask asked j) n last
 
--- what input i asks for, and nothing where it has no turn: in pass one the columns of its row with a credit and a packet,
+-- what input i asks for, bit j - 1 for output j, and nothing where it has no turn: in pass one the outputs for which it has a credit and a packet,
 abbrev pub first-requested : (n i : ℕ) (credits queues : List ℕ) → ℕ
 first-requested n i credits queues =
-    pick (has-turn n i (length credits) && has-turn n i (length queues)) (ready-mask credits queues ((i - 1) * n) n) 0
+    pick (has-turn n i (length credits) && has-turn n i (length queues)) (marked n (λ j. ltb 0 (word n credits i j) && ltb 0 (word n queues i j))) 0
 
--- and in pass two those with a packet
+-- and in pass two those for which it has a packet
 abbrev pub second-requested : (n i : ℕ) (queues : List ℕ) → ℕ
-second-requested n i queues = pick (has-turn n i (length queues)) (ready-mask queues queues ((i - 1) * n) n) 0
+second-requested n i queues = pick (has-turn n i (length queues)) (marked n (λ j. ltb 0 (word n queues i j))) 0
 
 -- what a turn of input i answers that asks for some outputs, and 0 where it has none: of those that are free and asked for, the first from one past the
 -- output that the input was last given; in pass two,

@@ -1,5 +1,6 @@
 // An input's turn, in either pass: a sweep of its row tells what it asks for, the search gives the first open output in turn, and the input pays. An input
 // that is no port, more than 32 ports, or a run that is too short has no turn: nothing is asked for, nothing is looked at, and nothing changes.
+// Credits are loaded here too.
 mod charges;
 mod credits;
 mod given;
@@ -80,7 +81,8 @@ fn load_worked_out(
     }
 }
 
-// What an input asks for at its turn of pass one: the outputs for which it has a credit and a packet. Where it has no credit its queues are not read.
+// What an input asks for at its turn of pass one: the outputs for which it has a credit and a packet. An input
+// without a credit asks for nothing, and its queues are not read.
 pub fn first_requests(ports: usize, input: Input, credits: &[u32], queues: &[u32]) -> u32
     ensures asked { λ r. ⌜ r ≡ first-requested ports (input .0) (now (credits .entry)) (now (queues .entry)) ⌝ }
 {
@@ -111,7 +113,7 @@ pub struct Choice {
     pub looks: u32,
 }
 
-// A turn of pass two that asks for some outputs: it costs a packet, and what the input takes is its last given output.
+// A turn of pass two that asks for some outputs: it costs a packet, and what the input takes becomes its last given output.
 pub fn second_turn(
     free: u32,
     asked: u32,

@@ -1,10 +1,9 @@
 // The search that every turn makes, in both passes and both forms.
 ghost use mathlib.Core.Path.{_≡_};
-ghost use mathlib.Core.Bool.{_&&_};
+ghost use mathlib.Core.Bool.{true, _&&_, _||_};
 ghost use Prim.Native.Nat.{ℕ, _≤_};
-ghost use lib.Dec.{eqb, ltb};
+ghost use lib.Dec.{eqb, leb, ltb};
 ghost use Rattle.wsgs.specs.Basics.{pick, Port, in-turn, looks};
-ghost use Rattle.wsgs.proofs.Laws.Looks.{looked};
 ghost use Rattle.turns.specs.Masks.{in-mask};
 ghost use Rattle.turns.specs.Requests.{common-in-turn};
 use super::Choice;
@@ -40,9 +39,11 @@ fn first_in_turn(set: u32, last: u32) -> Output
     Output(u32::trailing_zeros(pool) as u64 + 1)
 }
 
-// The free outputs at which a search looks that comes to an output, 0 for none.
+// The free outputs at which a search has looked that comes to an output, 0 for none: all where it comes to none; else those past the last given one up to it,
+// or, where it is not past that one, those past the last given one and those up to it.
 fn looked_at(free: u32, last: u32, output: Output) -> u32
-    ensures members { λ r. ⌜ ((j : ℕ) → Port 32 j → in-mask r j ≡ (in-mask free j && looked last (output .0) j)) ⌝ }
+    ensures members { λ r. ⌜ ((j : ℕ) → Port 32 j → in-mask r j ≡ (in-mask free j
+        && pick (eqb (output .0) 0) true (pick (ltb last (output .0)) (ltb last j && leb j (output .0)) (ltb last j || leb j (output .0))))) ⌝ }
 {
     if output.0 == 0 {
         return free;
@@ -54,7 +55,7 @@ fn looked_at(free: u32, last: u32, output: Output) -> u32
     above(free, last) | up_to
 }
 
-// The search among the free outputs of the ports for one that is asked for, from one past the last given one.
+// The search among the free outputs of the ports for the first that is asked for, from one past the last given one; and at how many of them it has looked.
 pub fn choose(free: u32, asked: u32, ports: usize, last: u32) -> Choice
     requires ports { ⌜ ports ≤ 32 ⌝ }
     ensures output { λ r. ⌜ r .output .0 ≡ common-in-turn free asked ports last ⌝ }

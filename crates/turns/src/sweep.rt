@@ -1,4 +1,5 @@
-// The sweep of an input's row, which tells for which outputs it has what a pass asks for: bit j - 1 for output j. It reads the whole row, with no branch.
+// Whether an input has a turn; and the sweep of its row, which tells for which outputs it has what a pass asks for: bit j - 1 for output j. It reads the
+// whole row, so that the compiler can use vector instructions.
 ghost use mathlib.Core.Path.{_≡_};
 ghost use Prim.Native.Nat.{_+_, _-_, _^_, _≤_, _<_};
 ghost use lib.Dec.{ltb};

@@ -7,7 +7,7 @@ use ledgers::Random;
 use second::turns::all_free;
 use second::{Clock, Pass, Rules, Switch, Words};
 
-const SEARCHES: usize = 400;
+const SEARCHES: usize = 450;
 
 /// Mostly few, since a checker has to compute with them.
 fn ports(r: &mut Random) -> u64 {
@@ -20,7 +20,7 @@ fn last_given(r: &mut Random, n: u64) -> u32 {
     r.of(&[port, port, port, port, port, 0, past]) as u32
 }
 
-/// Free outputs: none, few, half, most or all of them; one in four words may have bits past n, but of few outputs.
+/// Free outputs: none, few, half, most or all of them; one word in four may have the bits of the two outputs past n.
 fn free_outputs(r: &mut Random, n: u64) -> u32 {
     let [a, b] = [r.next() as u32, r.next() as u32];
     let free = r.of(&[0, a & b, a, a, a, a | b, a | b, a | b, u32::MAX]);

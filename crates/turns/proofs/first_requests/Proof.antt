@@ -8,9 +8,9 @@ use borrow.Author.Needs.{needs}
 use borrow.Author.Tests.{not-true}
 use lib.ListN.{length}
 use Rattle.turns.specs.Masks.{ready-mask}
-use Rattle.turns.specs.Requests.{has-turn, Turn, first-requested}
-use Rattle.turns.proofs.Ready.{ready-at, nothing-ready}
-use Rattle.turns.proofs.TurnLaws.{due, is-due, not-due, row-there, with-turn, without-turn, both-yes, first-no, second-no}
+use Rattle.turns.specs.Requests.{has-turn, first-requested}
+use Rattle.turns.proofs.Ready.{ready-at, ready-pairs, nothing-ready}
+use Rattle.turns.proofs.TurnLaws.{Turn, due, is-due, not-due, row-there, with-turn, without-turn, both-yes, first-no, second-no}
 use Rattle.turns.proofs.first_requests.Statement.{statement}
 use Rattle.turns.proofs.first_requests.Tie as tie
 
@@ -31,7 +31,7 @@ asked : (w : tie.After-row-of) (r : ℕ) → let a = start (w .before) .args in
 asked w r h =
     let e = w .before in
     with-turn (both-yes (is-due _ _ _ (by-credits e)) (is-due _ _ _ (by-queues e)))
-    (ready-at _ _ _ _ _ (row-there _ _ _ (by-queues e) _ (w .row-of .ensures .0)) h)
+    (ready-at _ _ _ _ _ (row-there _ _ _ (by-queues e) _ (w .row-of .ensures .0)) h ∙ ready-pairs _ _ _ _)
 
 has-turn-requires : tie.Need-has-turn-requires
 has-turn-requires c κs = search needs

@@ -2,9 +2,9 @@
 use mathlib.Core.Path.{_≡_, sym, _∙_}
 use native.Mathlib.Omega.{arith}
 use borrow.Author.Needs.{needs}
-use Rattle.turns.specs.Requests.{Turn, first-output, first-looks}
+use Rattle.turns.specs.Requests.{first-output, first-looks}
 use Rattle.turns.proofs.Costs.{charged-some, charged-none, noted-none}
-use Rattle.turns.proofs.TurnLaws.{due, is-due, not-due, with-turn, without-turn, second-port}
+use Rattle.turns.proofs.TurnLaws.{Turn, due, is-due, not-due, with-turn, without-turn, second-port}
 use Rattle.turns.proofs.first_turn.Statement.{statement}
 use Rattle.turns.proofs.first_turn.Tie as tie
 

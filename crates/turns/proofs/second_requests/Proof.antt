@@ -1,9 +1,9 @@
 -- `turns::second_requests` meets its contract: where the input has a turn, the sweep gives what it asks for. Assumes nothing.
+use mathlib.Core.Path.{_∙_}
 use native.Mathlib.Omega.{arith}
 use borrow.Author.Needs.{needs}
-use Rattle.turns.specs.Requests.{Turn}
 use Rattle.turns.proofs.Ready.{ready-at}
-use Rattle.turns.proofs.TurnLaws.{due, is-due, not-due, row-there, with-turn, without-turn}
+use Rattle.turns.proofs.TurnLaws.{Turn, due, is-due, not-due, row-there, with-turn, without-turn, waiting-pairs}
 use Rattle.turns.proofs.second_requests.Statement.{statement}
 use Rattle.turns.proofs.second_requests.Tie as tie
 
@@ -27,7 +27,7 @@ returns-2 : tie.Need-returns-2
 returns-2 c =
     let w = c .before in
     let d = allowed (w .before) in
-    with-turn (is-due _ _ _ d) (ready-at _ _ _ _ _ (row-there _ _ _ d _ (w .row-of .ensures .0)) (c .waiting-in .ensures))
+    with-turn (is-due _ _ _ d) (ready-at _ _ _ _ _ (row-there _ _ _ d _ (w .row-of .ensures .0)) (c .waiting-in .ensures) ∙ waiting-pairs _ _ _)
 
 pub second-requests-spec : {M : Type 1} → statement M
 second-requests-spec = tie.close (tie.spec has-turn-requires returns row-of-requires waiting-in-requires returns-2)

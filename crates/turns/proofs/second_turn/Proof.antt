@@ -10,9 +10,9 @@ use lib.Dec.{leb}
 use lib.ListN.{length}
 use Rattle.wsgs.specs.Basics.{Port, looks}
 use Rattle.turns.specs.Masks.{in-mask}
-use Rattle.turns.specs.Requests.{has-turn, Turn, common-in-turn, second-output, second-looks}
+use Rattle.turns.specs.Requests.{has-turn, common-in-turn, second-output, second-looks}
 use Rattle.turns.proofs.Costs.{charged-some, charged-none, noted-some, noted-none}
-use Rattle.turns.proofs.TurnLaws.{due, is-due, not-due, with-turn, without-turn, both-yes, first-no, second-no, second-port}
+use Rattle.turns.proofs.TurnLaws.{Turn, due, is-due, not-due, with-turn, without-turn, both-yes, first-no, second-no, second-port}
 use Rattle.turns.proofs.second_turn.Statement.{statement}
 use Rattle.turns.proofs.second_turn.Tie as tie
 

@@ -1,13 +1,12 @@
 -- The word whose bits say which of 1..n pass a test: that it fits, its bits, and one bit set. They hold by induction on n. Assumes nothing.
 use mathlib.Core.Path.{_≡_, refl, sym, _∙_, ap, ap₂}
 use mathlib.Core.Bool.{Bool, true, false}
-use mathlib.Core.Logic.{_≢_}
 use Prim.Native.Nat.{ℕ, zero, suc, _+_, _-_, _*_, _/_, _%_, _^_, _≤_, _<_}
 use native.Mathlib.Nat.{two-pow-succ, mod-eq-of-lt}
 use native.Mathlib.Numerals.{one-add}
 use native.Mathlib.Decide.{ℕ-discrete, le-ind}
 use native.Mathlib.Omega.{arith}
-use lib.Bits.{bitAnd, bitOr, and-mask, or-block, or-zero-r}
+use lib.Bits.{bitOr, or-block, or-zero-r}
 use lib.Pow.{pow-pos, pow-lt, high, low, field, mod-mod-pow}
 use Rattle.wsgs.specs.Basics.{bit, Port, sum, updated}
 use Rattle.wsgs.specs.Steps.{marked}
@@ -19,11 +18,6 @@ unfolding marked sum
 marked-suc n p =
     let e : suc n - 1 ≡ n = omega arith in
     rw e (omega arith)
-
--- a bit is at most 1
-bit-small : (b : Bool) → bit b < 2
-bit-small true = omega arith
-bit-small false = omega arith
 
 -- the word fits
 pub marked-lt : (n : ℕ) (p : ℕ → Bool) → marked n p < 2 ^ n
@@ -97,23 +91,3 @@ pub marked-bit : (n : ℕ) (p : ℕ → Bool) (x : ℕ) → x < n → marked n p
 marked-bit n p x h =
     sym (field (marked n p) 1 x)
     ∙ rw (one-add x, marked-mod n (suc x) p h, marked-suc x p) (high (bit (p (suc x))) x (marked-lt x p))
-
--- the test of a bit, by a shift and a mask
-test-bit : (n : ℕ) (p : ℕ → Bool) (x : ℕ) → x < n → bitAnd (marked n p / 2 ^ x) 1 ≡ bit (p (suc x))
-test-bit n p x h = and-mask (marked n p / 2 ^ x) 1 ∙ marked-bit n p x h
-
--- it holds where the test of the number does
-pub marked-yes : (n : ℕ) (p : ℕ → Bool) (x : ℕ) → x < n → bitAnd (marked n p / 2 ^ x) 1 ≡ 1 → p (suc x) ≡ true
-marked-yes n p x h e = go (p (suc x)) (sym (test-bit n p x h) ∙ e)
-  where
-    go : (b : Bool) → bit b ≡ 1 → b ≡ true
-    go true e = refl
-    go false e = absurd (omega arith)
-
--- and fails where it fails
-pub marked-no : (n : ℕ) (p : ℕ → Bool) (x : ℕ) → x < n → bitAnd (marked n p / 2 ^ x) 1 ≢ 1 → p (suc x) ≡ false
-marked-no n p x h d = go (p (suc x)) (λ e. d (test-bit n p x h ∙ e))
-  where
-    go : (b : Bool) → bit b ≢ 1 → b ≡ false
-    go true e = absurd (e refl)
-    go false e = refl

@@ -11,11 +11,10 @@ use Rattle.wsgs.specs.Basics.{Port, in-turn}
 use Rattle.wsgs.specs.Words.{word, port-word}
 use Rattle.wsgs.specs.Steps.{pass-one}
 use Rattle.wsgs.proofs.Laws.InTurn.{in-turn-some}
-use Rattle.turns.specs.Masks.{is-open}
-use Rattle.turns.specs.Requests.{Turn}
+use Rattle.turns.proofs.Ready.{is-open}
 use Rattle.turns.proofs.BitLaws.{one-shl}
 use Rattle.turns.proofs.MaskLaws.{free-first}
-use Rattle.turns.proofs.TurnLaws.{first-asks, first-takes}
+use Rattle.turns.proofs.TurnLaws.{Turn, first-asks, first-takes}
 use Rattle.direct.proofs.PassLaws.{PassOneState, one-start, one-none, one-some}
 use Rattle.direct.proofs.passes.pass_one.Statement.{statement}
 use Rattle.direct.proofs.passes.pass_one.Tie as tie

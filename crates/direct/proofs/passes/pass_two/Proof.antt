@@ -13,9 +13,8 @@ use Rattle.wsgs.specs.Words.{word, port-word}
 use Rattle.wsgs.specs.Steps.{pass-two}
 use Rattle.wsgs.proofs.Laws.InTurn.{in-turn-some}
 use Rattle.direct.specs.Passes.{PassState}
-use Rattle.turns.specs.Masks.{is-open}
-use Rattle.turns.specs.Requests.{Turn}
-use Rattle.turns.proofs.TurnLaws.{second-asks, second-takes}
+use Rattle.turns.proofs.Ready.{is-open}
+use Rattle.turns.proofs.TurnLaws.{Turn, second-asks, second-takes}
 use Rattle.direct.proofs.PassLaws.{two-served, two-none, two-some}
 use Rattle.direct.proofs.passes.pass_two.Statement.{statement}
 use Rattle.direct.proofs.passes.pass_two.Tie as tie
@@ -31,7 +30,7 @@ Inv-loop passed ports queues₀ given₀ free₀ outputs₀ row₀ queues given 
 abbrev μ-loop : tie.MeasureT-loop
 μ-loop passed ports queues₀ given₀ free₀ outputs₀ row₀ queues given free outputs row = ports - row
 
--- the loop's head from a turn, and the entry
+-- from the test of a turn's output back to the turn, and from there to the loop's head and the entry
 abbrev turn : tie.After-struct-known Inv-loop μ-loop → tie.After-second-turn Inv-loop μ-loop
 turn c = c .before .before .before .before .before
 

@@ -6,9 +6,9 @@ use borrow.Author.Needs.{needs}
 use Rattle.wsgs.specs.Basics.{in-turn}
 use Rattle.wsgs.specs.Words.{port-word}
 use Rattle.wsgs.proofs.Laws.InTurn.{in-turn-some}
-use Rattle.turns.specs.Masks.{is-open, ready-mask}
-use Rattle.turns.specs.Requests.{Turn}
-use Rattle.turns.proofs.TurnLaws.{first-asks, first-takes}
+use Rattle.turns.specs.Masks.{ready-mask}
+use Rattle.turns.proofs.Ready.{is-open}
+use Rattle.turns.proofs.TurnLaws.{Turn, first-asks, first-takes}
 use Rattle.pipelined.proofs.PipelinedTurns.{turn-one-unasked, turn-one-held, turn-one-some, turn-one-none}
 use Rattle.pipelined.proofs.pipeline_turns.turn_one.Statement.{statement}
 use Rattle.pipelined.proofs.pipeline_turns.turn_one.Tie as tie

@@ -6,9 +6,9 @@ use borrow.Author.Needs.{needs}
 use Rattle.wsgs.specs.Basics.{in-turn}
 use Rattle.wsgs.specs.Words.{port-word}
 use Rattle.wsgs.proofs.Laws.InTurn.{in-turn-some}
-use Rattle.turns.specs.Masks.{is-open, ready-mask}
-use Rattle.turns.specs.Requests.{Turn}
-use Rattle.turns.proofs.TurnLaws.{second-asks, second-takes}
+use Rattle.turns.specs.Masks.{ready-mask}
+use Rattle.turns.proofs.Ready.{is-open}
+use Rattle.turns.proofs.TurnLaws.{Turn, second-asks, second-takes}
 use Rattle.pipelined.proofs.PipelinedTurns.{turn-two-unasked, turn-two-held, turn-two-some, turn-two-none}
 use Rattle.pipelined.proofs.pipeline_turns.turn_two.Statement.{statement}
 use Rattle.pipelined.proofs.pipeline_turns.turn_two.Tie as tie

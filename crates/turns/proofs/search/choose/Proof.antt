@@ -4,7 +4,7 @@ use Prim.Native.Nat.{_≤_}
 use native.Mathlib.Omega.{arith}
 use borrow.Author.Needs.{needs}
 use Rattle.turns.proofs.Ready.{open-turn}
-use Rattle.turns.proofs.Seen.{looks-are}
+use Rattle.turns.proofs.LookLaws.{looks-are}
 use Rattle.turns.proofs.search.choose.Statement.{statement}
 use Rattle.turns.proofs.search.choose.Tie as tie
 

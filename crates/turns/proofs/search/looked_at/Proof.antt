@@ -1,7 +1,7 @@
 -- `search::looked_at` meets its contract: none is come to, one above the last given one, or one that is not. Assumes nothing.
 use native.Mathlib.Omega.{arith}
 use borrow.Author.Needs.{needs}
-use Rattle.turns.proofs.Seen.{all-looked, looked-above, looked-wrapped}
+use Rattle.turns.proofs.LookLaws.{all-looked, looked-above, looked-wrapped}
 use Rattle.turns.proofs.search.looked_at.Statement.{statement}
 use Rattle.turns.proofs.search.looked_at.Tie as tie
 

@@ -1,10 +1,11 @@
 //! An input's turn alone: by the library for tests alone (crates/turns_c), and by the second program.
 
-use crate::rules;
+use compare::rules;
 use second::switch::MAX_PORTS;
 use second::{Clock, Pass, Switch, Words};
 
 pub mod exported {
+    #[link(name = "turns_c", kind = "static")]
     extern "C" {
         pub fn kivdrag_test_first_turn(
             free: u32, ports: usize, input: u64, credits: *mut u32, credits_len: usize, queues: *mut u32, queues_len: usize,
@@ -31,7 +32,7 @@ pub struct TurnCall {
 
 /// What a turn gives: the output, 0 for none, and the count of looks.
 #[derive(Clone, Copy, Debug, Default, PartialEq, Eq)]
-pub struct Gave {
+pub struct TurnResult {
     pub output: u64,
     pub looks: u32,
 }
@@ -70,7 +71,7 @@ impl TurnCall {
     }
 
     /// What the count held before must not matter.
-    pub fn by_library(&mut self) -> Gave {
+    pub fn by_library(&mut self) -> TurnResult {
         let (free, ports, input, w, mut looks) = (self.free, self.ports as usize, self.input, &mut self.words, 0xA5A5_A5A5);
         let output = match self.pass {
             Pass::One => unsafe {
@@ -85,13 +86,13 @@ impl TurnCall {
                 )
             },
         };
-        Gave { output, looks }
+        TurnResult { output, looks }
     }
 
     /// The choice, and what it pays. Without a turn nothing is given, and nothing changes.
-    pub fn by_second(&mut self) -> Gave {
+    pub fn by_second(&mut self) -> TurnResult {
         if !self.no_turn().is_empty() {
-            return Gave::default();
+            return TurnResult::default();
         }
         let mut s = self.switch();
         let (chosen, looks) = s.choose(self.input, self.free, self.pass);
@@ -99,6 +100,6 @@ impl TurnCall {
             s.give(self.input, j, self.pass);
         }
         self.words = s.words;
-        Gave { output: chosen.unwrap_or(0), looks }
+        TurnResult { output: chosen.unwrap_or(0), looks }
     }
 }

@@ -2,23 +2,23 @@
 use mathlib.Core.Path.{_≡_, refl, sym, _∙_, ap}
 use mathlib.Core.Bool.{Bool, true, false, _&&_, _||_, and-true}
 use Prim.Native.Nat.{ℕ, zero, suc, _+_, _-_, _/_, _%_, _^_, _≤_, _<_, min}
-use native.Mathlib.Nat.{div-one, pow-suc}
+use native.Mathlib.Nat.{pow-suc}
 use native.Mathlib.Decide.{decLe}
 use native.Mathlib.Omega.{arith}
-use borrow.Author.Tests.{le-leb, lt-leb, lt-ltb, le-ltb, eq-eqb, ne-eqb}
+use borrow.Author.Tests.{le-leb, lt-leb, lt-ltb, le-ltb, ne-eqb}
 use lib.Bits.{bitAnd, bitOr}
 use lib.Count.{ones, ones-step}
 use lib.Dec.{eqb, leb, ltb}
-use lib.Pow.{shr-shr}
-use Rattle.wsgs.specs.Basics.{pick, bit, Port, sum, in-turn, looks}
+use Rattle.wsgs.specs.Basics.{bit, Port, sum, in-turn, looks}
 use Rattle.wsgs.proofs.Laws.Sums.{sum-ext, sum-zero, sum-split}
 use Rattle.wsgs.proofs.Laws.Looks.{looked, looks-counted}
 use Rattle.turns.specs.Masks.{in-mask, all-free}
-use Rattle.turns.proofs.BitLaws.{bits, mask-bit}
+use Rattle.turns.proofs.BitLaws.{mask-bit}
 use Rattle.turns.proofs.MaskLaws.{free-first, past-unset}
+use Rattle.turns.proofs.TrailingLaws.{bits-zero, bits-suc}
 use Rattle.turns.proofs.Ready.{common-outputs, either-output, outputs, free-inside, none-past, open-turn}
 
--- AS A WORD. Of the outputs of a word those up to v
+-- AS A WORD. The set of all outputs of v ports has those up to v
 up-to : (v j : ℕ) → Port 32 j → in-mask (all-free v) j ≡ leb j v
 unfolding all-free
 up-to v j p = go (decLe j v)
@@ -33,12 +33,12 @@ up-to v j p = go (decLe j v)
     go (yes h) = free-first (min v 32) (all-free v) few same j (omega arith) ∙ sym (le-leb j v h)
     go (no h) = past-unset (min v 32) (all-free v) few same j (omega arith) ∙ sym (lt-leb j v (omega arith))
 
--- at which a search has looked that comes to v: none,
+-- the free outputs at which a search has looked that comes to v: all of them where v is 0, for none;
 module _ (free last v : ℕ) where
   pub all-looked : v ≡ 0 → (j : ℕ) → Port 32 j → in-mask free j ≡ (in-mask free j && looked last v j)
   all-looked z j p = rw z (sym (and-true (in-mask free j)))
 
-  -- one above the last given one, and one that is not
+  -- those past the last given one up to v; and, where v is not past it, those past it and those up to v
   module _ (some : 1 ≤ v) (all : ℕ) (full : all ≡ all-free v) where
     free-up-to : (j : ℕ) → Port 32 j → in-mask (bitAnd free all) j ≡ (in-mask free j && leb j v)
     free-up-to j p = common-outputs free all j (p .low) ∙ ap (λ b. in-mask free j && b) (ap (λ w. in-mask w j) full ∙ up-to v j p)
@@ -66,8 +66,7 @@ module _ (free last v : ℕ) where
 
 -- COUNTED. The lowest output of a word, and those of its half
 lowest-bit : (w : ℕ) → bit (in-mask w 1) ≡ w % 2
-unfolding in-mask
-lowest-bit w = rw (div-one w) (go (w % 2) (omega arith))
+lowest-bit w = rw (mask-bit w 0, bits-zero w) (go (w % 2) (omega arith))
   where
     go : (d : ℕ) → d < 2 → bit (eqb d 1) ≡ d
     go zero h = refl
@@ -75,12 +74,10 @@ lowest-bit w = rw (div-one w) (go (w % 2) (omega arith))
     go (suc (suc d)) h = absurd (omega arith)
 
 half-bit : (w j : ℕ) → 1 ≤ j → in-mask (w / 2) j ≡ in-mask w (1 + j)
-unfolding bits
 half-bit w zero h = absurd (omega arith)
 half-bit w (suc k) h =
-    let e : 1 + k ≡ suc k = omega arith in
-    let d : suc (suc k) ≡ 1 + suc k = omega arith in
-    mask-bit (w / 2) k ∙ ap (λ v. eqb (v % 2) 1) (shr-shr w 1 k) ∙ ap (λ z. eqb (w / 2 ^ z % 2) 1) e ∙ sym (mask-bit w (suc k)) ∙ ap (in-mask w) d
+    let e : suc (suc k) ≡ 1 + suc k = omega arith in
+    mask-bit (w / 2) k ∙ sym (bits-suc w k) ∙ sym (mask-bit w (suc k)) ∙ ap (in-mask w) e
 
 -- the set bits of a word of k bits are its outputs
 bits-counted : (k w : ℕ) → w < 2 ^ k → ones w ≡ sum (λ j. bit (in-mask w j)) k
