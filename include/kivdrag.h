@@ -44,8 +44,8 @@
  * in it, and in a plain one 2. Bookings that a plain book accepts, one after the other from the start on, a fine one
  * accepts too. With either, booked pairs keep their slots; and a release is not asked any of this.
  *
- * MEMORY. The library has no memory of its own, and calls nothing but the C library's memset: a switch is the memory
- * that the caller lends, and several switches do not know of each other. For N ports:
+ * MEMORY. The library has no memory of its own, and calls nothing but the C library's memset and memcpy: a switch is the
+ * memory that the caller lends, and several switches do not know of each other. For N ports:
  *
  *   clock    5 words: the number of ports, the length of a frame, the last slot run, the line rate, the kind of book
  *   slots    N * N words: the slots of each frame that a pair holds by bookings by slots
