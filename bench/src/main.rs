@@ -4,8 +4,8 @@
 mod plain;
 mod switch;
 
-use compare::calls::exported::*;
 use compare::Random;
+use kivdrag::raw::*;
 use std::collections::BTreeSet;
 use std::fmt::Write;
 use std::hint::black_box;

@@ -1,8 +1,8 @@
 //! A switch whose ticks are timed, and its tick by each of the three schedulers.
 
 use crate::plain;
-use compare::calls::exported::*;
 use compare::Random;
+use kivdrag::raw::*;
 
 const FRAME: u32 = 100;
 /// 1 Gbit/s, in kbit/s.

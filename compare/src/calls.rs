@@ -2,67 +2,11 @@
 //! adds or alters a call does so here; what tests want to see happen at it stands in tally.rs.
 
 use crate::{rules, Random};
+use kivdrag::slices::{self, Outputs};
 use second::book::Preview;
 use second::ledger::Ledger;
 use second::{Answer, Form, Run, Switch, Words};
-
-pub mod exported {
-    extern "C" {
-        pub fn kivdrag_start_direct(
-            ports: u64, frame: u64, line: u64, fine: u32, clock: *mut u32, slots: *mut u32, slots_len: usize, rates: *mut u32, rates_len: usize,
-            credits: *mut u32, credits_len: usize, queues: *mut u32, queues_len: usize, given: *mut u32, given_len: usize,
-        ) -> u32;
-        pub fn kivdrag_start_pipelined(
-            ports: u64, frame: u64, line: u64, fine: u32, clock: *mut u32, slots: *mut u32, slots_len: usize, rates: *mut u32, rates_len: usize,
-            credits: *mut u32, credits_len: usize, queues: *mut u32, queues_len: usize, given: *mut u32, given_len: usize,
-            copy: *mut u32, copy_len: usize, flight: *mut u32, flight_len: usize,
-        ) -> u32;
-        pub fn kivdrag_book(
-            clock: *const u32, slots: *mut u32, slots_len: usize, rates: *const u32, rates_len: usize, input: u64, output: u64, amount: u64,
-        ) -> u32;
-        pub fn kivdrag_book_rate(
-            clock: *const u32, slots: *const u32, slots_len: usize, rates: *mut u32, rates_len: usize, input: u64, output: u64, rate: u64,
-        ) -> u32;
-        pub fn kivdrag_release(
-            clock: *const u32, slots: *mut u32, slots_len: usize, rates: *const u32, rates_len: usize, input: u64, output: u64, amount: u64,
-        ) -> u32;
-        pub fn kivdrag_release_rate(
-            clock: *const u32, slots: *const u32, slots_len: usize, rates: *mut u32, rates_len: usize, input: u64, output: u64, rate: u64,
-        ) -> u32;
-        pub fn kivdrag_headroom(
-            clock: *const u32, slots: *const u32, slots_len: usize, rates: *const u32, rates_len: usize, input: u64, output: u64,
-            headroom: *mut i64,
-        ) -> u32;
-        pub fn kivdrag_preview_book(
-            clock: *const u32, slots: *const u32, slots_len: usize, rates: *const u32, rates_len: usize, input: u64, output: u64, amount: u64,
-            row: *mut u64, column: *mut u64,
-        ) -> u32;
-        pub fn kivdrag_preview_book_rate(
-            clock: *const u32, slots: *const u32, slots_len: usize, rates: *const u32, rates_len: usize, input: u64, output: u64, rate: u64,
-            row: *mut u64, column: *mut u64,
-        ) -> u32;
-        pub fn kivdrag_preview_release(
-            clock: *const u32, slots: *const u32, slots_len: usize, rates: *const u32, rates_len: usize, input: u64, output: u64, amount: u64,
-            row: *mut u64, column: *mut u64,
-        ) -> u32;
-        pub fn kivdrag_preview_release_rate(
-            clock: *const u32, slots: *const u32, slots_len: usize, rates: *const u32, rates_len: usize, input: u64, output: u64, rate: u64,
-            row: *mut u64, column: *mut u64,
-        ) -> u32;
-        pub fn kivdrag_arrive(clock: *const u32, queues: *mut u32, queues_len: usize, input: u64, output: u64, packets: u64) -> u32;
-        pub fn kivdrag_tick_direct(
-            clock: *mut u32, slots: *const u32, slots_len: usize, rates: *const u32, rates_len: usize, credits: *mut u32, credits_len: usize,
-            queues: *mut u32, queues_len: usize, given: *mut u32, given_len: usize, outputs: *mut u8, first_pass: *mut u32,
-        ) -> u32;
-        pub fn kivdrag_tick_pipelined(
-            clock: *mut u32, slots: *const u32, slots_len: usize, rates: *const u32, rates_len: usize, credits: *mut u32, credits_len: usize,
-            queues: *mut u32, queues_len: usize, given: *mut u32, given_len: usize, copy: *mut u32, copy_len: usize,
-            flight: *mut u32, flight_len: usize, outputs: *mut u8, first_pass: *mut u32,
-        ) -> u32;
-    }
-}
-
-use exported::*;
+use std::hint::black_box;
 
 /// The numbers that a caller brings, in the call's order; 0 for those that it has not.
 pub type Arguments = [u64; 4];
@@ -147,11 +91,8 @@ pub static CALLS: [Call; 14] = [
             [n, r.within(1, n + 9), line_rate(r), any_kind(r)]
         },
         by_library: |s, _, [n, f, line, fine]| {
-            lent(s, |clock, w| unsafe {
-                kivdrag_start_direct(
-                    n, f, line, fine as u32, clock, w.slots.as_mut_ptr(), w.slots.len(), w.rates.as_mut_ptr(), w.rates.len(),
-                    w.credits.as_mut_ptr(), w.credits.len(), w.queues.as_mut_ptr(), w.queues.len(), w.given.as_mut_ptr(), w.given.len(),
-                )
+            lent(s, |clock, w| {
+                slices::start_direct(n, f, line, fine as u32, clock, &mut w.slots, &mut w.rates, &mut w.credits, &mut w.queues, &mut w.given)
             })
         },
         by_second: |s, _, [n, f, line, fine]| number(s.start_direct(n, f, line, fine != 0, false)),
@@ -168,11 +109,10 @@ pub static CALLS: [Call; 14] = [
             [n, r.within(n, n + 9), line_rate(r), any_kind(r)]
         },
         by_library: |s, _, [n, f, line, fine]| {
-            lent(s, |clock, w| unsafe {
-                kivdrag_start_pipelined(
-                    n, f, line, fine as u32, clock, w.slots.as_mut_ptr(), w.slots.len(), w.rates.as_mut_ptr(), w.rates.len(),
-                    w.credits.as_mut_ptr(), w.credits.len(), w.queues.as_mut_ptr(), w.queues.len(), w.given.as_mut_ptr(), w.given.len(),
-                    w.copy.as_mut_ptr(), w.copy.len(), w.flight.as_mut_ptr(), w.flight.len(),
+            lent(s, |clock, w| {
+                slices::start_pipelined(
+                    n, f, line, fine as u32, clock, &mut w.slots, &mut w.rates, &mut w.credits, &mut w.queues, &mut w.given, &mut w.copy,
+                    &mut w.flight,
                 )
             })
         },
@@ -186,9 +126,7 @@ pub static CALLS: [Call; 14] = [
         weights: [6, 20],
         any: any_slots_to_book,
         listed: slots_to_book,
-        by_library: |s, _, [i, j, d, _]| {
-            lent(s, |clock, w| unsafe { kivdrag_book(clock, w.slots.as_mut_ptr(), w.slots.len(), w.rates.as_ptr(), w.rates.len(), i, j, d) })
-        },
+        by_library: |s, _, [i, j, d, _]| lent(s, |clock, w| slices::book(clock, &mut w.slots, &w.rates, i, j, d)),
         by_second: |s, form, [i, j, d, _]| number(s.book(form, i, j, d)),
         noted: |l, _, a, [i, j, d, _]| latest(l).book(a.refusal, i, j, d),
     },
@@ -199,9 +137,7 @@ pub static CALLS: [Call; 14] = [
         weights: [8, 60],
         any: any_rate_to_book,
         listed: rate_to_book,
-        by_library: |s, _, [i, j, rate, _]| {
-            lent(s, |clock, w| unsafe { kivdrag_book_rate(clock, w.slots.as_ptr(), w.slots.len(), w.rates.as_mut_ptr(), w.rates.len(), i, j, rate) })
-        },
+        by_library: |s, _, [i, j, rate, _]| lent(s, |clock, w| slices::book_rate(clock, &w.slots, &mut w.rates, i, j, rate)),
         by_second: |s, form, [i, j, rate, _]| number(s.book_rate(form, i, j, 0, rate)),
         noted: |l, _, a, [i, j, rate, _]| latest(l).book_rate(a.refusal, i, j, 0, rate),
     },
@@ -212,9 +148,7 @@ pub static CALLS: [Call; 14] = [
         weights: [4, 20],
         any: any_slots_to_release,
         listed: slots_to_release,
-        by_library: |s, _, [i, j, d, _]| {
-            lent(s, |clock, w| unsafe { kivdrag_release(clock, w.slots.as_mut_ptr(), w.slots.len(), w.rates.as_ptr(), w.rates.len(), i, j, d) })
-        },
+        by_library: |s, _, [i, j, d, _]| lent(s, |clock, w| slices::release(clock, &mut w.slots, &w.rates, i, j, d)),
         by_second: |s, _, [i, j, d, _]| number(s.release(i, j, d)),
         noted: |l, _, a, [i, j, d, _]| latest(l).release(a.refusal, i, j, d),
     },
@@ -225,11 +159,7 @@ pub static CALLS: [Call; 14] = [
         weights: [6, 30],
         any: any_rate_to_release,
         listed: rate_to_release,
-        by_library: |s, _, [i, j, rate, _]| {
-            lent(s, |clock, w| unsafe {
-                kivdrag_release_rate(clock, w.slots.as_ptr(), w.slots.len(), w.rates.as_mut_ptr(), w.rates.len(), i, j, rate)
-            })
-        },
+        by_library: |s, _, [i, j, rate, _]| lent(s, |clock, w| slices::release_rate(clock, &w.slots, &mut w.rates, i, j, rate)),
         by_second: |s, _, [i, j, rate, _]| number(s.release_rate(i, j, rate)),
         noted: |l, _, a, [i, j, rate, _]| latest(l).release_rate(a.refusal, i, j, rate),
     },
@@ -252,9 +182,7 @@ pub static CALLS: [Call; 14] = [
         },
         by_library: |s, _, [i, j, ..]| {
             let mut headroom = 0xA5A5_A5A5_A5A5_A5A5_u64 as i64;
-            let reply = lent(s, |clock, w| unsafe {
-                kivdrag_headroom(clock, w.slots.as_ptr(), w.slots.len(), w.rates.as_ptr(), w.rates.len(), i, j, &mut headroom)
-            });
+            let reply = lent(s, |clock, w| slices::headroom(clock, &w.slots, &w.rates, i, j, &mut headroom));
             Reply { headroom, ..reply }
         },
         by_second: |s, _, [i, j, ..]| {
@@ -270,7 +198,7 @@ pub static CALLS: [Call; 14] = [
         weights: [6, 20],
         any: any_slots_to_book,
         listed: slots_to_book,
-        by_library: |s, _, arguments| lent_with_sums(s, kivdrag_preview_book, arguments),
+        by_library: |s, _, arguments| lent_with_sums(s, slices::preview_book, arguments),
         by_second: |s, form, [i, j, d, _]| shown(s.preview_book(form, i, j, d)),
         noted: |_, _, _, _| (),
     },
@@ -281,7 +209,7 @@ pub static CALLS: [Call; 14] = [
         weights: [6, 30],
         any: any_rate_to_book,
         listed: rate_to_book,
-        by_library: |s, _, arguments| lent_with_sums(s, kivdrag_preview_book_rate, arguments),
+        by_library: |s, _, arguments| lent_with_sums(s, slices::preview_book_rate, arguments),
         by_second: |s, form, [i, j, rate, _]| shown(s.preview_book_rate(form, i, j, 0, rate)),
         noted: |_, _, _, _| (),
     },
@@ -292,7 +220,7 @@ pub static CALLS: [Call; 14] = [
         weights: [6, 15],
         any: any_slots_to_release,
         listed: slots_to_release,
-        by_library: |s, _, arguments| lent_with_sums(s, kivdrag_preview_release, arguments),
+        by_library: |s, _, arguments| lent_with_sums(s, slices::preview_release, arguments),
         by_second: |s, _, [i, j, d, _]| shown(s.preview_release(i, j, d)),
         noted: |_, _, _, _| (),
     },
@@ -303,7 +231,7 @@ pub static CALLS: [Call; 14] = [
         weights: [6, 15],
         any: any_rate_to_release,
         listed: rate_to_release,
-        by_library: |s, _, arguments| lent_with_sums(s, kivdrag_preview_release_rate, arguments),
+        by_library: |s, _, arguments| lent_with_sums(s, slices::preview_release_rate, arguments),
         by_second: |s, _, [i, j, rate, _]| shown(s.preview_release_rate(i, j, rate)),
         noted: |_, _, _, _| (),
     },
@@ -318,7 +246,7 @@ pub static CALLS: [Call; 14] = [
             [any_port(r, n), any_port(r, n), d, 0]
         },
         listed: |r, s, films| [port(r, s), port(r, s), if films { r.within(20, 90) } else { r.within(1, 3) }, 0],
-        by_library: |s, _, [i, j, d, _]| lent(s, |clock, w| unsafe { kivdrag_arrive(clock, w.queues.as_mut_ptr(), w.queues.len(), i, j, d) }),
+        by_library: |s, _, [i, j, d, _]| lent(s, |clock, w| slices::arrive(clock, &mut w.queues, i, j, d)),
         by_second: |s, _, [i, j, d, _]| number(s.arrive(i, j, d)),
         noted: |l, _, a, [i, j, d, _]| latest(l).arrive(a.refusal, i, j, d),
     },
@@ -330,11 +258,8 @@ pub static CALLS: [Call; 14] = [
         any: |_, _| [0; 4],
         listed: |_, _, _| [0; 4],
         by_library: |s, _, _| {
-            lent_with_answer(s, |clock, w, outputs, first| unsafe {
-                kivdrag_tick_direct(
-                    clock, w.slots.as_ptr(), w.slots.len(), w.rates.as_ptr(), w.rates.len(), w.credits.as_mut_ptr(), w.credits.len(),
-                    w.queues.as_mut_ptr(), w.queues.len(), w.given.as_mut_ptr(), w.given.len(), outputs, first,
-                )
+            lent_with_answer(s, |clock, w, outputs, first| {
+                slices::tick_direct(clock, &w.slots, &w.rates, &mut w.credits, &mut w.queues, &mut w.given, outputs, first)
             })
         },
         by_second: |s, _, _| Reply::of(s.tick_direct()),
@@ -348,11 +273,9 @@ pub static CALLS: [Call; 14] = [
         any: |_, _| [0; 4],
         listed: |_, _, _| [0; 4],
         by_library: |s, _, _| {
-            lent_with_answer(s, |clock, w, outputs, first| unsafe {
-                kivdrag_tick_pipelined(
-                    clock, w.slots.as_ptr(), w.slots.len(), w.rates.as_ptr(), w.rates.len(), w.credits.as_mut_ptr(), w.credits.len(),
-                    w.queues.as_mut_ptr(), w.queues.len(), w.given.as_mut_ptr(), w.given.len(), w.copy.as_mut_ptr(), w.copy.len(),
-                    w.flight.as_mut_ptr(), w.flight.len(), outputs, first,
+            lent_with_answer(s, |clock, w, outputs, first| {
+                slices::tick_pipelined(
+                    clock, &w.slots, &w.rates, &mut w.credits, &mut w.queues, &mut w.given, &mut w.copy, &mut w.flight, outputs, first,
                 )
             })
         },
@@ -371,32 +294,28 @@ fn shown(Preview { refusal, row, column }: Preview) -> Reply {
     Reply { sums: [row, column], ..number(refusal) }
 }
 
-/// A call of the library on a switch: its clock is lent as words and read back, even where the library is not to write it.
-fn lent(s: &mut Lent, call: impl FnOnce(*mut u32, &mut Words) -> u32) -> Reply {
+/// A call of the library on a switch: its clock is lent as words and read back, even where the library is not to write it. The compiler is kept from
+/// taking it for granted that words lent as shared have stayed.
+fn lent(s: &mut Lent, call: impl FnOnce(&mut slices::Clock, &mut Words) -> u32) -> Reply {
     let clock = &mut s.switch.clock;
     let mut words = [clock.ports, clock.frame, clock.last, clock.line, s.fine];
-    let refusal = call(words.as_mut_ptr(), &mut s.switch.words);
-    [clock.ports, clock.frame, clock.last, clock.line, s.fine] = words;
+    let refusal = call(&mut words, &mut s.switch.words);
+    [clock.ports, clock.frame, clock.last, clock.line, s.fine] = *black_box(&mut words);
     clock.fine = s.fine != 0;
     number(refusal)
 }
 
 /// The same where a matching and a pass word are answered; what they held before must not matter.
-fn lent_with_answer(s: &mut Lent, call: impl FnOnce(*mut u32, &mut Words, *mut u8, *mut u32) -> u32) -> Reply {
+fn lent_with_answer(s: &mut Lent, call: impl FnOnce(&mut slices::Clock, &mut Words, &mut Outputs, &mut u32) -> u32) -> Reply {
     let (mut outputs, mut first) = ([0xA5; 32], 0xA5A5_A5A5);
-    let refusal = lent(s, |clock, w| call(clock, w, outputs.as_mut_ptr(), &mut first)).refusal();
+    let refusal = lent(s, |clock, w| call(clock, w, &mut outputs, &mut first)).refusal();
     Reply::of(Answer { refusal, outputs, first })
 }
 
-/// A preview of the library.
-type LentPreview = unsafe extern "C" fn(*const u32, *const u32, usize, *const u32, usize, u64, u64, u64, *mut u64, *mut u64) -> u32;
-
 /// The same where two sums are answered; what they held before must not matter.
-fn lent_with_sums(s: &mut Lent, preview: LentPreview, [i, j, amount, _]: Arguments) -> Reply {
+fn lent_with_sums(s: &mut Lent, preview: slices::Preview, [i, j, amount, _]: Arguments) -> Reply {
     let [mut row, mut column] = [0xA5A5_A5A5_A5A5_A5A5, 0xC3C3_C3C3_C3C3_C3C3];
-    let reply = lent(s, |clock, w| unsafe {
-        preview(clock, w.slots.as_ptr(), w.slots.len(), w.rates.as_ptr(), w.rates.len(), i, j, amount, &mut row, &mut column)
-    });
+    let reply = lent(s, |clock, w| preview(clock, &w.slots, &w.rates, i, j, amount, &mut row, &mut column));
     Reply { sums: [row, column], ..reply }
 }
 
