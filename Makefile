@@ -63,7 +63,9 @@ $(built)/kivdrag.pc: always | $(built)
 	    -e $(call filled,INCLUDEDIR,$(call in_prefix,$(INCLUDEDIR))) -e $(call filled,VERSION,$(version)) kivdrag.pc.in >$@
 
 absolute:
-	@case $(call quoted,$(PREFIX)) in /*) ;; *) echo "kivdrag: PREFIX must begin with /" >&2; exit 1 ;; esac
+	@for folder in $(foreach name,PREFIX LIBDIR INCLUDEDIR MANDIR,$(call quoted,$($(name)))); do \
+	    case $$folder in /*) ;; *) echo "kivdrag: PREFIX, LIBDIR, INCLUDEDIR and MANDIR must begin with /, and one is $$folder" >&2; exit 1 ;; esac; \
+	done
 
 install: absolute all docs/kivdrag.1
 	install -d $(lib)/pkgconfig $(include) $(man)

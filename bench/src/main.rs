@@ -130,7 +130,7 @@ fn tick_row(table: &mut Table, form: &str, n: usize, load: &str, t: &[f64]) {
         t[0], t[1], t[0] / t[1], t[2], t[0] / t[2], t[3], t[0] / t[3]
     )
     .unwrap();
-    writeln!(table.values, "{form},{n},{load},{:.1},{:.1},{:.1},{:.1}", t[0], t[1], t[2], t[3]).unwrap();
+    writeln!(table.values, "{form},{n},{load},{:.3},{:.3},{:.3},{:.3}", t[0], t[1], t[2], t[3]).unwrap();
 }
 
 /// Ticks that do not read the book, that read one without rates, and that read one with a rate for every pair.
@@ -148,7 +148,7 @@ fn frames() -> Table {
         write!(table.markdown, "| {} | {n} |", name(pipelined)).unwrap();
         t.chunks_exact(2).for_each(|t| write!(table.markdown, " {:.0} | {:.0} | {:.2} |", t[0], t[1], t[0] / t[1]).unwrap());
         table.markdown.push('\n');
-        let values: Vec<String> = t.iter().map(|ns| format!("{ns:.1}")).collect();
+        let values: Vec<String> = t.iter().map(|ns| format!("{ns:.3}")).collect();
         writeln!(table.values, "{},{n},{}", name(pipelined), values.join(",")).unwrap();
     }
     table
@@ -206,7 +206,7 @@ fn bookings() -> Table {
                 let t = calls_on_sums([n as u32, 10_000, 0, LINE, fine], call, held);
                 let row = format!("{name} | {kind} | {} | {n}", held.2);
                 writeln!(table.markdown, "| {row} | {:.1} | {:.1} | {:.2} |", 1e3 / t[0], 1e3 / t[1], t[1] / t[0]).unwrap();
-                writeln!(table.values, "{},{:.1},{:.1}", row.replace(" | ", ","), t[0], t[1]).unwrap();
+                writeln!(table.values, "{},{:.3},{:.3}", row.replace(" | ", ","), t[0], t[1]).unwrap();
             }
         }
     }
