@@ -24,7 +24,8 @@ impl Arguments {
                 if let Some(flag) = flags.iter().find(|&&flag| flag == name && value.is_none()) {
                     arguments.add(flag, String::new())?;
                 } else if let Some(option) = valued.iter().find(|&&option| option == name) {
-                    arguments.add(option, value.or_else(|| words.next().cloned()).ok_or(format!("{name} needs a value after it"))?)?;
+                    let value = value.or_else(|| words.next().cloned()).filter(|value| !value.is_empty());
+                    arguments.add(option, value.ok_or(format!("{name} needs a value after it"))?)?;
                 } else {
                     return Err(format!("{word} is no option of this command; it has {}", [flags, valued].concat().join(", ")));
                 }

@@ -7,10 +7,14 @@ use crate::feed::feed;
 use crate::figures::grouped;
 use crate::grid::{Collector, Grid, Wanted};
 use crate::refusals::{open, Refusals};
-use crate::{replace, say, Output, Status};
-use std::io::IsTerminal;
+use crate::{reason, replace, say, Output, Status};
+use std::fs::{self, File};
+use std::io::{IsTerminal, Read};
 use std::ops::RangeInclusive;
+use std::os::fd::AsFd;
+use std::os::unix::fs::MetadataExt;
 use std::path::Path;
+use std::process::{Command, Stdio};
 
 /// Slots shown where --slots is not given, and the most that it takes.
 const SLOTS: u64 = 200;
@@ -20,6 +24,9 @@ pub fn run(program: &Path, words: &[String]) -> Result<Status, String> {
     let arguments = Arguments::read(words, &[], &["--svg", "--from", "--slots", "--switch"])?;
     let wanted = wanted(&arguments)?;
     let file = arguments.file.as_deref();
+    if let Some(out) = arguments.value("--svg").filter(|&out| out != "-") {
+        may_be_written(out, file)?;
+    }
     let events = open(file)?;
     let (mut collector, mut refusals) = (Collector::new(wanted), Refusals::default());
     feed(program, &events, |event| {
@@ -39,6 +46,23 @@ pub fn run(program: &Path, words: &[String]) -> Result<Status, String> {
         say(&note);
     }
     Ok(refusals.status())
+}
+
+/// An error where a file stands under the name that is no picture, the event file above all.
+fn may_be_written(out: &str, file: Option<&str>) -> Result<(), String> {
+    // What is not there or cannot be reached is told when it is written.
+    let Some(there) = fs::metadata(out).ok().filter(|there| there.is_file()) else { return Ok(()) };
+    let events = file.filter(|&file| file != "-").and_then(|file| fs::metadata(file).ok());
+    if events.is_some_and(|events| (events.dev(), events.ino()) == (there.dev(), there.ino())) {
+        return Err(format!("{out} is the event file itself; give another name"));
+    }
+    let mut start = Vec::new();
+    let read = File::open(out).and_then(|picture| picture.take(5).read_to_end(&mut start));
+    read.map_err(|error| format!("{out} is there already and cannot be read: {}; give another name", reason(&error)))?;
+    if start.is_empty() || start.starts_with(b"<svg") || start.starts_with(b"<?xml") {
+        return Ok(());
+    }
+    Err(format!("{out} is there already and is no picture; give another name"))
 }
 
 fn wanted(arguments: &Arguments) -> Result<Wanted, String> {
@@ -69,13 +93,25 @@ fn range_note(grid: &Grid) -> Option<String> {
     (!all).then(|| format!("slots {first} to {last} of {run} are shown (--from and --slots show others)"))
 }
 
-/// In a terminal as wide as it is, in colour unless NO_COLOR asks for none.
+/// In a terminal as wide as it is, in colour unless NO_COLOR asks for none or the terminal has none.
 fn paper() -> Paper {
     if !std::io::stdout().is_terminal() {
         return Paper { columns: 100, colour: false };
     }
-    let columns = std::env::var("COLUMNS").ok().and_then(|columns| columns.parse().ok()).unwrap_or(80);
-    Paper { columns, colour: std::env::var_os("NO_COLOR").is_none_or(|value| value.is_empty()) }
+    let columns = std::env::var("COLUMNS").ok().and_then(|columns| above_0(&columns)).or_else(columns_of_terminal).unwrap_or(80);
+    let no_colour = std::env::var_os("NO_COLOR").is_some_and(|value| !value.is_empty());
+    Paper { columns, colour: !no_colour && std::env::var_os("TERM").is_none_or(|terminal| terminal != "dumb") }
+}
+
+/// What stty tells of the terminal that it reads from: rows and columns, 0 where they are not known.
+fn columns_of_terminal() -> Option<usize> {
+    let terminal = std::io::stdout().as_fd().try_clone_to_owned().ok()?;
+    let size = Command::new("stty").arg("size").stdin(terminal).stderr(Stdio::null()).output().ok()?;
+    above_0(String::from_utf8(size.stdout).ok()?.split_whitespace().nth(1)?)
+}
+
+fn above_0(number: &str) -> Option<usize> {
+    number.parse().ok().filter(|&number| number > 0)
 }
 
 fn print(text: &str) -> Result<(), String> {

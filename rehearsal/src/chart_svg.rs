@@ -1,7 +1,7 @@
 //! A chart as SVG, for people: it has a white ground of its own, needs nothing else, and is the same at every run.
 
 use crate::colours::{dark, hexadecimal, pale, ON_DARK, ON_PALE};
-use crate::grid::{Cell, Grid};
+use crate::grid::{Cell, Grid, LONGEST_NAME};
 
 /// Lengths in pixels: the margin, the names of rows, a row, the frame numbers above a band, the slot numbers and the gap below it, the titles, and
 /// a line of the legend.
@@ -16,6 +16,10 @@ const LEGEND_LINE: u64 = 30;
 const CELLS: u64 = 840;
 const NARROWEST: u64 = 24;
 const WIDEST: u64 = 46;
+/// The picture is at least so wide; a title that needs more makes it wider.
+const NARROWEST_PICTURE: u64 = 700;
+/// No digit of a slot or a frame is wider.
+const DIGIT: u64 = 8;
 
 const INK: &str = "#1A1A1A";
 const SOFT_INK: &str = "#5A5A5A";
@@ -23,16 +27,17 @@ const SOFT_INK: &str = "#5A5A5A";
 struct Layout {
     bands: Vec<(u64, u64)>,
     cell: u64,
-    /// the width of the longest band
-    cells: u64,
+    /// the width of the picture
+    width: u64,
 }
 
 impl Layout {
-    fn new(grid: &Grid) -> Layout {
+    fn new(grid: &Grid, title: &str) -> Layout {
         let bands = grid.bands(CELLS / NARROWEST);
         let slots = bands.iter().map(|(first, last)| last - first + 1).max().unwrap_or(1);
         let cell = (CELLS / slots).clamp(NARROWEST, WIDEST);
-        Layout { bands, cell, cells: slots * cell }
+        let width = (MARGIN + NAMES + slots * cell).max(MARGIN + title_width(title)) + MARGIN;
+        Layout { bands, cell, width: width.max(NARROWEST_PICTURE) }
     }
 
     fn left(&self) -> u64 {
@@ -46,12 +51,13 @@ impl Layout {
 
 /// `name` is what the title calls the file.
 pub fn svg(grid: &Grid, name: &str) -> String {
-    let layout = Layout::new(grid);
-    let width = (layout.left() + layout.cells + MARGIN).max(700);
+    let title = grid.title(name, LONGEST_NAME);
+    let layout = Layout::new(grid, &title);
+    let width = layout.width;
     let legend_top = layout.top(grid, layout.bands.len()) - ABOVE;
     let (legend, legend_height) = legend(grid, legend_top, width);
     let height = legend_top + legend_height + MARGIN;
-    let title = escaped(&grid.title(name));
+    let title = escaped(&title);
     let mut picture = format!(
         "<svg xmlns=\"http://www.w3.org/2000/svg\" width=\"{width}\" height=\"{height}\" viewBox=\"0 0 {width} {height}\" role=\"img\" \
          font-family=\"Helvetica, Arial, 'DejaVu Sans', sans-serif\" font-size=\"14\" fill=\"{INK}\">\n<title>{title}</title>\n\
@@ -101,28 +107,36 @@ fn number(x: u64, y: u64, number: usize, fill: &str) -> String {
     format!("<text x=\"{x}\" y=\"{y}\" text-anchor=\"middle\" fill=\"{fill}\">{number}</text>")
 }
 
-/// As many as there is room for: of every slot, or of each whose number is a multiple of 5, 10, 20 and so on.
+/// About as wide as the title is at most: capitals and letters of other scripts may need the whole size of the type.
+fn title_width(title: &str) -> u64 {
+    title.chars().map(|letter| if letter.is_ascii() && !letter.is_ascii_uppercase() { 11 } else { 18 }).sum()
+}
+
+/// That of the first slot, and as many others as there is room for: of every slot, or of each whose number is a multiple of 5, 10, 20 and so on.
 fn slot_numbers(layout: &Layout, y: u64, first: u64, last: u64) -> String {
-    let needed = last.to_string().len() as u64 * 9 + 6;
+    let digits = last.to_string().len() as u64;
+    let needed = digits * 9 + 6;
     let step = [1, 5, 10, 20, 50].into_iter().find(|step| step * layout.cell >= needed).unwrap_or(50);
-    let told = (first..=last).filter(|slot| slot.is_multiple_of(step));
-    let x = |slot: u64| layout.left() + (slot - first) * layout.cell + layout.cell / 2;
+    // a number that is wider than its cell keeps clear of the row's name
+    let x = |slot: u64| layout.left() + ((slot - first) * layout.cell + layout.cell / 2).max(digits * DIGIT / 2);
+    let told = (first..=last).filter(|&slot| slot == first || slot.is_multiple_of(step) && x(slot) >= x(first) + needed);
     told.map(|slot| format!("<text x=\"{}\" y=\"{y}\" text-anchor=\"middle\" fill=\"{SOFT_INK}\">{slot}</text>\n", x(slot))).collect()
 }
 
-/// A line before each frame's first slot and after its last, and the frame's number, where there is room for it.
+/// A line before each frame's first slot and after its last, and the frame's number, where there is room for it before the next line or the edge.
 fn frame_lines(grid: &Grid, layout: &Layout, top: u64, first: u64, last: u64) -> String {
     let (above, below) = (top - ABOVE + 4, top + grid.switch.ports as u64 * ROW + 6);
     let x = |slot: u64| layout.left() + (slot - first) * layout.cell;
     let mut text = String::new();
-    let mut free_from = 0;
     for slot in first..=last + 1 {
         if grid.begins_frame(slot) {
             text += &format!("<line x1=\"{0}\" y1=\"{above}\" x2=\"{0}\" y2=\"{below}\" stroke=\"{INK}\" stroke-width=\"2\"/>\n", x(slot));
         }
-        if slot <= last && (slot == first || grid.begins_frame(slot)) && x(slot) >= free_from {
-            let label = format!("frame {}", grid.frame_of(slot));
-            free_from = x(slot) + label.len() as u64 * 9 + 6;
+        let next = grid.frame_of(slot) * grid.switch.frame + 1;
+        let end = if next <= last + 1 { x(next) } else { layout.width };
+        let label = format!("frame {}", grid.frame_of(slot));
+        let fits = x(slot) + 7 + label.len() as u64 * DIGIT <= end;
+        if slot <= last && (slot == first || grid.begins_frame(slot)) && fits {
             text += &format!("<text x=\"{}\" y=\"{}\" fill=\"{SOFT_INK}\">{label}</text>\n", x(slot) + 7, top - 8);
         }
     }

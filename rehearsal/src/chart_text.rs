@@ -1,7 +1,7 @@
 //! A chart in characters: a row for each input, a cell for each slot with the number of its output.
 
 use crate::colours::{dark, pale, terminal, Colour, ON_DARK, ON_PALE};
-use crate::grid::{Cell, Grid};
+use crate::grid::{Cell, Grid, LONGEST_NAME};
 
 /// What the chart is written on.
 pub struct Paper {
@@ -9,10 +9,12 @@ pub struct Paper {
     pub colour: bool,
 }
 
-const LEGEND: &str = "
-1* booked: the input was given output 1 in a slot of its booking    |  a frame begins
-1  leftover: it was given output 1 in a slot that no booking took   .  the input is idle
-";
+const LEGEND: [(&str, &str); 4] = [
+    ("1* ", "booked: the input was given output 1 in a slot of its booking"),
+    ("1  ", "leftover: it was given output 1 in a slot that no booking took"),
+    ("|  ", "a frame begins"),
+    (".  ", "the input is idle"),
+];
 
 /// A row's name stands before its cells.
 const NAME: usize = 9;
@@ -21,22 +23,45 @@ const NAME: usize = 9;
 struct Band {
     first: u64,
     columns: Vec<usize>,
-    width: usize,
+    /// the columns of the paper beside the names of rows
+    room: usize,
 }
 
 pub fn text(grid: &Grid, name: &str, paper: &Paper) -> String {
-    let mut text = format!("{}\n", grid.title(name));
+    let mut text = wrapped("", &grid.title(name, LONGEST_NAME.min(paper.columns.saturating_sub(1))), paper.columns);
     // a blank, the digits of the output, and the mark of a booking
     let cell = grid.switch.ports.to_string().len() + 2;
-    for (first, last) in grid.bands(slots_that_fit(grid, cell, paper.columns.saturating_sub(NAME))) {
-        let band = Band::new(grid, first, last, cell);
-        text += &format!("\n{:NAME$}{}\n", "", band.frames(grid));
+    let room = paper.columns.saturating_sub(NAME);
+    for (first, last) in grid.bands(slots_that_fit(grid, cell, room)) {
+        let band = Band::new(grid, first, last, cell, room);
+        text += &format!("\n{}\n", format!("{:NAME$}{}", "", band.frames(grid)).trim_end());
         text += &format!("{:NAME$}{}\n", "slot", band.ruler(grid, cell - 1));
         for input in 1..=grid.switch.ports {
             text += &format!("{:NAME$}{}\n", format!("input {input}"), band.row(grid, input, cell, paper.colour));
         }
     }
-    text + LEGEND
+    text.push('\n');
+    LEGEND.iter().for_each(|(mark, words)| text += &wrapped(mark, words, paper.columns));
+    text
+}
+
+/// Words behind a mark, in lines of up to so many columns.
+fn wrapped(mark: &str, words: &str, columns: usize) -> String {
+    let mut text = mark.to_string();
+    let mut width = mark.len();
+    for word in words.split(' ') {
+        let length = word.chars().count();
+        if width > mark.len() && width + 1 + length > columns {
+            text += &format!("\n{:1$}", "", mark.len());
+            width = mark.len();
+        } else if width > mark.len() {
+            text.push(' ');
+            width += 1;
+        }
+        text += word;
+        width += length;
+    }
+    text + "\n"
 }
 
 /// How many slots a band has at most: each frame needs a column for its line.
@@ -50,7 +75,7 @@ fn slots_that_fit(grid: &Grid, cell: usize, columns: usize) -> u64 {
 }
 
 impl Band {
-    fn new(grid: &Grid, first: u64, last: u64, cell: usize) -> Band {
+    fn new(grid: &Grid, first: u64, last: u64, cell: usize, room: usize) -> Band {
         let mut width = 0;
         let place = |slot: u64| {
             let column = width + grid.begins_frame(slot) as usize;
@@ -58,7 +83,7 @@ impl Band {
             column
         };
         let columns = (first..=last).map(place).collect();
-        Band { first, columns, width }
+        Band { first, columns, room }
     }
 
     fn slots(&self) -> impl Iterator<Item = (u64, usize)> + '_ {
@@ -83,10 +108,10 @@ impl Band {
         self.labelled(labels)
     }
 
-    /// Labels in their columns; one that would touch the label before it is left out.
+    /// Labels in their columns; one that would touch the label before it or has no room is left out.
     fn labelled(&self, labels: impl Iterator<Item = (String, usize)>) -> String {
-        let mut line = String::with_capacity(self.width);
-        for (label, column) in labels {
+        let mut line = String::new();
+        for (label, column) in labels.filter(|(label, column)| column + label.len() <= self.room) {
             if line.is_empty() || column > line.len() {
                 line += &" ".repeat(column - line.len());
                 line += &label;

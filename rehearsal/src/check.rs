@@ -1,4 +1,4 @@
-//! `kivdrag check [--fix] [--output OUT] [FILE]`: tells why each refused record is refused, and what has to be repaired in the file.
+//! `kivdrag check [--fix | --output OUT] [FILE]`: tells why each refused record is refused, and what has to be repaired in the file.
 
 use crate::arguments::Arguments;
 use crate::event::Event;
@@ -19,17 +19,11 @@ pub fn run(program: &Path, words: &[String]) -> Result<Status, String> {
     feed(program, &text, |event| check.note(event))?;
     check.lost.clone()?;
     // Where nobody can be told, nothing is written.
-    check.output.flush()?;
+    check.tell(text.repairs.iter().map(|repair| format!("to repair: {repair}")).chain(text.warning.iter().map(|line| format!("warning: {line}"))))?;
     let written = target.write(&text)?;
-    for line in repair_lines(&text, written.as_deref(), &arguments) {
-        check.output.line(&line)?;
-    }
-    if let Some(warning) = &text.warning {
-        check.output.line(&format!("warning: {warning}"))?;
-    }
-    let summary = check.summary();
-    check.output.line(&summary)?;
-    check.output.flush()?;
+    let hint = (written.is_none() && !text.repairs.is_empty()).then(|| repair_hint(&arguments));
+    let told = check.tell(written.clone().or(hint).into_iter().chain([check.summary()]));
+    told.map_err(|error| written.iter().fold(error, |error, written| format!("{error}; {written}")))?;
     let accepted = check.all_accepted() && text.warning.is_none() && (text.repairs.is_empty() || written.is_some());
     Ok(if accepted { Status::Accepted } else { Status::Refused })
 }
@@ -63,6 +57,14 @@ impl Check {
         }
     }
 
+    /// Says lines that are not to be lost.
+    fn tell(&mut self, lines: impl Iterator<Item = String>) -> Result<(), String> {
+        for line in lines {
+            self.output.line(&line)?;
+        }
+        self.output.flush()
+    }
+
     fn all_accepted(&self) -> bool {
         self.refused == 0 && self.switch.is_some()
     }
@@ -84,16 +86,11 @@ fn refusal_line(event: &Event, number: u32, switch: Option<&Switch>) -> String {
     format!("line {}: {record}refused ({number}): {}", grouped(event.line as u64), why(event, number, switch))
 }
 
-/// What is said about repairs; `written` tells where they went.
-fn repair_lines(text: &Text, written: Option<&str>, arguments: &Arguments) -> Vec<String> {
-    let said = if written.is_some() { "repaired" } else { "to repair" };
-    let mut lines: Vec<String> = text.repairs.iter().map(|repair| format!("{said}: {repair}")).collect();
-    let hint = || match &arguments.file {
+fn repair_hint(arguments: &Arguments) -> String {
+    match &arguments.file {
         Some(file) => format!("`kivdrag check --fix {}` repairs it", shell_word(file)),
         None => "`kivdrag check --output OUT` writes it repaired to OUT".to_string(),
-    };
-    lines.extend(written.map(str::to_string).or_else(|| (!text.repairs.is_empty()).then(hint)));
-    lines
+    }
 }
 
 /// Where a repaired file goes.
@@ -106,14 +103,19 @@ enum Target {
 impl Target {
     fn of(arguments: &Arguments) -> Result<Target, String> {
         match (arguments.value("--output"), &arguments.file) {
+            (Some(_), _) if arguments.has("--fix") => {
+                Err("--fix repairs the file in its place, and --output OUT writes it to OUT; give one of the two".to_string())
+            }
             (Some("-"), _) => Err("--output needs the name of a file; standard output has what check says".to_string()),
             (Some(out), _) if Path::new(out).symlink_metadata().is_ok() => Err(replace::taken(Path::new(out))),
             (Some(out), _) => Ok(Target::New(PathBuf::from(out))),
             (None, _) if !arguments.has("--fix") => Ok(Target::Nowhere),
-            (None, None) => Err("standard input cannot be repaired in its place; name a file, or add --output OUT".to_string()),
+            (None, None) => Err("standard input cannot be repaired in its place; name a file, or give --output OUT without --fix".to_string()),
             // What is missing or a directory is told when it is read.
             (None, Some(file)) => match Path::new(file).metadata() {
-                Ok(kind) if !kind.is_file() && !kind.is_dir() => Err(format!("{file} is no plain file and cannot be replaced; add --output OUT")),
+                Ok(kind) if !kind.is_file() && !kind.is_dir() => {
+                    Err(format!("{file} is no plain file and cannot be replaced; give --output OUT without --fix"))
+                }
                 _ => Ok(Target::InPlace(PathBuf::from(file))),
             },
         }

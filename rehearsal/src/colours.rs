@@ -95,6 +95,10 @@ mod tests {
             let (darks, pales) = ((1..=ports).map(|output| dark(output, ports)), (1..=ports).map(|output| pale(output, ports)));
             assert_eq!((different(darks), different(pales)), (ports, ports));
         }
+    }
+
+    #[test]
+    fn no_two_of_eight_outputs_have_one_terminal_colour() {
         let (darks, pales) = ((1..=8).map(|output| terminal(dark(output, 8))), (1..=8).map(|output| terminal(pale(output, 8))));
         assert_eq!((different(darks), different(pales)), (8, 8));
     }

@@ -6,6 +6,7 @@ use crate::record::{self, Fault, BYTES_MAX, DIGITS_MAX, OPERATIONS};
 use crate::shown::shown;
 use crate::switch::Switch;
 use crate::text::is_blank;
+use second::Form;
 
 const PORTS_MAX: u64 = 32;
 const FRAME_MAX: u64 = 10_000;
@@ -49,18 +50,32 @@ fn question(number: u32) -> &'static str {
 }
 
 fn unreadable(fault: &Fault, text: &[u8]) -> String {
-    match *fault {
+    let reason = match *fault {
         Fault::TooLong { bytes } => format!("the record has {} bytes; at most {BYTES_MAX} are read", grouped(bytes as u64)),
         Fault::Quote => "a quote (\") stands in it; only quotes around a whole field can be taken off".to_string(),
         Fault::UnknownOperation { name } => unknown_operation(name, text),
         Fault::BeforeStart => "no switch is started yet; a start or pipe that is accepted has to come first".to_string(),
         Fault::Fields { count } => fields(count, text),
         Fault::NotANumber { operation, field, text } => {
-            format!("field {field}{} {}; a number is 1 to {DIGITS_MAX} digits and nothing else", field_name(operation, field), flaw(text))
+            let field = format!("field {field}{}", field_name(operation, field));
+            return format!("{field} {}; a number is 1 to {DIGITS_MAX} digits and nothing else", flaw(text));
         }
         Fault::UnusedNot0 { operation, field, value } => {
             format!("field {field} is {}; {} does not use it, and it has to be 0", grouped(value), operation_name(operation))
         }
+    };
+    match text.iter().find_map(|&byte| stray_line_end(byte.into())) {
+        Some(stray) => format!("{reason}; {stray}"),
+        None => reason,
+    }
+}
+
+/// What is said of a line end that is left in a record, since what follows it does not begin like one.
+fn stray_line_end(character: char) -> Option<&'static str> {
+    match character {
+        '\r' => Some("a stray line end (carriage return) stands in it"),
+        '\n' => Some("a stray line end (line feed) stands in it"),
+        _ => None,
     }
 }
 
@@ -113,12 +128,14 @@ fn flaw(text: &[u8]) -> String {
         return "is empty".to_string();
     }
     let characters = String::from_utf8_lossy(text);
-    let flaw = match characters.chars().find(|character| !character.is_ascii_digit()) {
-        None => format!("it has {} digits", text.len()),
-        Some(blank) if blank.is_whitespace() => "a blank stands in it".to_string(),
-        Some('.') => "a point stands in it".to_string(),
-        Some('+' | '-' | '\u{2212}') => "a sign stands in it".to_string(),
-        Some(_) => "it has other characters than digits".to_string(),
+    let other = characters.chars().find(|character| !character.is_ascii_digit());
+    let flaw = match (other.and_then(stray_line_end), other) {
+        (Some(stray), _) => stray.to_string(),
+        (_, None) => format!("it has {} digits", text.len()),
+        (_, Some(blank)) if blank.is_whitespace() => "a blank stands in it".to_string(),
+        (_, Some('.')) => "a point stands in it".to_string(),
+        (_, Some('+' | '-' | '\u{2212}')) => "a sign stands in it".to_string(),
+        (_, Some(_)) => "it has other characters than digits".to_string(),
     };
     format!("is `{}`: {flaw}", shown(text))
 }
@@ -199,13 +216,15 @@ fn sold_out(line: &str, sold: u64, asked: u64, frame: u64) -> Option<String> {
     (2 * (sold + asked) > frame + 1).then_some(reason)
 }
 
-/// Of a pipelined switch some packets that are not handed out have left the queue: so the figures are those of arrivals and pairs handed out.
+/// The figures are those of arrivals and pairs handed out. Of a pipelined switch some packets more have left the queue, which nobody can count from
+/// outside.
 fn queue(input: usize, output: usize, asked: u64, switch: &Switch) -> Option<String> {
     let at = switch.at(input, output);
     let (arrived, handed_out) = (switch.arrived[at], switch.by_booking[at] + switch.by_leftover[at]);
     let limit = format!("the queue of input {input} to output {output} holds up to {} packets", grouped(QUEUE_MAX));
     let figures = format!("{} arrived, {} handed out, {} more asked for", grouped(arrived), grouped(handed_out), grouped(asked));
-    (arrived + asked > QUEUE_MAX + handed_out).then(|| format!("{limit}; {figures}"))
+    let in_flight = if switch.form == Form::Pipelined { "; packets in flight to a slot to come no longer count in the queue" } else { "" };
+    (arrived + asked > QUEUE_MAX + handed_out).then(|| format!("{limit}; {figures}{in_flight}"))
 }
 
 fn slots(number: u64) -> String {

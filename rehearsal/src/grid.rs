@@ -20,6 +20,9 @@ pub struct Wanted {
     pub switch: Option<u64>,
 }
 
+/// The longest name of a file in a title, in letters.
+pub const LONGEST_NAME: usize = 40;
+
 /// Keeps the wanted pairs as the events come in, of one switch at a time.
 pub struct Collector {
     wanted: Wanted,
@@ -110,10 +113,21 @@ impl Grid {
         bands
     }
 
-    /// One line about what is drawn.
-    pub fn title(&self, name: &str) -> String {
+    /// One line about what is drawn; a name of more than `most` letters is shortened in the middle.
+    pub fn title(&self, name: &str, most: usize) -> String {
+        let name = shortened(name, most);
         let Switch { ports, frame, .. } = self.switch;
         let (ports, frame) = (counted(ports as u64, "port", "ports"), counted(frame, "slot", "slots"));
         format!("{name}: {} switch, {ports}, frames of {frame}", self.switch.form_name())
     }
+}
+
+fn shortened(name: &str, most: usize) -> String {
+    let letters: Vec<char> = name.chars().collect();
+    if letters.len() <= most {
+        return name.to_string();
+    }
+    let kept = most.saturating_sub(3);
+    let (start, end) = (&letters[..kept.div_ceil(2)], &letters[letters.len() - kept / 2..]);
+    start.iter().chain(&['.'; 3]).chain(end).collect()
 }

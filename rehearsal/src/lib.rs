@@ -1,8 +1,8 @@
 //! What `kivdrag check`, `kivdrag report` and `kivdrag chart` do. The proved event program judges every record; these feed it and read what it
 //! prints.
 
-use std::fs::File;
-use std::io::{self, BufWriter, ErrorKind, Read, Write};
+use std::io::{self, BufWriter, ErrorKind, IsTerminal, Read, Write};
+use std::path::Path;
 
 pub mod arguments;
 pub mod chart;
@@ -37,17 +37,28 @@ pub enum Status {
 
 /// The event text of a file, or of standard input where there is no name or the name is `-`.
 pub fn read_file(name: Option<&str>) -> Result<text::Text, String> {
-    let mut bytes = Vec::new();
-    match name.filter(|&name| name != "-") {
-        None => io::stdin().lock().read_to_end(&mut bytes).map_err(|error| format!("standard input cannot be read: {}", reason(&error)))?,
-        Some(name) => File::open(name).and_then(|mut file| file.read_to_end(&mut bytes)).map_err(|error| unreadable(name, &error))?,
+    let bytes = match name.filter(|&name| name != "-") {
+        None => read_standard_input().map_err(|error| format!("standard input cannot be read: {}", reason(&error)))?,
+        Some(name) => std::fs::read(name).map_err(|error| unreadable(name, &error))?,
     };
     text::Text::read(bytes).map_err(|line| format!("{}: {line}", name.unwrap_or("standard input")))
 }
 
+fn read_standard_input() -> io::Result<Vec<u8>> {
+    let (mut input, mut bytes) = (io::stdin().lock(), Vec::new());
+    let typed = input.is_terminal();
+    if typed {
+        say("type a heading (any line), then records, as start,2,3,0; each line gets its CR LF; Ctrl-D in an empty line ends the input");
+    }
+    input.read_to_end(&mut bytes)?;
+    Ok(if typed { bytes.split(|&byte| byte == b'\n').collect::<Vec<_>>().join(&b"\r\n"[..]) } else { bytes })
+}
+
 fn unreadable(name: &str, error: &io::Error) -> String {
     match error.kind() {
-        ErrorKind::NotFound => format!("{name}: no such file"),
+        _ if !Path::new(name).exists() => {
+            format!("{}: no such file, or in a folder that you may not enter", if name.is_empty() { "''" } else { name })
+        }
         ErrorKind::IsADirectory => format!("{name} is a directory; name a file in it"),
         ErrorKind::PermissionDenied => format!("{name} cannot be read: no permission"),
         _ => format!("{name} cannot be read: {}", reason(error)),

@@ -47,7 +47,8 @@ pub struct Report {
     style: Style,
     /// what is told and not taken yet
     pub text: String,
-    running: Option<(Measured, Judge)>,
+    running: Option<Measured>,
+    judge: Judge,
     switches: u64,
     forms: Vec<Form>,
     refusals: Refusals,
@@ -58,29 +59,28 @@ pub struct Report {
 impl Report {
     pub fn new(style: Style) -> Report {
         let text = if style.csv { table::csv_heading(&style) } else { String::new() };
-        Report { style, text, running: None, switches: 0, forms: Vec::new(), refusals: Refusals::default(), contradiction: None }
+        let (judge, refusals) = (Judge::default(), Refusals::default());
+        Report { style, text, running: None, judge, switches: 0, forms: Vec::new(), refusals, contradiction: None }
     }
 
     pub fn note(&mut self, event: &Event) {
         self.refusals.note(event);
         if let Some(switch) = Switch::begun_by(event) {
             self.end_switch();
-            let measured = Measured::new(switch);
-            let judge = Judge::new(&measured);
-            self.running = Some((measured, judge));
-        } else if let Some((measured, judge)) = &mut self.running {
+            self.running = Some(Measured::new(switch));
+        } else if let Some(measured) = &mut self.running {
             measured.note(event);
-            judge.note(event, measured);
+            self.judge.note(event, measured);
         }
     }
 
     fn end_switch(&mut self) {
-        let Some((measured, judge)) = self.running.take() else { return };
+        let Some(measured) = self.running.take() else { return };
         self.switches += 1;
         if !self.forms.contains(&measured.switch.form) {
             self.forms.push(measured.switch.form);
         }
-        let verdict = judge.verdict();
+        let verdict = self.judge.verdict(&measured);
         let contradiction = contradiction(&measured, &verdict);
         if self.style.csv {
             table::csv_rows(&mut self.text, self.switches, &measured, &verdict, &self.style);
@@ -150,7 +150,11 @@ fn verdict_line(verdict: &Verdict, ports: usize) -> String {
     match verdict {
         Verdict::NotTaken(count) => {
             let (found, most) = (grouped(count.found), grouped(count.most));
-            format!("Verdict not taken: {found} {}; the ledger takes up to {most}. The counts above stand all the same.\n\n", count.what)
+            format!(
+                "Verdict not taken: with this switch {found} {} would have to be judged; the ledger takes up to {most} in a file.\n\
+                 The counts above stand all the same.\n\n",
+                count.what
+            )
         }
         Verdict::Taken(claims) if claims.is_empty() => "No slot was run, so there is no frame to judge.\n\n".to_string(),
         Verdict::Taken(claims) => {
@@ -220,8 +224,8 @@ PROVED, for every film (theorem bookings-kept):
                booked slot at the latest in slot m + 1 of the frame (the line above, taken at the end
                of that slot). So a packet that waits for a frame's first slot, with none of its pair
                before it, is handed out by slot m + 1, booked or leftover. One that comes too late for
-               that, again with none before it, is handed out by slot m + 1 of the next frame if a is
-               above 0 there; a and m are then those of the next frame
+               that, again with none before it, is handed out by slot m + 1 of the first frame for
+               whose first slot it comes in time, if a is above 0 there; a and m are that frame's
 ";
 const PROVED_TIME: &str = "               Its time runs from the beginning of the frame to the end of that slot
 ";

@@ -78,16 +78,14 @@ fn csv_times(row: &Row, style: &Style) -> String {
     times.map(|slots| format!(",{}", slots.map_or(String::new(), |slots| time.nanoseconds(slots)))).concat()
 }
 
-/// Whether all claims of a pair hold, for each pair.
+/// For each pair `yes` where it has claims and all of them hold, `no` where one fails, `not judged` where it has none: no slot was run, or the
+/// switch was too much for the ledger.
 fn kept_by_pair(ports: usize, verdict: &Verdict) -> Vec<&'static str> {
-    let mut kept = vec!["yes"; ports * ports];
-    match verdict {
-        Verdict::NotTaken(_) => kept.fill("not taken"),
-        Verdict::Taken(claims) => {
-            for claim in claims.iter().filter(|claim| !holds(claim)) {
-                kept[(claim.input - 1) * ports + claim.output - 1] = "no";
-            }
-        }
+    let mut kept = vec!["not judged"; ports * ports];
+    let Verdict::Taken(claims) = verdict else { return kept };
+    for claim in claims {
+        let kept = &mut kept[(claim.input - 1) * ports + claim.output - 1];
+        *kept = if holds(claim) && *kept != "no" { "yes" } else { "no" };
     }
     kept
 }

@@ -31,10 +31,12 @@ impl Text {
             rest = after;
         }
         let marked = rest.len() < bytes.len();
-        let (first, rest) = cut(rest);
-        let (records, mut notes, blank) = repair_records(rest);
+        let mut lines = Lines::of(rest);
+        let first = lines.cut_heading();
+        let (records, mut notes, blank) = repair_records(lines);
         let (heading, warning) = repair_heading(&first, &mut notes);
         let mut repairs = notes.sentences();
+        repairs.extend(heading_sentence(first.breaks()));
         repairs.extend(marked.then(|| "byte order mark: in front of line 1; none is needed".to_string()));
         repairs.extend(blank_sentence(blank));
         Ok(Text { heading, records, repairs, warning })
@@ -136,6 +138,10 @@ fn blank_sentence(Note { lines, first }: Note) -> Option<String> {
     (lines > 0).then(|| format!("blank lines: {} at the end, the first is line {}; none are needed", grouped(lines as u64), grouped(first as u64)))
 }
 
+fn heading_sentence(breaks: usize) -> Option<String> {
+    (breaks > 0).then(|| format!("{} within the heading; a blank is needed instead", counted(breaks as u64, "line break", "line breaks")))
+}
+
 /// A line, and its end as it stands.
 struct Line<'a> {
     text: &'a [u8],
@@ -159,26 +165,121 @@ impl Line<'_> {
             b"\r\n"
         }
     }
+
+    /// The number of CR and LF within it, which end no line.
+    fn breaks(&self) -> usize {
+        self.text.iter().filter(|&byte| is_break(byte)).count()
+    }
 }
 
-/// The first line, and what follows. A lone CR or LF within a quoted field ends no line.
-fn cut(text: &[u8]) -> (Line<'_>, &[u8]) {
+/// Cuts a text into its lines. CR LF ends a line, with more CR in front too. Where the file has none, each LF does; where it has no LF either, each CR.
+/// Any other CR or LF may stand within a number: it ends a line only where what follows begins like a record or is blank.
+struct Lines<'a> {
+    text: &'a [u8],
+    at: usize,
+    /// the byte that ends a line wherever it stands
+    plain_end: Option<u8>,
+    /// up to where each CR and LF is a lone one, and whether they end lines
+    lone: (usize, bool),
+}
+
+impl<'a> Lines<'a> {
+    fn of(text: &[u8]) -> Lines<'_> {
+        let plain_end = match text.windows(2).any(|two| two == b"\r\n") {
+            true => None,
+            false => Some(if text.contains(&b'\n') { b'\n' } else { b'\r' }),
+        };
+        Lines { text, at: 0, plain_end, lone: (0, false) }
+    }
+
+    /// Line 1. In a file with CR LF, a lone CR or LF within a quoted field does not end it.
+    fn cut_heading(&mut self) -> Line<'a> {
+        self.cut(if self.plain_end.is_none() { break_outside_quotes } else { first_break })
+    }
+
+    /// The next line; `find` tells where the next CR or LF stands that may end it.
+    fn cut(&mut self, find: impl Fn(&[u8]) -> usize) -> Line<'a> {
+        let from = self.at;
+        let mut at = from;
+        let end = loop {
+            at += find(&self.text[at..]);
+            if at == self.text.len() {
+                break 0;
+            }
+            if let Some(end) = self.end(at) {
+                break end;
+            }
+            at += 1;
+        };
+        self.at = at + end;
+        Line { text: &self.text[from..at], end: &self.text[at..at + end] }
+    }
+
+    /// The length of the line end at a CR or LF; none where it ends no line.
+    fn end(&mut self, at: usize) -> Option<usize> {
+        if at >= self.lone.0 {
+            match self.certain_end(at) {
+                Ok(length) => return Some(length),
+                Err(length) => self.lone = self.judge_lone(at + length),
+            }
+        }
+        self.lone.1.then_some(1)
+    }
+
+    /// The length of the line end at a CR or LF, or of the lone CRs or the lone LF there.
+    fn certain_end(&self, at: usize) -> Result<usize, usize> {
+        let rest = &self.text[at..];
+        if self.plain_end == Some(rest[0]) {
+            return Ok(1);
+        }
+        let returns = rest.iter().take_while(|&&byte| byte == b'\r').count();
+        match (returns, rest.get(returns)) {
+            (1.., Some(b'\n')) => Ok(returns + 1),
+            _ => Err(returns.max(1)),
+        }
+    }
+
+    /// Whether lone CRs or LFs end lines where this follows them, and up to where there are only such.
+    fn judge_lone(&self, mut at: usize) -> (usize, bool) {
+        loop {
+            let rest = &self.text[at..];
+            if rest.first().is_none_or(|byte| byte.is_ascii_alphabetic() || *byte == b'"') {
+                return (at, true);
+            }
+            // Quotes may be taken off, so they do not keep a line from being blank.
+            let blank = rest.iter().take_while(|byte| b",; \t\"".contains(byte)).count();
+            match rest.get(blank) {
+                None => return (at, true),
+                Some(byte) if !is_break(byte) => return (at, false),
+                Some(_) => match self.certain_end(at + blank) {
+                    Ok(_) => return (at + blank, true),
+                    Err(length) => at += blank + length,
+                },
+            }
+        }
+    }
+}
+
+fn is_break(byte: &u8) -> bool {
+    b"\r\n".contains(byte)
+}
+
+/// Where the first CR or LF stands, or the text ends.
+fn first_break(text: &[u8]) -> usize {
+    text.iter().position(is_break).unwrap_or(text.len())
+}
+
+/// The same, of those that stand within no quoted field.
+fn break_outside_quotes(text: &[u8]) -> usize {
     let mut at = 0;
     loop {
         at += quoted(&text[at..]).unwrap_or(0);
-        at += text[at..].iter().position(|byte| b",;\r\n".contains(byte)).unwrap_or(text.len() - at);
+        at += text[at..].iter().position(|byte| is_separator(byte) || is_break(byte)).unwrap_or(text.len() - at);
         if !text[at..].first().is_some_and(is_separator) {
-            break;
+            return at;
         }
         at += 1;
     }
-    let returns = text[at..].iter().take_while(|&&byte| byte == b'\r').count();
-    let end = match (returns, text.get(at + returns)) {
-        (_, Some(b'\n')) => returns + 1,
-        (0, _) => 0,
-        _ => 1,
-    };
-    (Line { text: &text[..at], end: &text[at..at + end] }, &text[at + end..])
 }
 
 fn is_separator(byte: &u8) -> bool {
@@ -196,18 +297,18 @@ fn quoted(text: &[u8]) -> Option<usize> {
         rest = &rest[at + 1..];
         match rest.first() {
             Some(b'"') => rest = &rest[1..],
-            Some(byte) if !is_separator(byte) && !b"\r\n".contains(byte) => return None,
+            Some(byte) if !is_separator(byte) && !is_break(byte) => return None,
             _ => return Some(text.len() - rest.len()),
         }
     }
 }
 
 /// The lines from line 2 on, repaired; blank ones at the end, which the last note is of, are left out.
-fn repair_records(mut rest: &[u8]) -> (Vec<u8>, Notes, Note) {
-    let (mut records, mut notes, mut blank) = (Vec::with_capacity(rest.len()), Notes::default(), Note::default());
+fn repair_records(mut lines: Lines) -> (Vec<u8>, Notes, Note) {
+    let (mut records, mut notes, mut blank) = (Vec::with_capacity(lines.text.len()), Notes::default(), Note::default());
     let (mut pending, mut kept, mut number) = (Notes::default(), 0, 1);
-    while !rest.is_empty() {
-        let (line, after) = cut(rest);
+    while lines.at < lines.text.len() {
+        let line = lines.cut(first_break);
         number += 1;
         let from = records.len();
         repair_fields(line.text, &mut records, |kind| pending.note(kind, number));
@@ -220,17 +321,17 @@ fn repair_records(mut rest: &[u8]) -> (Vec<u8>, Notes, Note) {
             notes.take(&mut pending);
             (blank, kept) = (Note::default(), records.len());
         }
-        rest = after;
     }
     records.truncate(kept);
     (records, notes, blank)
 }
 
-/// Line 1, which the program does not read: its line end is repaired, and else only what other lines need too. The second is a warning where it looks
-/// like a record.
+/// Line 1, which the program does not read: its line end and line breaks within it are repaired, and else only what other lines need too. The second
+/// is a warning where it looks like a record.
 fn repair_heading(line: &Line, notes: &mut Notes) -> (Vec<u8>, Option<String>) {
     let (mut repaired, mut own) = (Vec::new(), Notes::default());
-    repair_fields(line.text, &mut repaired, |kind| own.note(kind, 1));
+    let unbroken: Vec<u8> = line.text.iter().map(|byte| if is_break(byte) { b' ' } else { *byte }).collect();
+    repair_fields(&unbroken, &mut repaired, |kind| own.note(kind, 1));
     let warning = looks_like_record(&repaired).then(|| {
         let repaired = shown(&repaired);
         format!("line 1 is taken for the heading and not read, but it looks like a record: {repaired}; put a heading in front of it")
@@ -238,7 +339,7 @@ fn repair_heading(line: &Line, notes: &mut Notes) -> (Vec<u8>, Option<String>) {
     if [Kind::Quotes, Kind::Semicolons].into_iter().any(|kind| own.has(kind) && notes.has(kind)) {
         notes.take(&mut own);
     } else {
-        repaired = line.text.to_vec();
+        repaired = unbroken;
     }
     line.end_repair().into_iter().for_each(|kind| notes.note(kind, 1));
     repaired.extend_from_slice(line.repaired_end());
@@ -292,7 +393,8 @@ fn separator(line: &[u8]) -> Option<u8> {
 
 /// The first field, and what follows its separator; nothing where it is the last.
 fn cut_field(text: &[u8]) -> (&[u8], Option<&[u8]>) {
-    let length = quoted(text).or_else(|| text.iter().position(is_separator)).unwrap_or(text.len());
+    let whole = quoted(text).filter(|&length| text.get(length).is_none_or(is_separator));
+    let length = whole.or_else(|| text.iter().position(is_separator)).unwrap_or(text.len());
     (&text[..length], text.get(length + 1..))
 }
 

@@ -4,13 +4,14 @@ mod common;
 mod support;
 
 use common::{printed, program, root, trace, Folder};
+use rehearsal::chart_svg::svg;
 use rehearsal::chart_text::{text, Paper};
 use rehearsal::event::{Event, Operation, Pair, Record};
 use rehearsal::grid::{Collector, Grid, Wanted};
 use std::io::{Read, Write};
 use std::os::unix::fs::FileTypeExt;
 use std::process::{Command, Stdio};
-use support::{kivdrag, stored};
+use support::{examples, kivdrag, stored};
 
 /// Slot, input, output, booked.
 type Drawn = (u64, usize, usize, bool);
@@ -69,9 +70,14 @@ fn assert_well_formed(picture: &str) {
     assert!(!picture.contains("href") && !picture.contains("url(") && picture.matches("http").count() == 1);
 }
 
+/// The file as the proved program is fed it.
+fn repaired(file: Vec<u8>) -> Vec<u8> {
+    rehearsal::text::Text::read(file).unwrap().repaired()
+}
+
 /// A random file of one switch: the second program's, up to its second accepted start.
 fn one_switch(seed: u64) -> Vec<u8> {
-    let text = rehearsal::text::Text::read(trace(seed, 2000)).unwrap().repaired();
+    let text = repaired(trace(seed, 2000));
     let mut file = Vec::new();
     let mut starts = 0;
     for line in text.split_inclusive(|&byte| byte == b'\n') {
@@ -85,9 +91,9 @@ fn one_switch(seed: u64) -> Vec<u8> {
 
 #[test]
 fn the_examples_have_their_stored_charts() {
-    stored("hall.chart", &["chart", "examples/hall.csv"], 0);
-    stored("pipelined.chart", &["chart", "examples/pipelined.csv"], 0);
-    stored("document.chart", &["chart", "examples/document.csv"], 1);
+    for (name, status) in examples() {
+        stored(&format!("{name}.chart"), &["chart", &format!("examples/{name}.csv")], status);
+    }
 }
 
 #[test]
@@ -100,7 +106,8 @@ fn the_picture_of_the_documents_is_the_one_of_the_hall() {
 
 #[test]
 fn every_pair_is_drawn_exactly_once() {
-    let mut files: Vec<Vec<u8>> = ["hall", "pipelined"].map(|name| std::fs::read(root().join(format!("examples/{name}.csv"))).unwrap()).to_vec();
+    let example = |(name, _): &(String, i32)| repaired(std::fs::read(root().join(format!("examples/{name}.csv"))).unwrap());
+    let mut files: Vec<Vec<u8>> = examples().iter().map(example).collect();
     files.extend((1..=10).map(one_switch));
     let mut drawn = 0;
     for file in files {
@@ -146,11 +153,115 @@ fn no_line_is_wider_than_the_paper() {
     let cases = [(1, 5, 80), (3, 5, 80), (10, 5, 80), (10, 5, 41), (11, 3, 39), (23, 5, 80), (24, 5, 80), (1000, 5, 80), (1000, 5, 100)];
     for (frame, from, columns) in cases {
         let grid = made(frame, 150, Wanted { from, slots: 120, switch: None }).unwrap();
-        let chart = text(&grid, "made", &Paper { columns, colour: false });
-        let rows = chart.lines().filter(|line| line.starts_with("input") || line.starts_with("slot"));
-        let widest = rows.map(str::len).max().unwrap();
-        assert!(widest <= columns && widest + 10 + 3 * frame.min(30) as usize > columns, "frames of {frame}: {widest} of {columns}");
+        let chart = text(&grid, "a-name-that-is-a-good-deal-longer-than-most-names-of-files-are.csv", &Paper { columns, colour: false });
+        let widest = |lines: &mut dyn Iterator<Item = &str>| lines.map(str::len).max().unwrap();
+        assert!(widest(&mut chart.lines()) <= columns, "frames of {frame}, {columns} columns:\n{chart}");
+        let rows = widest(&mut chart.lines().filter(|line| line.starts_with("input")));
+        assert!(rows + 10 + 3 * frame.min(30) as usize > columns, "frames of {frame}: {rows} of {columns}");
     }
+}
+
+#[test]
+fn a_narrow_paper_breaks_the_legend_and_leaves_out_labels() {
+    let chart = text(&made(4, 8, Wanted { from: 1, slots: 8, switch: None }).unwrap(), "made", &Paper { columns: 22, colour: false });
+    let end = "\n1* booked: the input\n   was given output 1\n   in a slot of its\n   booking\n";
+    assert!(chart.starts_with("made: direct switch, 1\nport, frames of 4\nslots\n\n         frame 1\n") && chart.contains(end), "{chart}");
+    let narrower = text(&made(4, 8, Wanted { from: 1, slots: 8, switch: None }).unwrap(), "made", &Paper { columns: 15, colour: false });
+    assert!(!narrower.contains("frame 1") && narrower.contains("input 1"), "{narrower}");
+}
+
+/// What a chart of the hall is in a terminal of so many columns: its widest row, and whether it has colours.
+fn in_terminal(columns: u32, variables: &[(&str, &str)]) -> (usize, bool) {
+    let script = "import fcntl, os, pty, struct, sys, termios
+process, terminal = pty.fork()
+if process == 0:
+    fcntl.ioctl(1, termios.TIOCSWINSZ, struct.pack('HHHH', 24, int(sys.argv[1]), 0, 0))
+    os.execv(sys.argv[2], sys.argv[2:])
+try:
+    while part := os.read(terminal, 4096):
+        sys.stdout.buffer.write(part)
+except OSError:
+    pass  # Linux ends a terminal so
+os.waitpid(process, 0)";
+    let mut python = Command::new("python3");
+    python.args(["-c", script, &columns.to_string(), env!("CARGO_BIN_EXE_rehearsal"), "chart", "--program"]).arg(program());
+    python.args(["examples/hall.csv"]).current_dir(root()).env_remove("COLUMNS").env_remove("NO_COLOR").env("TERM", "xterm");
+    let output = python.envs(variables.iter().copied()).output().unwrap();
+    let chart = String::from_utf8(output.stdout).unwrap();
+    assert!(chart.contains("a frame begins"), "{chart}");
+    let plain = without_colour(&chart);
+    let rows = plain.lines().filter(|line| line.starts_with("input"));
+    (rows.map(|row| row.trim_end().len()).max().unwrap(), chart.contains('\x1b'))
+}
+
+#[test]
+fn a_terminal_is_asked_for_its_width_and_dumb_ones_get_no_colour() {
+    // of the hall's frames of 10 slots one fits into 40 columns; in 39 there are 9 slots beside each other, of which none in the last is booked
+    assert_eq!((in_terminal(40, &[]), in_terminal(39, &[])), ((39, true), (36, true)));
+    assert_eq!(in_terminal(200, &[("COLUMNS", "39"), ("TERM", "dumb")]), (36, false));
+    assert_eq!(in_terminal(200, &[("NO_COLOR", "1")]), (52, false));
+    assert_eq!((in_terminal(0, &[]), in_terminal(40, &[("COLUMNS", "0")])), ((52, true), (39, true)));
+}
+
+fn without_colour(chart: &str) -> String {
+    let mut stripped = String::new();
+    for (at, part) in chart.split('\x1b').enumerate() {
+        stripped += if at == 0 { part } else { part.split_once('m').unwrap().1 };
+    }
+    stripped
+}
+
+/// The texts of a picture, each with its x.
+fn texts_in_picture(picture: &str) -> Vec<(u64, &str)> {
+    let read = |rest| {
+        let (x, rest): (&str, &str) = str::split_once(rest, '"').unwrap();
+        let (_, rest) = rest.split_once('>').unwrap();
+        (x.parse().unwrap(), rest.split_once("</text>").unwrap().0)
+    };
+    picture.split("<text x=\"").skip(1).map(read).collect()
+}
+
+#[test]
+fn a_picture_numbers_the_first_slot_of_each_band_and_no_numbers_touch() {
+    for from in [1, 3, 98, 1102, 100_003] {
+        let grid = made(1000, 100_200, Wanted { from, slots: 120, switch: None }).unwrap();
+        let picture = svg(&grid, "made");
+        let texts = texts_in_picture(&picture);
+        // the row of each band begins with the word slot, whose end is 10 pixels before the first cell
+        let rulers = texts.split(|(_, text)| *text == "slot").skip(1);
+        for (ruler, (first, _)) in rulers.zip(grid.bands(35)) {
+            let numbers: Vec<(u64, u64)> = ruler.iter().map_while(|(x, text)| Some((*x, text.parse().ok()?))).collect();
+            let half = first.to_string().len() as u64 * 4;
+            assert!(numbers[0].1 == first && numbers[0].0 - half >= 88, "{numbers:?}");
+            assert!(numbers.len() > 2 && numbers.windows(2).all(|two| two[1].0 >= two[0].0 + 2 * half + 6), "{numbers:?}");
+        }
+    }
+}
+
+#[test]
+fn labels_of_frames_end_before_the_next_frame_or_the_edge() {
+    let labels = |frame: u64, from: u64, slots: u64| -> Vec<(u64, String)> {
+        let picture = svg(&made(frame, 2000, Wanted { from, slots, switch: None }).unwrap(), "made");
+        let texts = texts_in_picture(&picture);
+        texts.iter().filter(|(_, text)| text.starts_with("frame ")).map(|(x, text)| (*x, text.to_string())).collect()
+    };
+    // slot 6 is the last of frame 1 and leaves no room for its label; cells are 33 pixels wide, the first begins at 88
+    assert_eq!(labels(6, 6, 30)[0], (88 + 33 + 7, "frame 2".to_string()));
+    assert_eq!(labels(6, 1, 30)[0], (88 + 7, "frame 1".to_string()));
+    assert_eq!(labels(1, 1, 35), []);
+    // the 35th slot begins a frame whose label would leave the picture
+    assert_eq!(labels(1000, 967, 35).iter().map(|(_, label)| &label[..]).collect::<Vec<_>>(), ["frame 1"]);
+}
+
+#[test]
+fn a_long_name_is_shortened_in_the_middle_and_widens_the_picture() {
+    let grid = made(10, 5, Wanted { from: 1, slots: 5, switch: None }).unwrap();
+    let width = |picture: &str| picture.split('"').nth(3).unwrap().parse::<u64>().unwrap();
+    let (short, long) = (svg(&grid, "made"), svg(&grid, &format!("START{}end.csv", "W".repeat(200))));
+    assert!(long.contains(&format!(">START{}...{}end.csv: direct switch,", "W".repeat(14), "W".repeat(11))), "{long}");
+    assert_eq!(width(&short), 700);
+    // 30 capitals of up to 17 pixels, 53 others of about 10, and the margins
+    assert!(width(&long) > 30 * 17 + 53 * 10 + 2 * 24, "{}", width(&long));
 }
 
 #[test]
@@ -169,12 +280,8 @@ fn colour_changes_no_character() {
     let (plain, coloured) = (text(&grid, "made", &Paper { columns: 80, colour: false }), text(&grid, "made", &Paper { columns: 80, colour: true }));
     // blue, dark under white for the booked and pale under black for the leftover
     assert_eq!((coloured.matches("\x1b[48;5;26;38;5;231m 1*\x1b[0m").count(), coloured.matches("\x1b[48;5;147;38;5;16m 1 \x1b[0m").count()), (2, 2));
-    let mut stripped = String::new();
-    for (at, part) in coloured.split('\x1b').enumerate() {
-        stripped += if at == 0 { part } else { part.split_once('m').unwrap().1 };
-    }
     let trimmed = |text: &str| text.lines().map(|line| line.trim_end().to_string()).collect::<Vec<_>>();
-    assert_eq!(trimmed(&stripped), trimmed(&plain));
+    assert_eq!(trimmed(&without_colour(&coloured)), trimmed(&plain));
 }
 
 #[test]
@@ -217,7 +324,7 @@ fn what_cannot_be_drawn_is_one_line_and_status_2() {
 #[test]
 fn a_picture_takes_its_place_whole() {
     let folder = Folder::new();
-    let out = folder.file("picture.svg", b"an older one");
+    let out = folder.file("picture.svg", b"<svg an older one");
     let ended = kivdrag(&["chart", "--svg", &out, "examples/hall.csv"], b"");
     assert_eq!((ended.status, &ended.text[..], &ended.errors[..]), (0, "", ""));
     let written = std::fs::read_to_string(folder.path("picture.svg")).unwrap();
@@ -226,6 +333,33 @@ fn a_picture_takes_its_place_whole() {
     let directory = kivdrag(&["chart", "--svg", &name, "examples/hall.csv"], b"");
     assert_eq!((directory.status, directory.errors), (2, format!("kivdrag: {name} could not be written: is a directory\n")));
     assert_eq!(folder.names(), ["picture.svg"]);
+}
+
+#[test]
+fn a_file_that_is_no_picture_is_not_written_over() {
+    let folder = Folder::new();
+    let events = folder.file("events.csv", b"h\r\nstart,1,2,0\r\ntick,0,0,1\r\n");
+    let (link, alias) = (folder.word("link.svg"), folder.word("alias.svg"));
+    std::os::unix::fs::symlink(&events, &link).unwrap();
+    std::fs::hard_link(&events, &alias).unwrap();
+    let other = folder.file("other.txt", b"notes");
+    let same = "is the event file itself; give another name";
+    let no_picture = "is there already and is no picture; give another name";
+    // a missing event file is not looked for before
+    let cases = [(&events, Some(&events), same), (&link, Some(&events), same), (&alias, Some(&events), same), (&other, Some(&events), no_picture)];
+    let missing = folder.word("missing.csv");
+    for (out, file, line) in cases.into_iter().chain([(&other, Some(&missing), no_picture), (&events, None, no_picture)]) {
+        let words: Vec<&str> = ["chart", "--svg", out].into_iter().chain(file.map(|file| &file[..])).collect();
+        let ended = kivdrag(&words, b"h\r\nstart,1,2,0\r\ntick,0,0,1\r\n");
+        assert_eq!((ended.status, ended.errors), (2, format!("kivdrag: {out} {line}\n")), "{words:?}");
+    }
+    assert_eq!(std::fs::read(folder.path("events.csv")).unwrap(), b"h\r\nstart,1,2,0\r\ntick,0,0,1\r\n");
+    assert_eq!(std::fs::read(folder.path("other.txt")).unwrap(), b"notes");
+    for (name, older) in [("a.svg", "<?xml version=\"1.0\"?>"), ("b.svg", ""), ("c.svg", "<svg>")] {
+        let out = folder.file(name, older.as_bytes());
+        assert_eq!(kivdrag(&["chart", "--svg", &out, &events], b"").status, 0, "{name}");
+        assert!(std::fs::read(folder.path(name)).unwrap().ends_with(b"</svg>\n"), "{name}");
+    }
 }
 
 #[test]

@@ -93,8 +93,9 @@ fn refusals_for_full_queues() {
     // Pipelined: 8 ticks hand out slots 2 to 9, the first of them idle, and one packet more has left the queue for slot 10.
     let piped = lines(&format!("pipe,2,3,0\n{full}tick,0,0,8\narrive,1,2,9\narrive,1,2,8\narrive,1,2,1"));
     assert_eq!(piped.len(), 2, "{piped:?}");
-    assert_eq!(piped[0], format!("line 20: arrive,1,2,9: refused (11): {limit}; 1,000,000 arrived, 7 handed out, 9 more asked for"));
-    assert_eq!(piped[1], format!("line 22: arrive,1,2,1: refused (11): {limit}; 1,000,008 arrived, 7 handed out, 1 more asked for"));
+    let in_flight = "; packets in flight to a slot to come no longer count in the queue";
+    assert_eq!(piped[0], format!("line 20: arrive,1,2,9: refused (11): {limit}; 1,000,000 arrived, 7 handed out, 9 more asked for{in_flight}"));
+    assert_eq!(piped[1], format!("line 22: arrive,1,2,1: refused (11): {limit}; 1,000,008 arrived, 7 handed out, 1 more asked for{in_flight}"));
 }
 
 #[test]
@@ -139,6 +140,31 @@ fn refusals_of_fields_that_are_no_numbers() {
     flaw("arrive,1,1,", "field 4 (packets) is empty");
     flaw("book,1,1,12345678901", "field 4 (slots) is `12345678901`: it has 11 digits");
     flaw("tick,,0,1", "field 2 is empty");
+}
+
+#[test]
+fn refusals_of_stray_line_ends() {
+    let (status, output, _) = check("op\r\nstart,2,30,0\r\nbook,1,1,1\r0\r\ntick,0,0,1\n000\r\nbook,1,1,1\n2,1,1,1\r\n9\n9\r\n", &[]);
+    let number = "stands in it; a number is 1 to 10 digits and nothing else";
+    let fields = "it has 7 fields; a record has 4: an operation and three numbers; a stray line end (line feed) stands in it";
+    let unknown = "the operation `9\\n9` is not known; there are start, pipe, book, release, arrive, tick; a stray line end (line feed) stands in it";
+    let told = [
+        format!("line 3: book,1,1,1\\r0: refused (14): field 4 (slots) is `1\\r0`: a stray line end (carriage return) {number}"),
+        format!("line 4: tick,0,0,1\\n000: refused (14): field 4 (slots) is `1\\n000`: a stray line end (line feed) {number}"),
+        format!("line 5: book,1,1,1\\n2,1,1,1: refused (13): {fields}"),
+        format!("line 6: 9\\n9: refused (12): {unknown}"),
+        "5 records: 4 refused, the first in line 3".to_string(),
+    ];
+    assert_eq!((status, output.lines().collect::<Vec<_>>()), (1, told.iter().map(|line| &line[..]).collect()));
+}
+
+#[test]
+fn records_within_quotes_are_judged() {
+    let (status, output, _) = check("op,input,\"output,amount\nstart,2,3,0\nbook,9,9,1\n\"\nstart,2,3,0\n", &[]);
+    let told: Vec<&str> = output.lines().collect();
+    assert_eq!((status, told[0]), (1, "line 3: book,9,9,1: refused (5): input 9 and output 9; the switch has ports 1 to 2"));
+    assert!(told[1].starts_with("line 4: \": refused (12): a quote"), "{output}");
+    assert_eq!(told.last(), Some(&"4 records: 2 refused, the first in line 3"));
 }
 
 #[test]
@@ -234,7 +260,7 @@ fn each_kind_of_file_is_told_and_repaired() {
         assert_eq!(check_words(&[&file]), (1, told, String::new()));
         assert_eq!(folder.names(), ["hall.csv"]);
 
-        let told = format!("repaired: {repair}\n{file} is repaired; the original is kept as {file}.orig\n3 records: all accepted\n");
+        let told = format!("to repair: {repair}\n{file} is repaired; the original is kept as {file}.orig\n3 records: all accepted\n");
         assert_eq!(check_words(&["--fix", &file]), (0, told, String::new()));
         assert_eq!(folder.names(), ["hall.csv", "hall.csv.orig"]);
         assert_eq!(fs::read_to_string(&file).unwrap(), CLEAN);
@@ -310,9 +336,9 @@ fn output_goes_to_a_new_file() {
     let damaged = CLEAN.replace("\r\n", "\n");
     let file = folder.file("hall.csv", damaged.as_bytes());
     let out = folder.word("out.csv");
-    let told = "repaired: line ends: LF in 4 lines, the first is line 1; CR LF is needed";
+    let told = "to repair: line ends: LF in 4 lines, the first is line 1; CR LF is needed";
     let told = format!("{told}\n{out} is written\n3 records: all accepted\n");
-    assert_eq!(check_words(&["--fix", "--output", &out, &file]), (0, told.clone(), String::new()));
+    assert_eq!(check_words(&["--output", &out, &file]), (0, told, String::new()));
     assert_eq!(fs::read_to_string(&out).unwrap(), CLEAN);
     assert_eq!(fs::read_to_string(&file).unwrap(), damaged);
     assert_eq!(folder.names(), ["hall.csv", "out.csv"]);
@@ -344,10 +370,10 @@ fn standard_input() {
         let (status, output, _) = from(words);
         assert_eq!((status, output.lines().nth(1)), (1, Some("`kivdrag check --output OUT` writes it repaired to OUT")));
     }
-    let error = "kivdrag: standard input cannot be repaired in its place; name a file, or add --output OUT\n";
+    let error = "kivdrag: standard input cannot be repaired in its place; name a file, or give --output OUT without --fix\n";
     assert_eq!(from(&["--fix"]), (2, String::new(), error.into()));
     let out = folder.word("out.csv");
-    assert_eq!(from(&["--fix", "--output", &out]).0, 0);
+    assert_eq!(from(&["--output", &out]).0, 0);
     assert_eq!(fs::read_to_string(&out).unwrap(), CLEAN);
 }
 
@@ -360,14 +386,17 @@ fn what_cannot_be_read() {
         assert_eq!((status, output.as_str()), (2, ""), "{words:?}");
         error
     };
-    assert_eq!(error(&[&missing]), format!("kivdrag: {missing}: no such file\n"));
-    assert_eq!(error(&["--fix", &missing]), format!("kivdrag: {missing}: no such file\n"));
+    let no_file = "no such file, or in a folder that you may not enter";
+    assert_eq!(error(&[&missing]), format!("kivdrag: {missing}: {no_file}\n"));
+    assert_eq!(error(&["--fix", &missing]), format!("kivdrag: {missing}: {no_file}\n"));
+    assert_eq!(error(&[""]), format!("kivdrag: '': {no_file}\n"));
+    assert_eq!(error(&["--fix", ""]), format!("kivdrag: '': {no_file}\n"));
     let directory = folder.word("");
     assert_eq!(error(&["--fix", &directory]), format!("kivdrag: {directory} is a directory; name a file in it\n"));
     let wide = folder.file("wide.csv", b"\xff\xfeo\0p\0");
     assert_eq!(error(&["--fix", &wide]), format!("kivdrag: {wide}: UTF-16 text cannot be read; save it as CSV UTF-8\n"));
     assert_eq!(folder.names(), ["wide.csv"]);
-    assert_eq!(error(&["--fix", "/dev/null"]), "kivdrag: /dev/null is no plain file and cannot be replaced; add --output OUT\n");
+    assert_eq!(error(&["--fix", "/dev/null"]), "kivdrag: /dev/null is no plain file and cannot be replaced; give --output OUT without --fix\n");
 }
 
 #[test]
@@ -382,7 +411,10 @@ fn words_that_are_not_understood() {
     assert_eq!(error(&["a.csv", "--output"]), "kivdrag: --output needs a value after it\n");
     assert_eq!(error(&["--fix", "--fix", "a.csv"]), "kivdrag: --fix is given twice\n");
     assert_eq!(error(&["a.csv", "b.csv"]), "kivdrag: 2 files are named; this command takes one\n");
-    assert_eq!(error(&["--", "--fix"]), "kivdrag: --fix: no such file\n");
+    assert_eq!(error(&["--output=", "a.csv"]), "kivdrag: --output needs a value after it\n");
+    assert_eq!(error(&["--", "--fix"]), "kivdrag: --fix: no such file, or in a folder that you may not enter\n");
+    let both = "kivdrag: --fix repairs the file in its place, and --output OUT writes it to OUT; give one of the two\n";
+    assert_eq!(error(&["--fix", "--output", "b.csv", "a.csv"]), both);
     assert_eq!(error(&["--output", "-", "a.csv"]), "kivdrag: --output needs the name of a file; standard output has what check says\n");
 }
 
@@ -394,20 +426,53 @@ fn a_repair_that_cannot_be_written_leaves_the_file() {
     let name = format!("{}.csv", "n".repeat(246));
     let file = folder.file(&name, damaged.as_bytes());
     let error = format!("kivdrag: {file} could not be repaired and stands as it was: file name too long\n");
-    assert_eq!(check_words(&["--fix", &file]), (2, String::new(), error));
+    let told = "to repair: line ends: LF in 4 lines, the first is line 1; CR LF is needed\n";
+    assert_eq!(check_words(&["--fix", &file]), (2, told.into(), error));
     assert_eq!(fs::read_to_string(&file).unwrap(), damaged);
     assert_eq!(folder.names(), [name]);
 }
 
 #[test]
 fn output_that_is_lost() {
+    for record in ["book,1,1,1", "book,3,1,1"] {
+        let folder = Folder::new();
+        let damaged = CLEAN.replace("\r\n", "\n").replace("book,1,1,1", record);
+        let file = folder.file("hall.csv", damaged.as_bytes());
+        let full = fs::OpenOptions::new().write(true).open("/dev/full").unwrap();
+        let output = command("check", &["--fix", &file]).stdout(full).stderr(Stdio::piped()).output().unwrap();
+        assert_eq!(said(&output), (2, String::new(), "kivdrag: the output could not be written: no space left on device\n".into()));
+        assert_eq!(fs::read_to_string(&file).unwrap(), damaged);
+        assert_eq!(folder.names(), ["hall.csv"]);
+    }
+}
+
+/// The output has room for what is said before the file is replaced, and for no more.
+#[test]
+fn output_that_is_lost_after_the_repair() {
     let folder = Folder::new();
-    let damaged = CLEAN.replace("\r\n", "\n").replace("book,1,1,1", "book,3,1,1");
-    let file = folder.file("hall.csv", damaged.as_bytes());
-    let full = fs::OpenOptions::new().write(true).open("/dev/full").unwrap();
-    let output = command("check", &["--fix", &file]).stdout(full).stderr(Stdio::piped()).output().unwrap();
-    assert_eq!(said(&output), (2, String::new(), "kivdrag: the output could not be written: no space left on device\n".into()));
-    assert_eq!(fs::read_to_string(&file).unwrap(), damaged);
+    let file = folder.file("hall.csv", CLEAN.replace("\r\n", "\n").as_bytes());
+    let told = "to repair: line ends: LF in 4 lines, the first is line 1; CR LF is needed\n";
+    let out = folder.file("out", &vec![b'\n'; 1024 - told.len()]);
+    let check = command("check", &["--fix", &file]);
+    let mut limited = Command::new("bash");
+    limited.args(["-c", "trap '' XFSZ; ulimit -f 1; exec \"${@:2}\" >>\"$1\"", "bash", &out]).arg(check.get_program()).args(check.get_args());
+    let lost = format!("the output could not be written: file too large; {file} is repaired; the original is kept as {file}.orig");
+    assert_eq!(said(&limited.output().unwrap()), (2, String::new(), format!("kivdrag: {lost}\n")));
+    assert_eq!(fs::read_to_string(&out).unwrap().trim_start(), told);
+    assert_eq!(fs::read_to_string(&file).unwrap(), CLEAN);
+}
+
+#[test]
+fn a_terminal() {
+    let script = "import os, pty, subprocess, sys\n\
+        master, terminal = pty.openpty()\n\
+        run = subprocess.Popen(sys.argv[1:], stdin=terminal)\n\
+        os.write(master, b'op\\nstart,1,1,0\\ntick,0,0,1\\n\\x04')\n\
+        sys.exit(run.wait(timeout=20))\n";
+    let check = command("check", &[]);
+    let output = Command::new("python3").args(["-c", script]).arg(check.get_program()).args(check.get_args()).output().unwrap();
+    let hint = "type a heading (any line), then records, as start,2,3,0; each line gets its CR LF; Ctrl-D in an empty line ends the input";
+    assert_eq!(said(&output), (0, "2 records: all accepted\n".into(), format!("kivdrag: {hint}\n")));
 }
 
 #[test]

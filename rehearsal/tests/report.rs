@@ -3,16 +3,17 @@
 mod common;
 mod support;
 
-use common::trace;
+use common::{root, trace};
 use rehearsal::event::{Event, Operation, Pair, Record};
 use rehearsal::measure::{Measured, Reading, Row, Wait};
 use rehearsal::report::{Report, Style};
 use rehearsal::switch::Switch;
+use rehearsal::verdict::rules;
 use rehearsal::Status;
 use second::events::{run_with_switches, Started};
 use second::ledger::Claim;
-use second::{Form, Rules};
-use support::{kivdrag, stored};
+use second::Form;
+use support::{examples, kivdrag, stored};
 
 /// Accepted records, made by hand: operation, numbers, the pairs handed out (slot, input, output, booked), the last slot run.
 type Made<'a> = (Operation, [u64; 3], &'a [(u64, usize, usize, bool)], u64);
@@ -182,24 +183,60 @@ fn a_switch_too_large_for_the_ledger_gets_no_verdict() {
         text
     };
     let says = |text: String, words: &str| assert!(text.contains(words) && !text.contains("Kept"), "{text}");
-    says(slots(1, 10_000, 10_000, 501), "Verdict not taken: 5,010,000 slots and arrivals; the ledger takes up to 5,000,000.");
-    says(slots(32, 10_000, 10_000, 49), "Verdict not taken: 501,760,000 slots and arrivals times pairs; the ledger takes up to 500,000,000.");
-    says(slots(32, 1, 1954, 1), "Verdict not taken: 2,000,896 frames times pairs; the ledger takes up to 2,000,000.");
+    says(slots(1, 10_000, 10_000, 101), "1,010,000 slots and arrivals would have to be judged; the ledger takes up to 1,000,000 in");
+    says(slots(32, 10_000, 9_800, 5), "50,176,000 slots and arrivals times pairs would have to be judged; the ledger takes up to 50,000,000 in");
+    says(slots(32, 1, 489, 1), "Verdict not taken: with this switch 500,736 frames times pairs would have to be judged; the ledger takes up to");
     assert!(slots(32, 1, 100, 1).contains("Kept: in each of 100 frames"));
     assert!(slots(2, 5, 1, 0).contains("No slot was run, so there is no frame to judge."));
 }
 
 #[test]
+fn all_switches_of_a_file_share_what_the_ledger_takes() {
+    // frames times pairs: 400,000, then 200,000, which are too many, then 100,000
+    let switches = [400_000, 200_000, 100_000].map(|slots| -> [Made; 2] { [(Start, [1, 1, 0], &[], 0), (Tick, [0, 0, slots], &[], slots)] });
+    let (text, end) = reported(&switches.concat());
+    assert_eq!(end, Ok(Status::Accepted));
+    let verdicts: Vec<&str> = text.lines().filter(|line| line.starts_with("Kept") || line.starts_with("Verdict")).collect();
+    assert_eq!(verdicts.len(), 3, "{text}");
+    assert!(verdicts[0].starts_with("Kept: in each of 400,000 frames") && verdicts[2].starts_with("Kept: in each of 100,000 frames"), "{text}");
+    assert!(verdicts[1].starts_with("Verdict not taken: with this switch 600,000 frames times pairs"), "{text}");
+}
+
+#[test]
+fn kept_is_told_of_pairs_that_were_judged() {
+    let kept = |made: &[Made]| -> Vec<String> {
+        let mut report = Report::new(Style { csv: true, ..Style::default() });
+        each_event(made, |event| report.note(event));
+        let _ = report.end(None);
+        report.text.split_terminator("\r\n").skip(1).map(|line| line.rsplit(',').next().unwrap().to_string()).collect()
+    };
+    // 2 ports, frames of 1 slot; in frame 2 of 3 the pair (1, 1) does not get what it has booked
+    let ticks: Made = (Tick, [0, 0, 3], &[(1, 1, 1, true), (3, 1, 1, true)], 3);
+    let made: [Made; 4] = [(Start, [2, 1, 0], &[], 0), (Book, [1, 1, 1], &[], 0), (Arrive, [1, 1, 9], &[], 0), ticks];
+    assert_eq!(kept(&made), ["no", "yes", "yes", "yes"]);
+    assert_eq!(kept(&made[..3]), ["not judged"; 4]);
+    assert_eq!(kept(&[(Start, [1, 1, 0], &[], 0), (Tick, [0, 0, 500_001], &[], 500_001)]), ["not judged"]);
+}
+
+#[test]
 fn the_examples_have_their_stored_reports() {
-    stored("hall.report", &["report", "examples/hall.csv"], 0);
+    for (name, status) in examples() {
+        let file = format!("examples/{name}.csv");
+        stored(&format!("{name}.report"), &["report", &file], status);
+        stored(&format!("{name}.csv"), &["report", &file, "--csv"], status);
+    }
     stored("hall.slot-ns.report", &["report", "--all", "--slot-ns", "5.12", "examples/hall.csv"], 0);
-    stored("document.report", &["report", "examples/document.csv"], 1);
-    stored("pipelined.report", &["report", "examples/pipelined.csv"], 0);
-    stored("mistakes.report", &["report", "examples/mistakes.csv"], 1);
-    stored("hall.csv", &["report", "--csv", "examples/hall.csv"], 0);
-    stored("pipelined.csv", &["report", "--csv", "--slot-ns", "512", "examples/pipelined.csv"], 0);
-    stored("document.csv", &["report", "examples/document.csv", "--csv"], 1);
-    stored("mistakes.csv", &["report", "--csv", "examples/mistakes.csv"], 1);
+    stored("pipelined.slot-ns.csv", &["report", "--csv", "--slot-ns", "512", "examples/pipelined.csv"], 0);
+}
+
+#[test]
+fn the_readme_shows_the_report_of_the_kiosk() {
+    let readme = std::fs::read_to_string(root().join("README.md")).unwrap();
+    let (_, block) = readme.split_once("$ ./kivdrag report --slot-ns 5120 examples/kiosk.csv\n").expect("README.md shows the command");
+    let (shown, _) = block.split_once("```").unwrap();
+    let report = kivdrag(&["report", "--slot-ns", "5120", "examples/kiosk.csv"], b"").text;
+    let (told, _) = report.split_once("\nMEASURED").unwrap();
+    assert_eq!(shown, told);
 }
 
 #[test]
@@ -245,10 +282,11 @@ fn random_files_count_as_in_the_second_program() {
     for seed in 1..=10 {
         let file = trace(seed, 2000);
         let text = rehearsal::text::Text::read(file.clone()).unwrap().repaired();
-        let (lines, switches) = run_with_switches(Rules { upto: 7 }, &text);
+        let (lines, switches) = run_with_switches(rules(), &text);
         let csv = kivdrag(&["report", "--csv"], &file);
         let rows: Vec<Vec<u64>> = csv.text.split_terminator("\r\n").skip(1).map(csv_numbers).collect();
-        assert!(csv.text.split_terminator("\r\n").skip(1).all(|line| line.ends_with(",yes")), "seed {seed}");
+        let kept = |line: &str| line.ends_with(if csv_numbers(line)[5] > 0 { ",yes" } else { ",not judged" });
+        assert!(csv.text.split_terminator("\r\n").skip(1).all(kept), "seed {seed}");
         let mut rest = &rows[..];
         for started in &switches {
             let pairs = started.switch.n() as usize * started.switch.n() as usize;

@@ -4,6 +4,7 @@ mod common;
 
 use common::Random;
 use rehearsal::text::Text;
+use std::time::{Duration, Instant};
 
 const CLEAN: &str = "op,input,output,amount\r\nstart,2,3,0\r\nbook,1,1,1\r\ntick,0,0,2\r\n";
 
@@ -74,7 +75,7 @@ fn quotes_around_whole_fields() {
     let all = CLEAN.replace(',', "\",\"").replace("\r\n", "\"\r\n\"");
     let all = format!("\"{}", all.strip_suffix('"').unwrap());
     becomes_clean(all, &["quotes: around fields in 4 lines, the first is line 1; none are needed"]);
-    for kept in ["\"1,5\"", "\"1;5\"", "\"1\"\"5\"", "\"1", "1\"", "1\"5\"", "\"1\"5", " \"1\"", "\"1\n5\"", "\"1\r5\"", "\""] {
+    for kept in ["\"1,5\"", "\"1;5\"", "\"1\"\"5\"", "\"1", "1\"", "1\"5\"", "\"1\"5", " \"1\"", "\"1\n5\"", "\"1\r5\"", "\"1\"\n5", "\""] {
         stays(format!("op\r\nbook,1,1,{kept}\r\n"));
         stays(format!("op\r\nbook,1,{kept},1\r\n"));
     }
@@ -83,18 +84,71 @@ fn quotes_around_whole_fields() {
 #[test]
 fn quotes_of_the_heading_alone_need_no_repair() {
     stays(CLEAN.replace("input", "\"input\""));
-    stays(CLEAN.replace("input", "\"input\nport\""));
     stays(CLEAN.replace("op,input,output,amount", "op;input;output;amount"));
 }
 
 #[test]
-fn a_line_end_within_quotes_ends_no_line() {
-    let (text, said) = repaired("op,\"in\nput\"\nstart,2,3,0\n");
-    assert_eq!(text, "op,\"in\nput\"\r\nstart,2,3,0\r\n");
-    assert_eq!(said, ["line ends: LF in 2 lines, the first is line 1; CR LF is needed"]);
-    // A quote that nothing closes swallows no lines, nor does one that is closed after a CR LF.
+fn a_line_within_quotes_is_a_line() {
+    let text = read("op,input,\"output,amount\nstart,2,3,0\nbook,9,9,1\n\"\nstart,2,3,0\n");
+    assert_eq!(text.records().collect::<Vec<_>>(), [&b"start,2,3,0"[..], b"book,9,9,1", b"\"", b"start,2,3,0"]);
+    assert_eq!(text.repairs, ["line ends: LF in 5 lines, the first is line 1; CR LF is needed"]);
     assert_eq!(read("op\nbook,\"1,1,1\nbook,1,1,1\n").records().count(), 2);
     assert_eq!(read("op\r\nbook,\"1,1,1\r\nbook,1\",1,1\r\n").records().count(), 2);
+    assert_eq!(read("op\r\nbook,\"1,1,1\nbook,1\",1,1\r\n").records().count(), 2);
+    assert_eq!(read("op,\"a\r\nbook\",1,1,1\r\n").records().count(), 1);
+}
+
+#[test]
+fn a_line_break_within_the_heading() {
+    let said = ["1 line break within the heading; a blank is needed instead"];
+    for (heading, whole) in [("\"in\nput\"", "\"in put\""), ("\"in\rput\"", "\"in put\""), ("in\n1", "in 1")] {
+        let (text, repairs) = repaired(CLEAN.replace("input", heading));
+        assert_eq!((text, &repairs[..]), (CLEAN.replace("input", whole), &said.map(str::to_string)[..]), "{heading:?}");
+    }
+    let (text, said) = repaired("op,\"a\nb\",\"c\n1\"\nstart,2,3,0\r\n");
+    assert_eq!(text, "op,\"a b\",\"c 1\"\r\nstart,2,3,0\r\n");
+    let line_end = "line ends: LF in 1 line, the first is line 1; CR LF is needed";
+    assert_eq!(said, [line_end, "2 line breaks within the heading; a blank is needed instead"]);
+    // A quote that nothing closes protects no line end.
+    assert_eq!(read("op,\"input\nstart,2,3,0\r\ntick,0,0,1\r\n").records().count(), 2);
+}
+
+#[test]
+fn a_lone_line_end_cuts_no_number() {
+    for end in ["\r", "\n", "\r\r", "\n\n", "\n \n", "\r,,\n"] {
+        for follows in ["0", "000", " 1", ",1", "-1", "\u{feff}1", ";\"1\""] {
+            stays(format!("op\r\nbook,1,1,1{end}{follows}\r\ntick,0,0,1\r\n"));
+        }
+    }
+    let (text, said) = repaired("op\nbook,1,1,1\r0\ntick,0,0,1\rtick,0,0,2\n");
+    assert_eq!(text, "op\r\nbook,1,1,1\r0\r\ntick,0,0,1\r\ntick,0,0,2\r\n");
+    assert_eq!(said[1], "line ends: CR in 1 line, the first is line 3; CR LF is needed");
+    // Without CR LF the others end a line whatever follows.
+    assert_eq!(repaired("op\nbook,1,1,1\n0\n").0, "op\r\nbook,1,1,1\r\n0\r\n");
+    assert_eq!(repaired("op\rbook,1,1,1\r0").0, "op\r\nbook,1,1,1\r\n0");
+}
+
+#[test]
+fn a_lone_line_end_before_a_record_or_nothing_ends_a_line() {
+    for end in ["\r", "\n"] {
+        for follows in ["tick,0,0,1", "Tick", "\"tick\",0,0,1", "", "\r\n0", ",,,\r\n0", ",\"\"\r\n0"] {
+            let text = read(format!("op\r\nbook,1,1,1{end}{follows}"));
+            assert_eq!(text.records().next(), Some(&b"book,1,1,1"[..]), "{end:?} {follows:?}");
+            assert!(text.repairs[0].ends_with("in 1 line, the first is line 2; CR LF is needed"), "{:?}", text.repairs);
+        }
+    }
+}
+
+#[test]
+fn many_lone_line_ends_take_no_longer() {
+    for end in ["\r", "\n", " \r", ",\n"] {
+        for follows in ["0\r\n", "tick\r\n", "\r\n", ""] {
+            let text = format!("op\r\nbook,1,1,1{}{follows}", end.repeat(300_000));
+            let begun = Instant::now();
+            read(text);
+            assert!(begun.elapsed() < Duration::from_secs(3), "{end:?} {follows:?}");
+        }
+    }
 }
 
 #[test]
@@ -167,7 +221,7 @@ fn a_record_in_line_1_is_warned_of() {
 #[test]
 fn a_repaired_text_needs_no_repair() {
     let mut random = Random(1);
-    let parts = ["\"", "\"", ",", ";", "\r", "\n", "\r\n", "\r\n", "book", "1", " ", "\u{feff}", "op,input\r\n", "\"1\"", "\"a,b\"", "book,1,1,1\n"];
+    let parts = ["\"", "\"", ",", ";", "\r", "\n", "\r\n", "\r\n", "book", "1", " ", "\u{feff}", "op,input\r\n", "\"1\"", "\"a,b\"", "\"\"", "book,1,1,1\n"];
     let mut changed = 0;
     for _ in 0..200_000 {
         let bytes = random.join(&parts, 12);
@@ -184,7 +238,7 @@ fn a_repaired_text_needs_no_repair() {
 #[test]
 fn digits_stay_as_they_are() {
     let mut random = Random(2);
-    let parts = ["\"", ",", ";", "\r\n", "\n", "book", "1", "25", " 3", "+4", "5.5", "\"6\"", "\"7,8\""];
+    let parts = ["\"", ",", ";", "\r\n", "\n", "\r", "book", "1", "25", " 3", "+4", "5.5", "\"6\"", "\"7,8\""];
     let digits = |bytes: &[u8]| bytes.iter().copied().filter(|byte| !b"\",;\r\n \t".contains(byte)).collect::<Vec<u8>>();
     for _ in 0..50_000 {
         let bytes = random.join(&parts, 12);

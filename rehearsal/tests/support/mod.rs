@@ -26,6 +26,16 @@ pub fn kivdrag(words: &[&str], input: &[u8]) -> Ended {
     Ended { status, text, errors }
 }
 
+/// The names of all examples, without `.csv`, sorted, each with the status of a command that runs it: 1 where something is refused.
+pub fn examples() -> Vec<(String, i32)> {
+    let folder = root().join("examples");
+    let names = std::fs::read_dir(&folder).unwrap().map(|entry| entry.unwrap().file_name().into_string().unwrap());
+    let mut names: Vec<String> = names.filter_map(|name| Some(name.strip_suffix(".csv")?.to_string())).collect();
+    names.sort();
+    let refused = |name: &str| std::fs::read_to_string(folder.join(format!("{name}.out"))).unwrap().contains("\nrefused,");
+    names.into_iter().map(|name| (name.clone(), refused(&name) as i32)).collect()
+}
+
 /// The output is the stored one, byte for byte.
 #[track_caller]
 pub fn stored(name: &str, words: &[&str], status: i32) {
