@@ -1,4 +1,6 @@
 // The book and the arrivals of a switch: booking by slots and by rate, release of either, and arrival.
+#![tactic(auto)]
+
 ghost use Rattle.std.specs.Prelude.{◌≡◌};
 ghost use Rattle.wsgs.specs.Questions.{effect};
 ghost use Rattle.wsgs.specs.Bookings.{book_of};

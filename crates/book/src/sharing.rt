@@ -4,7 +4,7 @@ ghost use Rattle.wsgs.specs.Bookings.{book_of};
 ghost use Rattle.wsgs.specs.Questions.{holds_book};
 ghost use Rattle.wsgs.specs.Rule.{pair_fits};
 ghost use Rattle.wsgs.specs.Claims.{Reached};
-ghost use Rattle.book.specs.Afterwards.{Totals, row-fits, column-fits};
+ghost use Rattle.book.specs.Afterwards.{Totals, row_fits, column_fits};
 
 use crate::afterwards::{BookingRequest, booked_afterwards};
 use crate::all_sums::AllSums;
@@ -36,7 +36,7 @@ pub fn row_fits(
         request.input.0 request.output.0 }
     requires more_fits { request.more.0 < 2 ^ 32 }
     requires totals { Totals clock (book_of slots.now rates.now) request totals }
-    ensures result { result ≡ row-fits clock (book_of slots.now rates.now) request }
+    ensures result { result ≡ row_fits clock (book_of slots.now rates.now) request }
 {
     let input = request.input;
     let at = input.0 as usize - 1;
@@ -62,7 +62,7 @@ pub fn column_fits(
         request.input.0 request.output.0 }
     requires more_fits { request.more.0 < 2 ^ 32 }
     requires totals { Totals clock (book_of slots.now rates.now) request totals }
-    ensures result { result ≡ column-fits clock (book_of slots.now rates.now) request }
+    ensures result { result ≡ column_fits clock (book_of slots.now rates.now) request }
 {
     let output = request.output;
     let at = output.0 as usize - 1;

@@ -1,5 +1,7 @@
 // Prints what starts, bookings, releases and arrivals answer and leave at the edges of what they accept, a line for each case. `stdout` was worked
 // out by hand from the rules.
+#![tactic(auto)]
+
 mod fine;
 mod forms;
 mod matrices;

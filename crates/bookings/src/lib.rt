@@ -1,4 +1,6 @@
 // What a pair has booked, worked out from its slots and its summed rate: of one pair, its rise by a further rate, and of all pairs as words.
+#![tactic(auto)]
+
 mod amounts;
 
 ghost use Rattle.std.specs.Prelude.{◌≡◌, ◌-◌, ◌^◌, ◌≤◌, ◌<◌, ltb, length, get_or};

@@ -1,8 +1,10 @@
 // The ticks of both forms, with the clock advanced in place. The slot is run by crates/direct or crates/pipelined, which take the clock by value
 // and give it back; what they give back, the old clock where the tick is refused, is stored in the lent one.
+#![tactic(auto)]
+
 ghost use Rattle.std.specs.Prelude.{◌≡◌};
 ghost use Rattle.wsgs.specs.Questions.{effect};
-ghost use Rattle.wsgs.specs.Answers.{direct_runs_of, pipelined_runs_of, tick_effect, answer-effect};
+ghost use Rattle.wsgs.specs.Answers.{direct_runs_of, pipelined_runs_of, tick_effect, answer_effect};
 ghost use Rattle.wsgs.specs.Direct;
 ghost use Rattle.wsgs.specs.Pipelined;
 
@@ -19,7 +21,7 @@ pub fn tick_direct(
 ) -> Answer
     ensures outcome { effect result
         (clock.new, direct_runs_of slots.now rates.now credits.new queues.new given.new)
-        ≡ answer-effect (Direct.tick clock.old
+        ≡ answer_effect (Direct.tick clock.old
         (direct_runs_of slots.now rates.now credits.old queues.old given.old)) }
 {
     let result = direct::tick(*clock, slots, rates, credits, queues, given);
@@ -71,7 +73,7 @@ pub fn tick_pipelined(
       pipelined_runs_of slots.now rates.now credits.new queues.new
           given.new copy.new flight.new,
     )
-        ≡ answer-effect (Pipelined.tick clock.old
+        ≡ answer_effect (Pipelined.tick clock.old
         (pipelined_runs_of slots.now rates.now credits.old queues.old
         given.old copy.old flight.old)) }
 {

@@ -1,4 +1,6 @@
 // The direct form: a tick runs the nine steps for the slot after the last slot run.
+#![tactic(auto)]
+
 mod passes;
 
 ghost use Rattle.std.specs.Prelude.{◌≡◌, ◌*◌, ◌≤◌, length};

@@ -1,4 +1,6 @@
 // The event program's library: records in, lines out, on lent slices.
+#![tactic(auto)]
+
 mod bytes;
 mod printing;
 mod steps;

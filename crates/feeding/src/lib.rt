@@ -1,5 +1,7 @@
 // Texts fed to the event program's library, whose output is written to standard output between its calls. No contract can say what the
 // system takes: the result tells whether it took all.
+#![tactic(auto)]
+
 ghost use Rattle.std.specs.Prelude.{◌≡◌, ◌&&◌, ◌-◌, ◌≤◌, length};
 ghost use Rattle.wsgs.specs.Text.{heading};
 ghost use Rattle.lines.specs.Lines.{heading_room, put_effect};

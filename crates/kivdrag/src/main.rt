@@ -1,4 +1,6 @@
 // The event program: it reads standard input in blocks and feeds them to the library, whose output is written to standard output.
+#![tactic(auto)]
+
 use events::{KEPT_BYTES, Progress, begin};
 use feeding::{feed_end, feed_text, write_heading};
 use libc::STDIN_FILENO;

@@ -1,5 +1,7 @@
 // The lines that the event program prints, put at the front of a lent buffer. A buffer without the room that such a text may need is left
 // alone, and 0 bytes are put.
+#![tactic(auto)]
+
 mod printer;
 
 ghost use Rattle.std.specs.Prelude.{◌≡◌};

@@ -1,4 +1,6 @@
 // The machine of the event program: what a record and a slot do to it, and the refusal or the pairs that are to be printed.
+#![tactic(auto)]
+
 mod calls;
 mod refusals;
 mod slots;

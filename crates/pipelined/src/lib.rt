@@ -1,4 +1,6 @@
 // The pipelined form: a tick works on slots ahead and hands out the pairs of the slot after its own.
+#![tactic(auto)]
+
 mod flight;
 mod pipeline_turns;
 

@@ -1,6 +1,8 @@
 // Ticks of the pipelined form at the edges of the rules. Each case prints one line: the refusal, the last slot run, the pairs handed out as
 // input>output/pass, the word of pass one, and of each run afterwards the words that are not 0, as place=word with places from 0 (of more than
 // 20 words their sum). `stdout` was worked out by hand from the rules.
+#![tactic(auto)]
+
 ghost use Rattle.std.specs.Prelude.{◌<◌, ◌≤◌};
 
 use pipelined::tick;

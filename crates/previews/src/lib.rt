@@ -1,4 +1,6 @@
 // What the book has room for, and what an operation on it would give: headroom of a pair, and a preview of each operation. Nothing is changed.
+#![tactic(auto)]
+
 ghost use Rattle.std.specs.Prelude.{◌≡◌};
 ghost use Rattle.wsgs.specs.Bookings.{book_of};
 ghost use Rattle.wsgs.specs.Headroom.{headroom_result};

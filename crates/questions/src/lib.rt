@@ -1,4 +1,6 @@
 // The questions that calls share, in their order. A refusal is the number of the first that is answered no, and 0 for none.
+#![tactic(auto)]
+
 mod runs;
 
 ghost use Rattle.std.specs.Prelude.{◌≡◌};

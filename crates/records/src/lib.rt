@@ -1,4 +1,6 @@
 // What an event record says: the questions to it in their order, its operation and its numbers.
+#![tactic(auto)]
+
 mod fields;
 
 ghost use Rattle.std.specs.Prelude.{◌≡◌, ◌||◌};

@@ -1,4 +1,6 @@
 // The starts of a switch, direct and pipelined: refused, or every used word set to 0.
+#![tactic(auto)]
+
 ghost use Rattle.std.specs.Prelude.{◌≡◌};
 ghost use Rattle.wsgs.specs.Questions.{effect};
 ghost use Rattle.wsgs.specs.Answers.{start_effect, direct_runs_of, pipelined_runs_of};

@@ -1,5 +1,7 @@
 // A stored random trace, fed to the event program's library in pieces of a few bytes, so that every readable record is cut, and with an output
 // that holds little more than one slot may print, so that ticks are cut too. tools/stored_trace makes `stdin`, and the second program `stdout`.
+#![tactic(auto)]
+
 ghost use Rattle.std.specs.Prelude.{◌≤◌, ◌<◌};
 
 use events::{KEPT_BYTES, begin};

@@ -1,6 +1,8 @@
 // An input's turn, in either pass: a sweep of its row tells what it asks for, the search gives the first open output in turn, and the input pays. An input
 // that is no port, more than 32 ports, or a run that is too short has no turn: nothing is asked for, nothing is looked at, and nothing changes.
 // Credits are loaded here too.
+#![tactic(auto)]
+
 mod charges;
 mod credits;
 mod given;

@@ -1,4 +1,6 @@
 // An input's turn as C has it, for the comparison with the second program alone: it is no part of the library for C.
+#![tactic(auto)]
+
 ghost use Rattle.std.specs.Prelude.{◌≡◌};
 ghost use Rattle.turns.specs.Requests.{first_requested, second_requested, first_output, second_output, first_looks, second_looks};
 ghost use Rattle.turns.specs.Charges.{charged, noted};

@@ -1,4 +1,6 @@
 // Runs of lent words cleared and copied, where they are long enough; and where the words of a pair stand.
+#![tactic(auto)]
+
 pub mod places;
 
 ghost use Rattle.std.specs.Prelude.{◌≡◌, ◌≤◌, length};

@@ -19,6 +19,7 @@ use Rattle.wsgs.specs.declared.PreviewResult.{PreviewResult}
 use Rattle.wsgs.specs.declared.TickResult.{TickResult}
 use Rattle.wsgs.specs.Basics.{pick, bit, between, Port}
 use Rattle.wsgs.specs.Steps.{Matching, empty_matching, View, nine_steps, listed, outputs_of, pass_word_of}
+use Rattle.wsgs.specs.Words.{word}
 use Rattle.wsgs.specs.Questions.{Outcome, Effect, refused, clock_can_advance}
 use Rattle.wsgs.specs.Bookings.{Book}
 use Rattle.wsgs.specs.Book.{book_effect, rate_effect, release_effect, release_rate_effect, arrive_effect}
@@ -124,7 +125,7 @@ unfolding Direct.tick Direct.ticked Direct.paired Direct.tick_refusal
 direct_bounded c w =
     let qs = clock_can_advance c.slot ∷ [] in
     either_bounded (Direct.tick_refusal c w) c w (Direct.ticked c w)
-    (λ e. steps_bounded c.ports (direct_yes c.ports c.frame w qs (all_yes (Direct.questions c.ports c.frame w qs) (omega arith) e)).ports.1 _ _ _)
+    (λ e. steps_bounded c.ports (direct_yes c.ports c.frame w qs (all_yes (Direct.questions c.ports c.frame w qs) (omega arith) e)).ports.1 (word c.ports (Direct.loaded c.ports c.frame c.line (c.slot + 1) w)) (Direct.found c.ports w) (Direct.found c.ports w))
 
 pipelined_bounded : (c : Clock) (w : Pipelined.Runs) → Bounded (Pipelined.tick c w).matching
 unfolding Pipelined.tick Pipelined.ticked Pipelined.tick_refusal

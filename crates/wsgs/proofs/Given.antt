@@ -15,7 +15,7 @@ use Rattle.wsgs.specs.Words.{port_word}
 use Rattle.wsgs.specs.Steps.{Matching, View}
 use Rattle.wsgs.specs.Direct
 use Rattle.wsgs.specs.Switch.{Switch, Form, direct, pipelined, direct_runs}
-use Rattle.wsgs.specs.Ledger.{Ledger, answered, has_turns, tick_two, slot_of_one, slot_of_two, given_one, given_two, last_given, last_before_two}
+use Rattle.wsgs.specs.Ledger.{Ledger, answered, has_turns, tick_two, slot_of_one, slot_of_two, given_one, given_two, last_given, last_before_two, credit_left}
 use Rattle.wsgs.specs.Seen.{Seen, first_view, second_view, steps_answer}
 use Rattle.wsgs.specs.Claims.{LastFound, Open}
 use Rattle.wsgs.proofs.Laws.Words.{port_cleared}
@@ -85,7 +85,7 @@ module _ (l : Ledger) (h : Seen) (now : Switch) (t : Trace direct l h now) where
           let d = DirectForm.tick_facts l h now t (k + 1) (omega arith) (omega arith) in
           ap (λ w. port_word w i) v.given
           ∙ ap (λ c. port_word (Direct.ticked c (direct_runs (t.at (k + 1)))).runs.given i) (t.past k (omega arith)).clock
-          ∙ Tick.all_regiven n (t.at (k + 1)).given d.long.given _ i pi
+          ∙ Tick.all_regiven n (t.at (k + 1)).given d.long.given (Tick.answer n l.frame l.line (k + 1) (direct_runs (t.at (k + 1)))).output i pi
           ∙ ap (λ (m : Matching). later (m.output i) (word_at (k + 1) i)) (sym d.answer)
 
   last_at : (k : ℕ) → 1 ≤ k → k ≤ l.ticks → Last k
@@ -249,7 +249,7 @@ module _ (l : Ledger) (h : Seen) (fair : Fair l h) (turned : (t i : ℕ) → 1 �
       go (yes e) = inl e
       go (no d) =
           let packet : 1 ≤ (second_view l h s).queue i j = omega (arith, o.packet, ap (λ k. (h.second k).queue i j) at_tick) in
-          let r = nearer l.ports _ (first_view l h s) (second_view l h s) i j pi pj marks packet
+          let r = nearer l.ports (credit_left l s) (first_view l h s) (second_view l h s) i j pi pj marks packet
           (λ y py e z. o.free y py e (same y py ∙ z)) (λ e. d (same i pi ∙ e)) in
           let some : 1 ≤ v = omega (arith, r.0, same i pi) in
           let new : last_given l i t ≡ v =

@@ -11,8 +11,8 @@ use lib.Dec.{T, leb}
 use Rattle.wsgs.specs.Basics.{pick, Port}
 use Rattle.wsgs.specs.Steps.{Matching, empty_matching, nine_steps}
 use Rattle.wsgs.specs.Switch.{Switch, Form, direct, pipelined, Call, final}
-use Rattle.wsgs.specs.Ledger.{Ledger, ledger_of, answered, has_turns}
-use Rattle.wsgs.specs.Seen.{Seen, seen, second_view, steps_answer, early_answer}
+use Rattle.wsgs.specs.Ledger.{Ledger, ledger_of, answered, has_turns, credit_left}
+use Rattle.wsgs.specs.Seen.{Seen, seen, second_view, steps_answer, early_answer, first_view}
 use Rattle.wsgs.specs.Claims.{all_of_form, opens, Same, PipelinedBegins, NoOutputTwice, MatchingMaximal, PacketsConserved, QueuesSeen, LastGivenFound, NoOutputStarves}
 use Rattle.wsgs.proofs.Steps.{once, maximal}
 use Rattle.wsgs.proofs.Share.{Fair}
@@ -51,7 +51,7 @@ early_once l h k = go (leb k l.ports)
   where
     go : (b : Bool) → Once l.ports (pick b empty_matching (nine_steps l.ports (λ i j. 0) (second_view l h k) (second_view l h k)))
     go true = λ i x pi px d g e. omega arith
-    go false = once l.ports _ _ _
+    go false = once l.ports (λ i j. 0) (second_view l h k) (second_view l h k)
 
 -- so is that of a slot with turns
 late_once : (m : Form) (cs : List Call) (s : Switch) (o : T (all_of_form m cs)) (t : T (opens cs s)) (k : ℕ) → T (answered (ledger_of cs s) k)
@@ -59,7 +59,7 @@ late_once : (m : Form) (cs : List Call) (s : Switch) (o : T (all_of_form m cs)) 
 unfolding steps_answer
 late_once m cs s o t k a b =
     let l = ledger_of cs s in
-    once_like l.ports (l.answer k) (steps_answer l (seen cs s) k) (λ i pi. (fair m cs s o t).follows k i a b pi) (once l.ports _ _ _)
+    once_like l.ports (l.answer k) (steps_answer l (seen cs s) k) (λ i pi. (fair m cs s o t).follows k i a b pi) (once l.ports (credit_left l k) (first_view l (seen cs s) k) (second_view l (seen cs s) k))
 
 -- so no answered slot gives an output to two inputs
 pub once_answered : NoOutputTwice
@@ -81,7 +81,7 @@ unfolding steps_answer
 maximal_answered m cs s o t k i j a b pi pj e d =
     let l = ledger_of cs s in
     let same : (x : ℕ) → Port l.ports x → Same x (l.answer k) (steps_answer l (seen cs s) k) = λ x px. (fair m cs s o t).follows k x a b px in
-    maximal l.ports _ _ _ i j pi pj (sym (same i pi).output ∙ e) (λ x px z. d x px ((same x px).output ∙ z))
+    maximal l.ports (credit_left l k) (first_view l (seen cs s) k) (second_view l (seen cs s) k) i j pi pj (sym (same i pi).output ∙ e) (λ x px z. d x px ((same x px).output ∙ z))
 
 -- and packets are conserved
 pub conserved : PacketsConserved

@@ -19,19 +19,19 @@ abbrev pub pipelined_runs_of : (slots rates credits queues given copy flight : L
 pipelined_runs_of s r c q g p f = record { book = book_of s r; credits = c; queues = q; given = g; copy = p; flight = f }
 
 -- what a start gives back, and with it the runs
-abbrev pub start-result-of : {Runs : Type 0} → Outcome Runs → StartResult
-start-result-of o = record { refusal = o.refusal; clock = o.clock }
+abbrev pub start_result_of : {Runs : Type 0} → Outcome Runs → StartResult
+start_result_of o = record { refusal = o.refusal; clock = o.clock }
 
 abbrev pub start_effect : {Runs : Type 0} → Outcome Runs → Effect StartResult Runs
-start_effect o = effect (start-result-of o) o.runs
+start_effect o = effect (start_result_of o) o.runs
 
 -- what a tick gives back, and with it the runs
-abbrev pub tick-result-of : {Runs : Type 0} → Outcome Runs → TickResult
-tick-result-of o =
+abbrev pub tick_result_of : {Runs : Type 0} → Outcome Runs → TickResult
+tick_result_of o =
     record { refusal = o.refusal; clock = o.clock; outputs = outputs_of o.matching; first_pass = pass_word_of o.matching }
 
 abbrev pub tick_effect : {Runs : Type 0} → Outcome Runs → Effect TickResult Runs
-tick_effect o = effect (tick-result-of o) o.runs
+tick_effect o = effect (tick_result_of o) o.runs
 
 -- a tick that advances its caller's clock: its result without the clock, and with it the clock and the runs
 abbrev pub answer_of : TickResult → Answer
@@ -40,8 +40,8 @@ answer_of r = record { refusal = r.refusal; outputs = r.outputs; first_pass = r.
 abbrev pub in_place : {Runs : Type 0} → Effect TickResult Runs → Effect Answer (Clock × Runs)
 in_place e = effect (answer_of e.answer) (e.answer.clock, e.words)
 
-abbrev pub answer-effect : {Runs : Type 0} → Outcome Runs → Effect Answer (Clock × Runs)
-answer-effect o = in_place (tick_effect o)
+abbrev pub answer_effect : {Runs : Type 0} → Outcome Runs → Effect Answer (Clock × Runs)
+answer_effect o = in_place (tick_effect o)
 
 -- the way back: an answer and the clock make the result
 abbrev pub result_of : Clock → Answer → TickResult

@@ -1,4 +1,5 @@
 // The WSGS slot scheduler: the types that its definitions and its code share. The definitions stand in specs/, the theorems in proofs/.
+#![tactic(auto)]
 
 // The limits that calls are held to: ports of a switch; slots of a frame; packets that arrive by one call; packets in a queue; the rate of a
 // line, in kbit/s; and the slots that a clock can run.
@@ -16,7 +17,7 @@ pub const MAX_SLOT: u32 = 4_000_000_000;
 
 // The number of ports, the length of a frame, the last slot run, the rate of a line in kbit/s, 0 for none, and the kind of the book: 0 for the
 // plain one, anything else for the fine one.
-#[derive(Drop)]
+#[derive(Clone, Copy)]
 pub struct Clock {
     pub ports: u32,
     pub frame: u32,
@@ -26,28 +27,28 @@ pub struct Clock {
 }
 
 // The number of an input, and of an output, from 1 on.
-#[derive(Drop)]
+#[derive(Clone, Copy)]
 pub struct Input(pub u64);
 
-#[derive(Drop)]
+#[derive(Clone, Copy)]
 pub struct Output(pub u64);
 
 // Slots of each frame that are booked for a pair, and the credits that the pair has left in the present frame.
-#[derive(Drop)]
+#[derive(Clone, Copy)]
 pub struct BookedSlots(pub u64);
 
-#[derive(Drop)]
+#[derive(Clone, Copy)]
 pub struct Credits(pub u32);
 
 // What a start gives back: the refusal, 0 for none, and the clock afterwards.
-#[derive(Drop)]
+#[derive(Clone, Copy)]
 pub struct StartResult {
     pub refusal: u32,
     pub clock: Clock,
 }
 
 // What headroom gives back: the refusal, 0 for none, and the number, 0 beside a refusal.
-#[derive(Drop)]
+#[derive(Clone, Copy)]
 pub struct HeadroomResult {
     pub refusal: u32,
     pub headroom: i64,
@@ -55,7 +56,7 @@ pub struct HeadroomResult {
 
 // What a preview gives back: the refusal that the operation would get, 0 for none, and the sums of bookings that would follow, of the input's row
 // and of the output's column.
-#[derive(Drop)]
+#[derive(Clone, Copy)]
 pub struct PreviewResult {
     pub refusal: u32,
     pub row: u64,
@@ -64,7 +65,7 @@ pub struct PreviewResult {
 
 // What a tick gives back: the refusal, 0 for none; the clock afterwards; the output of each input from 1 on, 0 for none; and a word whose bit
 // i - 1 tells that input i was served by pass one.
-#[derive(Drop)]
+#[derive(Clone, Copy)]
 pub struct TickResult {
     pub refusal: u32,
     pub clock: Clock,
@@ -73,7 +74,7 @@ pub struct TickResult {
 }
 
 // The same without the clock, where the tick has advanced the caller's own.
-#[derive(Drop)]
+#[derive(Clone, Copy)]
 pub struct Answer {
     pub refusal: u32,
     pub outputs: [u8; 32],
@@ -81,14 +82,14 @@ pub struct Answer {
 }
 
 // What a number field of an event record reads as: one to ten decimal digits, or nothing.
-#[derive(Drop)]
+#[derive(Clone, Copy)]
 pub enum Field {
     Number(u64),
     Bad,
 }
 
 // The operations of the event program.
-#[derive(Drop)]
+#[derive(Clone, Copy)]
 pub enum Operation {
     Start,
     Pipe,
@@ -99,14 +100,14 @@ pub enum Operation {
 }
 
 // What the first field of an event record reads as.
-#[derive(Drop)]
+#[derive(Clone, Copy)]
 pub enum OperationField {
     Known(Operation),
     Unknown,
 }
 
 // What an event record reads as: a request, which is an operation with the numbers of the three other fields, or the number that refuses it.
-#[derive(Drop)]
+#[derive(Clone, Copy)]
 pub enum Reading {
     Request(Operation, u64, u64, u64),
     Refused(u32),
@@ -114,7 +115,7 @@ pub enum Reading {
 
 // A refusal as its line of the event program has it: the last slot run, the record's second and third field, and the number. All are 0 where
 // there is none.
-#[derive(Drop)]
+#[derive(Clone, Copy)]
 pub struct Refusal {
     pub slot: u64,
     pub input: u64,

@@ -38,7 +38,7 @@ use denote.Triple.Walked.{Stays, walk_of}
 use Rattle.wsgs.specs.declared.Clock.{Clock}
 use Rattle.wsgs.specs.declared.Answer.{Answer}
 use Rattle.wsgs.specs.Questions.{Outcome, effect}
-use Rattle.wsgs.specs.Answers.{direct_runs_of, answer-effect, result_of, by_value}
+use Rattle.wsgs.specs.Answers.{direct_runs_of, answer_effect, result_of, by_value}
 use Rattle.wsgs.specs.Direct
 use Rattle.wsgs.specs.contracts.Clock as clock
 use Rattle.wsgs.proofs.Clock.TheLaws as clock_laws
@@ -100,7 +100,7 @@ module _ {M : Type 1} {𝓤 : Ura M} (𝓛 : Logic 𝓤) (mem : Memory → SProp
   out = Direct.tick a.0 (direct_runs_of a.1.0.now a.1.1.0.now a.1.1.1.0.now a.1.1.1.1.0.now a.1.1.1.1.1.0.now)
 
   abbrev Said : Answer → Clock → Lasts step.ended κs a → Type 0
-  Said r k zs = effect r (k, direct_runs_of a.1.0.now a.1.1.0.now zs.1.1.1.0 zs.1.1.1.1.0 zs.1.1.1.1.1.0) ≡ answer-effect out
+  Said r k zs = effect r (k, direct_runs_of a.1.0.now a.1.1.0.now zs.1.1.1.0 zs.1.1.1.1.0 zs.1.1.1.1.1.0) ≡ answer_effect out
 
   module _ (C : Calls 𝓤 H) (Λ : Loops 𝓤 H) (fm : FmC 𝓤 H 𝓛.laws C) (known : Triple 𝓤 (C #clock·tick-direct) (Tick 𝓛 mem run)) where
     walk : Is clock.the_row a.0 (value a.0 ∷ []) → Room u32 (length a.1.0.now) → Room u32 (length a.1.1.0.now) → Room u32 (length a.1.1.1.0.now) → Room u32 (length a.1.1.1.1.0.now) → Room u32 (length a.1.1.1.1.1.0.now)
