@@ -1,4 +1,5 @@
 // The calls of a switch as C has them (include/kivdrag.h). Each is the proved call of its name, on a clock that is lent as five words.
+// crates/kivdrag_c_c exports them to C.
 #![tactic(auto)]
 
 ghost use Rattle.std.specs.Prelude.{◌≡◌};
