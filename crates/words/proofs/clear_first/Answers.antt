@@ -1,10 +1,10 @@
 -- `words::clear_first` meets its contract. The loop's invariant: the first words, up to at, are cleared. Assumes nothing.
-use Prim.Native.Nat.{ℕ, ◌≤◌, ◌-◌}
+use Prim.Native.Nat.{ℕ}
 use mathlib.Core.Path.{◌≡◌, refl, ap, ◌∙◌}
 use native.Mathlib.Numerals.{add-one}
 use native.Mathlib.Omega.{arith}
 use borrow.Author.Rules.{rules}
-use lib.ListN.{length, length-set}
+use lib.ListN.{length-set}
 use Rattle.wsgs.specs.Words.{cleared}
 use Rattle.words.proofs.Laws.{clear_more}
 use Rattle.words.proofs.clear_first.Goals as goal
@@ -14,12 +14,11 @@ loop-at-init c =
     (search rules, refl, refl)
 
 pub loop-at-preserved : goal.loop-at-preserved
-loop-at-preserved c =
-    (
-      omega arith,
-      rw (c.loop-at.invariant.1, add-one c.loop-at.at) (clear_more c.args.run.now c.loop-at.at (omega arith)),
-      simp length-set c.loop-at.invariant.2,
-    )
+loop-at-preserved c = (
+  omega arith,
+  rw (c.loop-at.invariant.1, add-one c.loop-at.at) (clear_more c.args.run.now c.loop-at.at (omega arith)),
+  simp length-set c.loop-at.invariant.2,
+)
 
 pub returns : goal.returns
 returns c =

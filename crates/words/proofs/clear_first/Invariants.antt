@@ -1,12 +1,8 @@
 -- `words::clear_first` meets its contract. The loop's invariant: the first words, up to at, are cleared. Assumes nothing.
-use Prim.Native.Nat.{ℕ, ◌≤◌, ◌-◌}
-use mathlib.Core.Path.{◌≡◌, refl, ap, ◌∙◌}
-use native.Mathlib.Numerals.{add-one}
-use native.Mathlib.Omega.{arith}
-use borrow.Author.Rules.{rules}
-use lib.ListN.{length, length-set}
+use Prim.Native.Nat.{◌≤◌, ◌-◌}
+use mathlib.Core.Path.{◌≡◌}
+use lib.ListN.{length}
 use Rattle.wsgs.specs.Words.{cleared}
-use Rattle.words.proofs.Laws.{clear_more}
 use Rattle.words.proofs.clear_first.Given as goal
 
 abbrev pub invariant-loop-at : goal.invariant-loop-at

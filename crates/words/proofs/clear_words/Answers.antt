@@ -1,7 +1,6 @@
 -- `words::clear_words` meets its contract: the run is long enough and cleared, or stays. Assumes nothing.
 use mathlib.Core.Path.{sym, ◌∙◌}
 use native.Mathlib.Omega.{arith}
-use borrow.Author.Rules.{rules}
 use Rattle.words.proofs.Laws.{clear_fits, clear_short}
 use Rattle.words.proofs.clear_words.Goals as goal
 

@@ -1,10 +1,10 @@
 -- `words::copy_first` meets its contract. The loop's invariant: the first i words are copied. Assumes nothing.
-use Prim.Native.Nat.{ℕ, ◌≤◌, ◌-◌}
+use Prim.Native.Nat.{ℕ}
 use mathlib.Core.Path.{◌≡◌, refl, ap, ◌∙◌}
 use native.Mathlib.Numerals.{add-one}
 use native.Mathlib.Omega.{arith}
 use borrow.Author.Rules.{rules}
-use lib.ListN.{length, length-set}
+use lib.ListN.{length-set}
 use Rattle.wsgs.specs.Words.{copied}
 use Rattle.words.proofs.Laws.{copy_more}
 use Rattle.words.proofs.copy_first.Goals as goal
@@ -14,13 +14,12 @@ loop-i-init c =
     (search rules, refl, refl)
 
 pub loop-i-preserved : goal.loop-i-preserved
-loop-i-preserved c =
-    (
-      omega arith,
-      rw (c.loop-i.invariant.1, add-one c.loop-i.i)
-          (copy_more c.args.from.now c.args.to.now c.loop-i.i (omega arith) (omega arith)),
-      simp length-set c.loop-i.invariant.2,
-    )
+loop-i-preserved c = (
+  omega arith,
+  rw (c.loop-i.invariant.1, add-one c.loop-i.i)
+      (copy_more c.args.from.now c.args.to.now c.loop-i.i (omega arith) (omega arith)),
+  simp length-set c.loop-i.invariant.2,
+)
 
 pub returns : goal.returns
 returns c =

@@ -1,12 +1,8 @@
 -- `words::copy_first` meets its contract. The loop's invariant: the first i words are copied. Assumes nothing.
-use Prim.Native.Nat.{ℕ, ◌≤◌, ◌-◌}
-use mathlib.Core.Path.{◌≡◌, refl, ap, ◌∙◌}
-use native.Mathlib.Numerals.{add-one}
-use native.Mathlib.Omega.{arith}
-use borrow.Author.Rules.{rules}
-use lib.ListN.{length, length-set}
+use Prim.Native.Nat.{◌≤◌, ◌-◌}
+use mathlib.Core.Path.{◌≡◌}
+use lib.ListN.{length}
 use Rattle.wsgs.specs.Words.{copied}
-use Rattle.words.proofs.Laws.{copy_more}
 use Rattle.words.proofs.copy_first.Given as goal
 
 abbrev pub invariant-loop-i : goal.invariant-loop-i

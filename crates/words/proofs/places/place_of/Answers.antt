@@ -2,7 +2,6 @@
 use mathlib.Core.Path.{◌∙◌, ap}
 use Prim.Native.Nat.{◌+◌, ◌-◌}
 use native.Mathlib.Omega.{arith}
-use borrow.Author.Rules.{rules}
 use Rattle.wsgs.proofs.Laws.Words.{square_small}
 use Rattle.words.proofs.PlaceLaws.{IsPort, known, unknown, row_is, no_input, no_output, place_there}
 use mathlib.Core.Bool.{not}
@@ -18,18 +17,20 @@ returns-then-not-is_port-2 c =
 
 pub overflow_sub-result : goal.overflow_sub-result
 overflow_sub-result c =
-    let output :  IsPort c.args.ports c.args.output.0 = known _ _ c.is_port-2.ensures.tested (ap not c.if-not-is_port-2.false) in
-     omega (arith, output.port)
+    let output : IsPort c.args.ports c.args.output.0 = known _ _ c.is_port-2.ensures.tested (ap not c.if-not-is_port-2.false) in
+    omega (arith, output.port)
 
 pub overflow_add-result : goal.overflow_add-result
 overflow_add-result c =
-    let output :  IsPort c.args.ports c.args.output.0 = known _ _ c.is_port-2.ensures.tested (ap not c.if-not-is_port-2.false) in
-            let o = output in
+    let output : IsPort c.args.ports c.args.output.0 = known _ _ c.is_port-2.ensures.tested (ap not c.if-not-is_port-2.false) in
+    let o = output in
     omega (arith, c.row_of.ensures.within, square_small c.args.ports o.few, o.port)
 
 pub returns : goal.returns
 returns c =
-    let input :  IsPort c.args.ports c.args.input.0 = known _ _ c.is_port.ensures.tested (ap not c.if-not-is_port.false) in
-    let output :  IsPort c.args.ports c.args.output.0 = known _ _ c.is_port-2.ensures.tested (ap not c.if-not-is_port-2.false) in
-            let p = input in record { place = ap (λ row. row + (c.args.output.0 - 1)) (c.row_of.ensures.row ∙ row_is _ _ p.few p.port)
-    ∙ place_there _ _ _ p.yes output.yes }
+    let input : IsPort c.args.ports c.args.input.0 = known _ _ c.is_port.ensures.tested (ap not c.if-not-is_port.false) in
+    let output : IsPort c.args.ports c.args.output.0 = known _ _ c.is_port-2.ensures.tested (ap not c.if-not-is_port-2.false) in
+    let p = input in record {
+      place = ap (λ row. row + (c.args.output.0 - 1)) (c.row_of.ensures.row ∙ row_is _ _ p.few p.port)
+          ∙ place_there _ _ _ p.yes output.yes;
+    }
