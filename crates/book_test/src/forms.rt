@@ -5,7 +5,7 @@ use starts::{start_direct, start_pipelined};
 use wsgs::StartResult;
 
 // What a start is given: the number of ports, the length of a frame, the rate of a line, and whether the book is fine.
-#[derive(Drop)]
+#[derive(Clone, Copy)]
 struct Sizes(u64, u64, u64, bool);
 
 // Prints what a start was given, and what it answers.

@@ -14,7 +14,7 @@ use libc::STDOUT_FILENO;
 use lines::heading_line;
 
 // What feeding a text leaves: what is kept, how many bytes of the text are taken, and whether all that was printed could be written.
-#[derive(Drop)]
+#[derive(Clone, Copy)]
 pub struct TextResult {
     pub progress: Progress,
     pub taken: usize,

@@ -7,7 +7,7 @@ use libc::STDIN_FILENO;
 use machine::{FLIGHT_WORDS, PAIR_WORDS, PORT_WORDS};
 
 // What reading a block leaves: what is kept, whether to read on, and whether the input has ended.
-#[derive(Drop)]
+#[derive(Clone, Copy)]
 struct ReadResult {
     progress: Progress,
     goes_on: bool,
