@@ -57,7 +57,7 @@ returns-then-not-pair_fits c =
 pub loop-i-preserved : goal.loop-i-preserved
 loop-i-preserved c =
     let tested :      c.pair_fits.result ≡ booked_fits c.args.clock.ports c.args.clock.frame (afterwards c.args.clock (book_of c.args.slots.now c.args.rates.now) c.args.request) (c.loop-i.i + 1) c.args.request.output.0 = let b = afterwards c.args.clock (book_of c.args.slots.now c.args.rates.now) c.args.request in c.pair_fits.ensures.result ∙ fits_from c.args.clock.ports c.args.clock.frame b (c.loop-i.i + 1) c.args.request.output.0 _ _ _ c.booked_afterwards-own.ensures.result (c.requires.totals.rows.at c.loop-i.i (omega arith)) (column_at _ _ _ _ c.requires.pair_in_range.output c.requires.totals.columns) in
-            (omega arith, refl, all_more _ _ c.loop-i.inv.2 (said_yes tested (ap not c.if-not-pair_fits.false)))
+            (omega arith, refl, all_more _ _ c.loop-i.invariant.2 (said_yes tested (ap not c.if-not-pair_fits.false)))
 
 pub returns : goal.returns
 returns c =

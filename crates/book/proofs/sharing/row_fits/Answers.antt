@@ -57,7 +57,7 @@ returns-then-not-pair_fits c =
 pub loop-j-preserved : goal.loop-j-preserved
 loop-j-preserved c =
     let tested :      c.pair_fits.result ≡ booked_fits c.args.clock.ports c.args.clock.frame (afterwards c.args.clock (book_of c.args.slots.now c.args.rates.now) c.args.request) c.args.request.input.0 (c.loop-j.j + 1) = let b = afterwards c.args.clock (book_of c.args.slots.now c.args.rates.now) c.args.request in c.pair_fits.ensures.result ∙ fits_from c.args.clock.ports c.args.clock.frame b c.args.request.input.0 (c.loop-j.j + 1) _ _ _ c.booked_afterwards-own.ensures.result (row_at _ _ _ _ c.requires.pair_in_range.input c.requires.totals.rows) (c.requires.totals.columns.at c.loop-j.j (omega arith)) in
-            (omega arith, refl, all_more _ _ c.loop-j.inv.2 (said_yes tested (ap not c.if-not-pair_fits.false)))
+            (omega arith, refl, all_more _ _ c.loop-j.invariant.2 (said_yes tested (ap not c.if-not-pair_fits.false)))
 
 pub returns : goal.returns
 returns c =
