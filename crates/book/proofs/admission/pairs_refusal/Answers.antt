@@ -5,7 +5,6 @@ use Rattle.questions.proofs.Laws.Answers.{said_no, said_yes}
 use Rattle.book.specs.declared.afterwards.BookingRequest.{BookingRequest}
 use Rattle.book.proofs.Laws.Reach.{book_fits}
 use Rattle.book.proofs.Laws.Sharing.{row_unfit, column_unfit, both_fit}
-use borrow.Author.Rules.{rules}
 use mathlib.Core.Path.{ap}
 use mathlib.Core.Bool.{not}
 use Rattle.book.proofs.admission.pairs_refusal.Goals as goal
@@ -25,11 +24,15 @@ returns-then-not-row_fits c =
 pub returns-then-column_fits : goal.returns-then-column_fits
 returns-then-column_fits c =
     let request : BookingRequest = record { input = c.args.input; output = c.args.output; more = c.args.more } in
-    record { result = both_fit c.args.clock (book_of c.args.slots.now c.args.rates.now) request (said_yes c.row_fits.ensures.result (ap not c.if-not-row_fits.false))
-    (sym c.column_fits.ensures.result ∙ c.if-column_fits.true) }
+    record {
+      result = both_fit c.args.clock (book_of c.args.slots.now c.args.rates.now) request (said_yes c.row_fits.ensures.result (ap not c.if-not-row_fits.false))
+          (sym c.column_fits.ensures.result ∙ c.if-column_fits.true);
+    }
 
 pub returns : goal.returns
 returns c =
     let request : BookingRequest = record { input = c.args.input; output = c.args.output; more = c.args.more } in
-    record { result = column_unfit c.args.clock (book_of c.args.slots.now c.args.rates.now) request (said_yes c.row_fits.ensures.result (ap not c.if-not-row_fits.false))
-    (sym c.column_fits.ensures.result ∙ c.if-column_fits.false) }
+    record {
+      result = column_unfit c.args.clock (book_of c.args.slots.now c.args.rates.now) request (said_yes c.row_fits.ensures.result (ap not c.if-not-row_fits.false))
+          (sym c.column_fits.ensures.result ∙ c.if-column_fits.false);
+    }

@@ -4,7 +4,6 @@ use native.Mathlib.Omega.{arith}
 use Rattle.wsgs.specs.Bookings.{book_of, bookings, row_sum}
 use Rattle.book.proofs.Laws.Reach.{book_fits}
 use Rattle.book.proofs.Laws.Amounts.{row_full, column_full, both_admit}
-use borrow.Author.Rules.{rules}
 use Rattle.book.proofs.admission.sums_refusal.Goals as goal
 
 pub row_sum-requires : goal.row_sum-requires

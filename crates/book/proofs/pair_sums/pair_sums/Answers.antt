@@ -8,7 +8,6 @@ use Rattle.questions.specs.Refusals.{pair_refusal}
 use Rattle.questions.proofs.Laws.Pairs.{pair_asked}
 use Rattle.book.proofs.Laws.Reach.{book_fits, slots_pair, rates_pair}
 use Rattle.book.proofs.Laws.PairSums.{sums_refused, sums_found}
-use borrow.Author.Rules.{rules}
 use Rattle.book.proofs.pair_sums.pair_sums.Goals as goal
 
 pub returns-then-refusal-ne0 : goal.returns-then-refusal-ne0

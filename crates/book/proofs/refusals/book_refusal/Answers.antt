@@ -9,7 +9,6 @@ use Rattle.questions.specs.Refusals.{pair_refusal}
 use Rattle.questions.proofs.Laws.Pairs.{pair_asked}
 use Rattle.questions.proofs.Laws.Answers.{said_no, said_yes}
 use Rattle.book.proofs.Laws.Calls.{book_decides}
-use borrow.Author.Rules.{rules}
 use mathlib.Core.Path.{ap}
 use mathlib.Core.Bool.{not}
 use Rattle.book.proofs.refusals.book_refusal.Goals as goal
@@ -26,8 +25,8 @@ returns-then-not-is_between c =
 pub rule_refusal-requires : goal.rule_refusal-requires
 rule_refusal-requires c =
     let passed : 0 ≡ pair_refusal c.args.clock (holds_book c.args.clock.ports (book_of c.args.slots.now c.args.rates.now)) c.args.input.0 c.args.output.0 = sym c.if-refusal-ne0.false ∙ c.book_pair_refusal-refusal.ensures.result in
-    let in_range :  (slots_in_range c.args.clock.frame c.args.amount.0).yes ≡ true = said_yes c.is_between.ensures.result (ap not c.if-not-is_between.false) in
-            let r = pair_asked _ _ _ _ passed in record {
+    let in_range : (slots_in_range c.args.clock.frame c.args.amount.0).yes ≡ true = said_yes c.is_between.ensures.result (ap not c.if-not-is_between.false) in
+    let r = pair_asked _ _ _ _ passed in record {
       pair_in_range = r;
       more_fits = omega (arith, amount_few c.args.clock.frame c.args.amount.0 in_range, r.frame);
     }
@@ -35,5 +34,5 @@ rule_refusal-requires c =
 pub returns : goal.returns
 returns c =
     let passed : 0 ≡ pair_refusal c.args.clock (holds_book c.args.clock.ports (book_of c.args.slots.now c.args.rates.now)) c.args.input.0 c.args.output.0 = sym c.if-refusal-ne0.false ∙ c.book_pair_refusal-refusal.ensures.result in
-    let in_range :  (slots_in_range c.args.clock.frame c.args.amount.0).yes ≡ true = said_yes c.is_between.ensures.result (ap not c.if-not-is_between.false) in
-     record { result = c.rule_refusal.ensures.result ∙ (book_decides _ _ _ _ _).at_rest passed in_range }
+    let in_range : (slots_in_range c.args.clock.frame c.args.amount.0).yes ≡ true = said_yes c.is_between.ensures.result (ap not c.if-not-is_between.false) in
+    record { result = c.rule_refusal.ensures.result ∙ (book_decides _ _ _ _ _).at_rest passed in_range }

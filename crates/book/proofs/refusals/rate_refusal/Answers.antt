@@ -10,7 +10,6 @@ use Rattle.questions.specs.Refusals.{pair_refusal}
 use Rattle.questions.proofs.Laws.Pairs.{pair_asked}
 use Rattle.questions.proofs.Laws.Answers.{said_no, said_yes}
 use Rattle.book.proofs.Laws.Calls.{rate_decides}
-use borrow.Author.Rules.{rules}
 use mathlib.Core.Bool.{not}
 use Rattle.book.proofs.refusals.rate_refusal.Goals as goal
 
@@ -26,8 +25,8 @@ returns-then-not-rate_in_range c =
 pub rate_rise-more-requires : goal.rate_rise-more-requires
 rate_rise-more-requires c =
     let passed : 0 ≡ pair_refusal c.args.clock (holds_book c.args.clock.ports (book_of c.args.slots.now c.args.rates.now)) c.args.input.0 c.args.output.0 = sym c.if-refusal-ne0.false ∙ c.book_pair_refusal-refusal.ensures.result in
-    let in_range :  (rate_in_range c.args.clock.line c.args.rate).yes ≡ true = said_yes c.rate_in_range.ensures.result (ap not c.if-not-rate_in_range.false) in
-     record {
+    let in_range : (rate_in_range c.args.clock.line c.args.rate).yes ≡ true = said_yes c.rate_in_range.ensures.result (ap not c.if-not-rate_in_range.false) in
+    record {
       pair_in_range = pair_asked _ _ _ _ passed;
       rate_fits = omega (arith, rate_asked c.args.clock.line c.args.rate in_range);
     }
@@ -43,7 +42,9 @@ rule_refusal-requires c =
 pub returns : goal.returns
 returns c =
     let passed : 0 ≡ pair_refusal c.args.clock (holds_book c.args.clock.ports (book_of c.args.slots.now c.args.rates.now)) c.args.input.0 c.args.output.0 = sym c.if-refusal-ne0.false ∙ c.book_pair_refusal-refusal.ensures.result in
-    let in_range :  (rate_in_range c.args.clock.line c.args.rate).yes ≡ true = said_yes c.rate_in_range.ensures.result (ap not c.if-not-rate_in_range.false) in
-     record { result = c.rule_refusal.ensures.result
-    ∙ ap (rule_refusal c.args.clock (book_of c.args.slots.now c.args.rates.now) c.args.input.0 c.args.output.0) c.rate_rise-more.ensures.result
-    ∙ (rate_decides _ _ _ _ _).at_rest passed in_range }
+    let in_range : (rate_in_range c.args.clock.line c.args.rate).yes ≡ true = said_yes c.rate_in_range.ensures.result (ap not c.if-not-rate_in_range.false) in
+    record {
+      result = c.rule_refusal.ensures.result
+          ∙ ap (rule_refusal c.args.clock (book_of c.args.slots.now c.args.rates.now) c.args.input.0 c.args.output.0) c.rate_rise-more.ensures.result
+          ∙ (rate_decides _ _ _ _ _).at_rest passed in_range;
+    }

@@ -8,7 +8,6 @@ use Rattle.questions.specs.Refusals.{pair_refusal}
 use Rattle.questions.proofs.Laws.Pairs.{pair_asked}
 use Rattle.questions.proofs.Laws.Answers.{said_no, said_yes}
 use Rattle.book.proofs.Laws.Calls.{release_decides}
-use borrow.Author.Rules.{rules}
 use mathlib.Core.Path.{ap}
 use mathlib.Core.Bool.{not}
 use Rattle.book.proofs.refusals.release_refusal.Goals as goal
@@ -30,5 +29,5 @@ held_refusal-requires c =
 pub returns : goal.returns
 returns c =
     let passed : 0 ≡ pair_refusal c.args.clock (holds_book c.args.clock.ports (book_of c.args.slots.now c.args.rates.now)) c.args.input.0 c.args.output.0 = sym c.if-refusal-ne0.false ∙ c.book_pair_refusal-refusal.ensures.result in
-    let in_range :  (slots_in_range c.args.clock.frame c.args.amount.0).yes ≡ true = said_yes c.is_between.ensures.result (ap not c.if-not-is_between.false) in
-     record { result = c.held_refusal.ensures.result ∙ (release_decides _ _ _ _ _).at_rest passed in_range }
+    let in_range : (slots_in_range c.args.clock.frame c.args.amount.0).yes ≡ true = said_yes c.is_between.ensures.result (ap not c.if-not-is_between.false) in
+    record { result = c.held_refusal.ensures.result ∙ (release_decides _ _ _ _ _).at_rest passed in_range }
