@@ -9,7 +9,7 @@ use crate::sums::booked;
 use wsgs::{BookedSlots, Clock, Input, Output};
 
 // The pair that a booking is asked for, and the slots that it counts as.
-#[derive(Drop)]
+#[derive(Clone, Copy)]
 pub struct BookingRequest {
     pub input: Input,
     pub output: Output,

@@ -9,7 +9,7 @@ use crate::afterwards::{BookingRequest, booked_afterwards};
 use wsgs::{Clock, Input, Output};
 
 // The sum of each input's row, and of each output's column, from 1 on.
-#[derive(Drop)]
+#[derive(Clone, Copy)]
 pub struct AllSums {
     pub rows: [u64; 32],
     pub columns: [u64; 32],

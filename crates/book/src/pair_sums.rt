@@ -9,7 +9,7 @@ use crate::sums::{booked, column_sum, row_sum};
 use wsgs::{Clock, Input, Output};
 
 // The refusal, 0 for none; the pair's word of slots and of rates, its booking, and the sums of bookings of its row and of its column.
-#[derive(Drop)]
+#[derive(Clone, Copy)]
 pub struct PairSums {
     pub refusal: u32,
     pub slots: u32,

@@ -10,7 +10,7 @@ use wsgs::Input;
 
 // What a pass leaves: the outputs that are free; the output of each input from 1 on, 0 for none; and a word whose bit i - 1 tells that pass one
 // served input i.
-#[derive(Drop)]
+#[derive(Clone, Copy)]
 pub struct PassResult {
     pub free: u32,
     pub outputs: [u8; 32],

@@ -22,7 +22,7 @@ const MAX_COUNT: usize = KEPT_BYTES + 1;
 
 // What is kept between two bytes beside the lent slices: the machine, whether the heading is past, whether the last byte of the record so far
 // is a CR, how many bytes it has, counted up to 66, and the slots of a tick record that are still to run.
-#[derive(Drop)]
+#[derive(Clone, Copy)]
 pub struct Progress {
     pub machine: Machine,
     pub past_heading: bool,
@@ -32,7 +32,7 @@ pub struct Progress {
 }
 
 // What a call of `feed` answers: what is kept, how many bytes of the block are taken, and how many are written into the output.
-#[derive(Drop)]
+#[derive(Clone, Copy)]
 pub struct FeedResult {
     pub progress: Progress,
     pub taken: usize,
@@ -40,7 +40,7 @@ pub struct FeedResult {
 }
 
 // What a byte leaves, and the place after what was written.
-#[derive(Drop)]
+#[derive(Clone, Copy)]
 struct ByteResult {
     progress: Progress,
     next: usize,

@@ -23,7 +23,7 @@ pub const PORT_WORDS: usize = 32;
 pub const FLIGHT_WORDS: usize = 2_048;
 
 // The machine beside its lent runs: whether a start or pipe has been accepted, the form of the last one, and the clock.
-#[derive(Drop)]
+#[derive(Clone, Copy)]
 pub struct Machine {
     pub running: bool,
     pub pipelined: bool,
@@ -31,7 +31,7 @@ pub struct Machine {
 }
 
 // What a record leaves: the machine, the slots still to run, and its refusal.
-#[derive(Drop)]
+#[derive(Clone, Copy)]
 pub struct RecordResult {
     pub machine: Machine,
     pub slots_left: u64,
@@ -39,7 +39,7 @@ pub struct RecordResult {
 }
 
 // What a slot leaves: the machine; the slot whose pairs its tick hands out, and the pairs; and its refusal.
-#[derive(Drop)]
+#[derive(Clone, Copy)]
 pub struct SlotResult {
     pub machine: Machine,
     pub slot: u64,

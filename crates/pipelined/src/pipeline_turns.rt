@@ -100,7 +100,7 @@ fn reload_row(ports: usize, into: u64, input: Input, copy: &[u32], credits: &mut
 
 // What a tick knows of the slots ahead of its time: the number of the row of slot time + 2N + 1 and of slot time + N + 1, and how many slots of
 // its frame come before slot time + 2N.
-#[derive(Drop)]
+#[derive(Clone, Copy)]
 pub struct SlotsAhead {
     pub one: usize,
     pub two: usize,

@@ -104,7 +104,7 @@ pub fn second_requests(ports: usize, input: Input, queues: &[u32]) -> u32
 }
 
 // What a turn gives: the output that the input takes, 0 for none, and the count of looks.
-#[derive(Drop)]
+#[derive(Clone, Copy)]
 pub struct Choice {
     pub output: Output,
     pub looks: u32,
