@@ -17,7 +17,7 @@ use Rattle.wsgs.specs.Questions.{Effect}
 use Rattle.wsgs.specs.Book.{book_refusal, rise, rate_refusal, release_refusal, release_rate_refusal}
 use Rattle.wsgs.specs.Preview.{BookOperation, slots_booking, rate_booking, slots_release, rate_release, operation_effect, counts_as, refused_by_rule, shown, preview_of}
 use Rattle.wsgs.specs.Preview as Previews
-use Rattle.wsgs.specs.Switch.{Switch, preview, call_of, apply, of_book}
+use Rattle.wsgs.specs.Switch.{Switch, call_of, apply, of_book}
 use Rattle.wsgs.specs.Claims.{RefusedByRule, PreviewIsOnCopy, PreviewHolds}
 use Rattle.wsgs.proofs.Laws.Tests.{range_out}
 use Rattle.wsgs.proofs.Laws.Sums.{sum_ext, row_changed, column_changed}

@@ -1,0 +1,13 @@
+-- `book::admission::held_refusal` meets its contract. Assumes nothing.
+use native.Mathlib.Omega.{arith}
+use Rattle.book.proofs.Laws.Amounts.{too_little_held, enough_is_held}
+use borrow.Author.Rules.{rules}
+use Rattle.book.proofs.admission.held_refusal.Goals as goal
+
+pub returns-then-held-amount : goal.returns-then-held-amount
+returns-then-held-amount c =
+    record { result = too_little_held _ _ _ _ _ (omega (arith, c.word_of-held.ensures.result)) }
+
+pub returns : goal.returns
+returns c =
+    record { result = enough_is_held _ _ _ _ _ (omega (arith, c.word_of-held.ensures.result)) }

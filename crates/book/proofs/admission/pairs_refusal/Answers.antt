@@ -1,0 +1,35 @@
+-- `book::admission::pairs_refusal` meets its contract: the pairs of the row and those of the column fit, or one does not. Assumes nothing.
+use mathlib.Core.Path.{sym, ◌∙◌}
+use Rattle.wsgs.specs.Bookings.{book_of}
+use Rattle.questions.proofs.Laws.Answers.{said_no, said_yes}
+use Rattle.book.specs.declared.afterwards.BookingRequest.{BookingRequest}
+use Rattle.book.proofs.Laws.Reach.{book_fits}
+use Rattle.book.proofs.Laws.Sharing.{row_unfit, column_unfit, both_fit}
+use borrow.Author.Rules.{rules}
+use mathlib.Core.Path.{ap}
+use mathlib.Core.Bool.{not}
+use Rattle.book.proofs.admission.pairs_refusal.Goals as goal
+
+-- LEFT abbrev request : tie.Start → BookingRequest
+-- LEFT request s = let a = s.args in record { input = a.input; output = a.output; more = a.more }
+
+pub all_sums-totals-requires : goal.all_sums-totals-requires
+all_sums-totals-requires c =
+    record {
+      book_fits = book_fits _ _ _ _ c.requires.pair_in_range;
+      more_fits = c.requires.more_fits;
+    }
+
+pub returns-then-not-row_fits : goal.returns-then-not-row_fits
+returns-then-not-row_fits c =
+    record { result = row_unfit c.args.clock (book_of c.args.slots.now c.args.rates.now) (request c) (said_no c.row_fits.ensures.result (ap not c.if-not-row_fits.true)) }
+
+pub returns-then-column_fits : goal.returns-then-column_fits
+returns-then-column_fits c =
+    record { result = both_fit c.args.clock (book_of c.args.slots.now c.args.rates.now) (request c) (said_yes c.row_fits.ensures.result (ap not c.if-not-row_fits.false))
+    (sym c.column_fits.ensures.result ∙ c.if-column_fits.true) }
+
+pub returns : goal.returns
+returns c =
+    record { result = column_unfit c.args.clock (book_of c.args.slots.now c.args.rates.now) (request c) (said_yes c.row_fits.ensures.result (ap not c.if-not-row_fits.false))
+    (sym c.column_fits.ensures.result ∙ c.if-column_fits.false) }

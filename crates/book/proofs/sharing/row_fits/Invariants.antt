@@ -1,0 +1,22 @@
+-- `book::sharing::row_fits` meets its contract. The loop's invariant: the first j pairs of the row fit. Assumes nothing.
+use mathlib.Core.Path.{◌≡◌, refl, ◌∙◌, ap}
+use mathlib.Core.Bool.{true}
+use Prim.Native.Nat.{◌+◌, ◌-◌, ◌≤◌}
+use native.Mathlib.Omega.{arith}
+use borrow.Author.Rules.{rules}
+use Rattle.wsgs.specs.Basics.{all_of}
+use Rattle.wsgs.specs.Bookings.{book_of}
+use Rattle.wsgs.specs.Rule.{booked_fits}
+use Rattle.questions.proofs.Laws.Answers.{said_no, said_yes}
+use Rattle.book.specs.Afterwards.{afterwards}
+use Rattle.book.proofs.Laws.Reach.{book_fits}
+use Rattle.book.proofs.Laws.Afterwards.{row_at, row_few, column_few}
+use Rattle.book.proofs.Laws.Sharing.{fits_from, all_none, all_more, one_not}
+use Rattle.book.proofs.sharing.row_fits.Given as goal
+
+abbrev pub invariant-loop-j : goal.invariant-loop-j
+invariant-loop-j l = (l.j ≤ l.clock.ports) × (l.j-end ≡ l.clock.ports)
+    × (true ≡ all_of (λ y. booked_fits l.clock.ports l.clock.frame (afterwards l.clock (book_of l.slots l.rates) l.request) l.request.input.0 y) l.j)
+
+abbrev pub decreases-loop-j : goal.decreases-loop-j
+decreases-loop-j l = l.clock.ports - l.j

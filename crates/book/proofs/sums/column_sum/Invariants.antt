@@ -1,0 +1,18 @@
+-- `book::sums::column_sum` meets its contract. The loop's invariant: the sum is that of the first i bookings of the column, each below 2 ^ 32.
+-- Assumes nothing.
+use mathlib.Core.Path.{◌≡◌, refl, ◌∙◌, ap}
+use Prim.Native.Nat.{◌-◌, ◌*◌, ◌≤◌}
+use native.Mathlib.Omega.{arith}
+use borrow.Author.Rules.{rules}
+use Rattle.wsgs.specs.Basics.{sum}
+use Rattle.wsgs.specs.Bookings.{book_of, bookings, column_sum}
+use Rattle.book.proofs.Laws.Sums.{sum_more}
+use Rattle.book.proofs.sums.column_sum.Given as goal
+
+abbrev pub invariant-loop-i : goal.invariant-loop-i
+invariant-loop-i l = (l.i ≤ l.clock.ports) × (l.i-end ≡ l.clock.ports)
+    × (l.sum ≡ sum (λ x. bookings l.clock.ports l.clock.frame l.clock.line (book_of l.slots l.rates) x l.output.0) l.i)
+    × (l.sum ≤ 4294967296 * l.i)
+
+abbrev pub decreases-loop-i : goal.decreases-loop-i
+decreases-loop-i l = l.clock.ports - l.i

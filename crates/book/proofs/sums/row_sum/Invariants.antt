@@ -1,0 +1,18 @@
+-- `book::sums::row_sum` meets its contract. The loop's invariant: the sum is that of the first j bookings of the row, each below 2 ^ 32.
+-- Assumes nothing.
+use mathlib.Core.Path.{◌≡◌, refl, ◌∙◌, ap}
+use Prim.Native.Nat.{◌-◌, ◌*◌, ◌≤◌}
+use native.Mathlib.Omega.{arith}
+use borrow.Author.Rules.{rules}
+use Rattle.wsgs.specs.Basics.{sum}
+use Rattle.wsgs.specs.Bookings.{book_of, bookings, row_sum}
+use Rattle.book.proofs.Laws.Sums.{sum_more}
+use Rattle.book.proofs.sums.row_sum.Given as goal
+
+abbrev pub invariant-loop-j : goal.invariant-loop-j
+invariant-loop-j l = (l.j ≤ l.clock.ports) × (l.j-end ≡ l.clock.ports)
+    × (l.sum ≡ sum (λ x. bookings l.clock.ports l.clock.frame l.clock.line (book_of l.slots l.rates) l.input.0 x) l.j)
+    × (l.sum ≤ 4294967296 * l.j)
+
+abbrev pub decreases-loop-j : goal.decreases-loop-j
+decreases-loop-j l = l.clock.ports - l.j

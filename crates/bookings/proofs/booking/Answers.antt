@@ -1,0 +1,12 @@
+-- `bookings::booking` meets its contract: no product of two words wraps. Assumes nothing.
+use native.Mathlib.Omega.{arith}
+use borrow.Author.Rules.{rules}
+use Rattle.bookings.proofs.Laws.{words_product}
+use Rattle.bookings.proofs.booking.Goals as goal
+
+pub booked-requires : goal.booked-requires
+booked-requires c =
+    let h = words_product c.args.frame 0 c.args.rate (omega arith) (omega arith) in record {
+      line_fits = omega arith;
+      rate_fits = omega (arith, h);
+    }

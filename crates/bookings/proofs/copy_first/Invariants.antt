@@ -1,0 +1,18 @@
+-- `bookings::copy_first` meets its contract. The loop's invariant: the words so far are the bookings. The measure is the words left.
+-- Assumes nothing.
+use Prim.Native.Nat.{ℕ, ◌≤◌, ◌-◌}
+use mathlib.Core.Path.{◌≡◌, refl, ap, ◌∙◌}
+use native.Mathlib.Numerals.{add-one}
+use native.Mathlib.Omega.{arith}
+use borrow.Author.Rules.{rules}
+use lib.ListN.{length, length-set}
+use Rattle.wsgs.specs.Words.{copied}
+use Rattle.wsgs.specs.Bookings.{booking_words}
+use Rattle.bookings.proofs.Laws.{booking_more_copied}
+use Rattle.bookings.proofs.copy_first.Given as goal
+
+abbrev pub invariant-loop-at : goal.invariant-loop-at
+invariant-loop-at l = (l.at ≤ l.count) × (l.to ≡ copied l.at (booking_words l.frame l.line l.slots l.rates) l.initial.to) × (length l.to ≡ length l.initial.to)
+
+abbrev pub decreases-loop-at : goal.decreases-loop-at
+decreases-loop-at l = l.count - l.at

@@ -1,0 +1,72 @@
+-- `passes::pass_two` meets its contract. The loop's invariant is the contract's claim for the inputs so far. The measure is the inputs left.
+-- Assumes nothing.
+use Prim.Native.Nat.{ℕ, ◌+◌, ◌-◌, ◌*◌, ◌≤◌, ◌<◌}
+use mathlib.Core.Path.{◌≡◌, refl, ◌∙◌}
+use mathlib.Core.List.{List}
+use mathlib.Core.Logic.{inl, inr}
+use native.Mathlib.Numerals.{add-one}
+use native.Mathlib.Omega.{arith}
+use borrow.Author.Rules.{rules}
+use lib.ListN.{length, get_or}
+use Rattle.wsgs.specs.Basics.{Port, in_turn}
+use Rattle.wsgs.specs.Words.{word, port_word}
+use Rattle.wsgs.specs.Steps.{pass_two}
+use Rattle.wsgs.proofs.Laws.InTurn.{in_turn_some}
+use Rattle.direct.specs.Passes.{PassState}
+use Rattle.turns.proofs.Ready.{is_open}
+use Rattle.turns.proofs.TurnLaws.{Turn, second_asks, second_takes}
+use Rattle.direct.proofs.PassLaws.{two_served, two_none, two_some}
+use Rattle.direct.proofs.passes.pass_two.Goals as goal
+
+pub loop-row-init : goal.loop-row-init
+unfolding pass_two
+loop-row-init c =
+    (search rules, refl, refl, λ start words one h. h)
+
+-- pass one served the input
+pub loop-row-preserved-then-outputs-row-gt0 : goal.loop-row-preserved-then-outputs-row-gt0
+loop-row-preserved-then-outputs-row-gt0 c =
+    (
+      omega arith,
+      c.loop-row.invariant.1,
+      c.loop-row.invariant.2,
+      λ st ws one h.
+          two_served _ (omega arith) st ws one _ _ _ _ c.loop-row.row _ (add-one _) (c.loop-row.invariant.3 st ws one h) (omega arith)
+          (λ z. absurd (omega (arith, z, c.if-outputs-row-gt0.true))),
+    )
+
+pub overflow_cast-outputs : goal.overflow_cast-outputs
+overflow_cast-outputs c =
+    let within :      (c.loop-row.row < c.args.ports) × (c.args.ports ≤ 32) × (c.args.ports * c.args.ports ≤ length c.loop-row.queues) × (c.args.ports ≤ length c.loop-row.given) = (omega arith, omega arith, omega arith, omega (arith, c.loop-row.invariant.2)) in
+    let found :      c.second_turn-choice.result.output.0 ≡ in_turn (is_open c.args.ports c.loop-row.free c.loop-row.queues c.loop-row.queues (c.loop-row.row + 1)) c.args.ports (port_word c.loop-row.given (c.loop-row.row + 1)) = let i = within in let sent : Turn c.args.ports (c.loop-row.row + 1) c.loop-row.queues = record { few = i.1; port = omega (arith, i.0); long = i.2 } in second_takes _ _ _ _ sent i.3 _ _ (second_asks _ _ _ sent _ c.second_requests-asked.ensures.asked) _ _ c.second_turn-choice.ensures.output in
+    let taken :  Port c.args.ports c.second_turn-choice.result.output.0 = (in_turn_some _ _ _ _ found c.if-choice-gt0.true).0 in
+     omega (arith, taken)
+
+pub loop-row-preserved : goal.loop-row-preserved
+loop-row-preserved c =
+    let within :      (c.loop-row.row < c.args.ports) × (c.args.ports ≤ 32) × (c.args.ports * c.args.ports ≤ length c.loop-row.queues) × (c.args.ports ≤ length c.loop-row.given) = (omega arith, omega arith, omega arith, omega (arith, c.loop-row.invariant.2)) in
+    let found :      c.second_turn-choice.result.output.0 ≡ in_turn (is_open c.args.ports c.loop-row.free c.loop-row.queues c.loop-row.queues (c.loop-row.row + 1)) c.args.ports (port_word c.loop-row.given (c.loop-row.row + 1)) = let i = within in let sent : Turn c.args.ports (c.loop-row.row + 1) c.loop-row.queues = record { few = i.1; port = omega (arith, i.0); long = i.2 } in second_takes _ _ _ _ sent i.3 _ _ (second_asks _ _ _ sent _ c.second_requests-asked.ensures.asked) _ _ c.second_turn-choice.ensures.output in
+                let i = within in
+        let none : get_or c.loop-row.outputs c.loop-row.row 0 ≡ 0 = omega (arith, c.if-outputs-row-gt0.false) in (
+      omega (arith, i.0),
+      c.second_turn-choice.kept.1.1.1.1.0 ∙ c.loop-row.inv.1,
+      c.second_turn-choice.kept.1.1.1.1.1.0 ∙ c.loop-row.inv.2,
+      λ st ws one h.
+          elim c.if-choice-gt0.branch [
+            | inl w ↦
+                rw (w.3, w.4)
+                (two_some _ i.1 st ws one _ _ _ _ c.loop-row.row _ (add-one _) (c.loop-row.inv.3 st ws one h) i.0 i.2 none _ found
+                w.0.taken _ w.1.ensures _ _ c.second_turn-choice.ensures.queues_exit c.second_turn-choice.ensures.given_exit)
+            | inr w ↦
+                rw (w.1, w.2)
+                (two_none _ i.1 st ws one _ _ _ _ c.loop-row.row _ (add-one _) (c.loop-row.inv.3 st ws one h) i.0 i.2 none _ found
+                (omega (arith, w.0.left)) _ _ c.second_turn-choice.ensures.queues_exit c.second_turn-choice.ensures.given_exit)
+          ],
+    )
+
+pub returns : goal.returns
+returns c =
+    let e : c.loop-row.row ≡ c.args.ports = omega arith in record {
+      pass_two = λ st ws one h. rw e at (c.loop-row.invariant.3 st ws one h);
+      first_pass = refl;
+    }

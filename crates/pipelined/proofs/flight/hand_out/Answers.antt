@@ -1,0 +1,34 @@
+-- `flight::hand_out` meets its contract. The loop's invariant: the outputs and the pass-one word are those of the inputs so far, and their words in
+-- flight are 0. Assumes nothing.
+use Rattle.std.proofs.Common.{◌≡◌, ◌+◌, ◌-◌, ◌≤◌, length, sym, refl, ap, ◌∙◌, ⊎_elim, arith, length-set, rules}
+use Rattle.wsgs.specs.Pipelined.{by_first, output_in}
+use Rattle.pipelined.proofs.FlightPairs.{PairsSoFar, handed_none, handed_first, handed_other, handed_all}
+use Rattle.pipelined.proofs.PipelinedRows.{ClearedSoFar, cleared_none, next_stands, cleared_more, cleared_all}
+use Rattle.pipelined.proofs.flight.hand_out.Goals as goal
+
+pub loop-column-init : goal.loop-column-init
+loop-column-init c =
+    (search rules, handed_none _ _ _, cleared_none _ _, refl)
+
+pub loop-column-preserved : goal.loop-column-preserved
+loop-column-preserved c =
+    let e = next_stands _ _ _ _ (omega arith) c.loop-column.invariant.2 in (
+      omega arith,
+      ⊎_elim
+          (λ w. rw w.1
+          (handed_first _ _ _ _ _ _ _ _ (omega arith) c.row_of-row.ensures.is c.loop-column.invariant.1 (c.output_of.ensures.read ∙ ap (output_in _) e)
+          (sym (ap (by_first _) e) ∙ sym c.is_by_first.ensures.tested ∙ w.0.taken)))
+          (λ w. rw w.1
+          (handed_other _ _ _ _ _ _ _ _ (omega arith) c.row_of-row.ensures.is c.loop-column.invariant.1 (c.output_of.ensures.read ∙ ap (output_in _) e)
+          (sym (ap (by_first _) e) ∙ sym c.is_by_first.ensures.tested ∙ w.0.left)))
+          c.if-is_by_first.branch,
+      cleared_more _ _ _ _ (omega arith) c.loop-column.invariant.2,
+      simp length-set c.loop-column.invariant.3,
+    )
+
+pub returns : goal.returns
+returns c =
+    record {
+      result = handed_all _ _ _ _ _ _ _ (omega arith) c.loop-column.invariant.1;
+      flight_exit = cleared_all _ _ _ _ _ _ c.row_of-row.ensures.is (omega arith) c.loop-column.invariant.2;
+    }

@@ -1,0 +1,13 @@
+-- `questions::direct_tick_refusal` meets its contract: sizes and runs refuse, or else the clock decides. Assumes nothing.
+use mathlib.Core.Path.{sym, ◌∙◌}
+use borrow.Author.Rules.{rules}
+use Rattle.questions.proofs.Laws.Runs.{direct_tick_sized, direct_tick_clock}
+use Rattle.questions.proofs.direct_tick_refusal.Goals as goal
+
+pub returns-then-refusal-ne0 : goal.returns-then-refusal-ne0
+returns-then-refusal-ne0 c =
+    record { result = direct_tick_sized _ _ _ c.direct_runs_refusal-refusal.ensures.result c.if-refusal-ne0.true }
+
+pub returns : goal.returns
+returns c =
+    record { result = c.clock_refusal.ensures.result ∙ direct_tick_clock _ _ (sym c.if-refusal-ne0.false ∙ c.direct_runs_refusal-refusal.ensures.result) }

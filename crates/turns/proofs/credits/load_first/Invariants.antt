@@ -1,0 +1,17 @@
+-- `credits::load_first` meets its contract. The loop's invariant: the credits at the places so far are the booked slots. The measure is the
+-- places left. Assumes nothing.
+use Prim.Native.Nat.{ℕ, ◌≤◌, ◌-◌}
+use mathlib.Core.Path.{◌≡◌, refl, ap, ◌∙◌}
+use native.Mathlib.Numerals.{add-one}
+use native.Mathlib.Omega.{arith}
+use borrow.Author.Rules.{rules}
+use lib.ListN.{length, set, length-set}
+use Rattle.wsgs.specs.Words.{copied}
+use Rattle.words.proofs.Laws.{copy_more}
+use Rattle.turns.proofs.credits.load_first.Given as goal
+
+abbrev pub invariant-loop-at : goal.invariant-loop-at
+invariant-loop-at l = (l.at ≤ l.count) × (l.credits ≡ copied l.at l.booked l.initial.credits) × (length l.credits ≡ length l.initial.credits)
+
+abbrev pub decreases-loop-at : goal.decreases-loop-at
+decreases-loop-at l = l.count - l.at

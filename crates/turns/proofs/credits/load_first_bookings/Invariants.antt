@@ -1,0 +1,18 @@
+-- `credits::load_first_bookings` meets its contract. The loop's invariant: the credits at the places so far are the bookings. The measure is the
+-- places left. Assumes nothing.
+use Prim.Native.Nat.{ℕ, ◌≤◌, ◌-◌}
+use mathlib.Core.Path.{◌≡◌, refl, ap, ◌∙◌}
+use native.Mathlib.Numerals.{add-one}
+use native.Mathlib.Omega.{arith}
+use borrow.Author.Rules.{rules}
+use lib.ListN.{length, length-set}
+use Rattle.wsgs.specs.Words.{copied}
+use Rattle.wsgs.specs.Bookings.{booking_words}
+use Rattle.bookings.proofs.Laws.{booking_more_copied}
+use Rattle.turns.proofs.credits.load_first_bookings.Given as goal
+
+abbrev pub invariant-loop-at : goal.invariant-loop-at
+invariant-loop-at l = (l.at ≤ l.count) × (l.credits ≡ copied l.at (booking_words l.frame l.line l.slots l.rates) l.initial.credits) × (length l.credits ≡ length l.initial.credits)
+
+abbrev pub decreases-loop-at : goal.decreases-loop-at
+decreases-loop-at l = l.count - l.at

@@ -1,0 +1,31 @@
+-- `sweep::ready_in` meets its contract. The loop's invariant: the ready columns so far are marked. The measure is the columns left. Assumes nothing.
+use Prim.Native.Nat.{ℕ, ◌+◌, ◌-◌, ◌^◌, ◌≤◌}
+use mathlib.Core.Path.{◌≡◌, ap, ◌∙◌}
+use mathlib.Core.Bool.{Bool}
+use mathlib.Core.List.{List}
+use borrow.Author.Rules.{rules}
+use native.Mathlib.Omega.{arith}
+use lib.Dec.{ltb}
+use lib.ListN.{get_or}
+use Rattle.wsgs.specs.Basics.{pick}
+use Rattle.turns.specs.Masks.{ready_mask}
+use Rattle.turns.proofs.Ready.{column_two, ready_start, ready_next}
+use Rattle.turns.proofs.sweep.ready_in.Goals as goal
+
+-- LEFT abbrev above : tie.At-loop → List ℕ → Bool
+-- LEFT above l run = ltb 0 (get_or run ((start l).args.row + l.loop.column) 0)
+
+pub loop-column-init : goal.loop-column-init
+loop-column-init c =
+    (search rules, ready_start _ _ _)
+
+pub loop-column-preserved : goal.loop-column-preserved
+loop-column-preserved c =
+    let credit = above c c.args.credits.now in
+    let packet = above c c.args.queues.now in
+    let paid = c.bit_if-credit.ensures.bit ∙ ap (λ left. pick (ltb 0 left) (2 ^ c.loop-column.column) 0) c.credits_at-left.ensures.read in
+    (omega arith, ready_next _ _ _ c.loop-column.column _ _ c.loop-column.invariant.1 (column_two _ credit packet _ _ c.bit_if-packet.ensures.bit paid))
+
+pub returns : goal.returns
+returns c =
+    let e : c.loop-column.column ≡ c.args.ports = omega arith in record { ready = c.loop-column.invariant.1 ∙ ap (ready_mask _ _ _) e }

@@ -1,0 +1,17 @@
+-- `sweep::waiting_in` meets its contract. The loop's invariant: the columns so far that have packets are marked. The measure is the columns left. Assumes
+-- nothing.
+use Prim.Native.Nat.{◌+◌, ◌-◌, ◌≤◌}
+use mathlib.Core.Path.{◌≡◌, ap, ◌∙◌}
+use borrow.Author.Rules.{rules}
+use native.Mathlib.Omega.{arith}
+use lib.Dec.{ltb}
+use lib.ListN.{get_or}
+use Rattle.turns.specs.Masks.{ready_mask}
+use Rattle.turns.proofs.Ready.{column_one, ready_start, ready_next}
+use Rattle.turns.proofs.sweep.waiting_in.Given as goal
+
+abbrev pub invariant-loop-column : goal.invariant-loop-column
+invariant-loop-column l = (l.column ≤ l.ports) × (l.waiting ≡ ready_mask l.queues l.queues l.row l.column)
+
+abbrev pub decreases-loop-column : goal.decreases-loop-column
+decreases-loop-column l = l.ports - l.column
