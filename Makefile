@@ -36,9 +36,10 @@ man = $(call quoted,$(DESTDIR)$(MANDIR)/man1)
 
 all: $(made)
 
-$(proved): crates.txt $(shell find crates -type f)
+# What rt keeps in a crate's folder out/ is no source.
+$(proved): crates.txt $(shell find crates -name out -prune -o -type f -print)
 	@command -v rt >/dev/null || { echo "kivdrag: rt is not in PATH: install the Rattle toolchain, which proves and builds $@" >&2; exit 1; }
-	rt staticlib kivdrag_c
+	tools/proved kivdrag_c
 	@touch $@
 
 $(built):

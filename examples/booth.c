@@ -1,7 +1,7 @@
 /*
  * A booth with a touch panel, a film player and an archive, scheduled through include/kivdrag_switch.h: a direct switch for a frame, one on which two
  * films take turns, one whose fine book sells a whole line, and a pipelined one for a few ticks. Build it at the repository's root, after
- * `rt staticlib kivdrag_c`:
+ * `tools/proved kivdrag_c`:
  *
  *   cc -std=c99 -Wall -Wextra -Werror -Iinclude examples/booth.c target/staticlib/libkivdrag_c.a -o target/booth
  *

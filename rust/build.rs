@@ -23,7 +23,7 @@ fn link() -> Result<(), String> {
     let archive = folder.join("libkivdrag_c.a");
     println!("cargo::rerun-if-changed={}", archive.display());
     if !archive.is_file() {
-        return Err(format!("{} is not there: `rt staticlib kivdrag_c` writes it; or set KIVDRAG_LIB_DIR to its folder", archive.display()));
+        return Err(format!("{} is not there: `tools/proved kivdrag_c` writes it; or set KIVDRAG_LIB_DIR to its folder", archive.display()));
     }
     println!("cargo::rustc-link-search=native={}", folder.display());
     println!("cargo::rustc-link-lib=static=kivdrag_c");

@@ -1,7 +1,7 @@
 /*
  * include/kivdrag.h beside the library: every function, every refusal by its macro, and after each call every lent
  * word. At the first thing that is not as the header says, it names it and ends with 1; otherwise it prints one line.
- * It is C11 and C++17. Build it at the repository's root, after `rt staticlib kivdrag_c`:
+ * It is C11 and C++17. Build it at the repository's root, after `tools/proved kivdrag_c`:
  *
  *   cc -std=c11 -Wall -Wextra -Werror -Wconversion -Iinclude tests/header_test.c \
  *      target/staticlib/libkivdrag_c.a -o target/header_test

@@ -23,7 +23,7 @@ def row(line):
 
 
 def table():
-    lines = TABLE.read_text().split("\nbad-records =\n")[1].splitlines()
+    lines = TABLE.read_text().split("\nbad_records =\n")[1].splitlines()
     lines = [line.strip().removeprefix("∷ ") for line in lines]
     assert lines.pop() == "[]"
     rows = [row(line) for line in lines if not line.startswith("--")]

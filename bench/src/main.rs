@@ -1,4 +1,4 @@
-//! Times the proved library against the plain Rust scheduler, in one run: `cargo run --release -- FOLDER` after `rt staticlib kivdrag_c`.
+//! Times the proved library against the plain Rust scheduler, in one run: `cargo run --release -- FOLDER` after `tools/proved kivdrag_c`.
 //! Writes three tables into the folder, each as Markdown and as comma-separated values: ticks, frames (the ticks that read the book), bookings (with headroom and previews).
 
 mod plain;

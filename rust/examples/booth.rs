@@ -1,5 +1,5 @@
 //! A hall with a touch panel and a film: on a direct switch, with a preview that says no and why; then on a pipelined one, for some ticks.
-//! Run it with `cargo run --release --offline --manifest-path rust/Cargo.toml --example booth`, after `rt staticlib kivdrag_c`.
+//! Run it with `cargo run --release --offline --manifest-path rust/Cargo.toml --example booth`, after `tools/proved kivdrag_c`.
 
 use kivdrag::{Book, Direct, Pairs, Pipelined, Refusal};
 

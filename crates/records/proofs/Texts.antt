@@ -12,7 +12,7 @@ use lib.Dec.{eqb}
 use lib.ListN.{length, get_or, drop, drop_of_length-le}
 use lib.Seq.{drop-cons}
 use Rattle.wsgs.specs.Basics.{same}
-use Rattle.wsgs.specs.declared.OperationField.TheVariants.{Known}
+use Rattle.wsgs.specs.declared.OperationField.TheVariants.{Known, Unknown}
 use Rattle.wsgs.specs.Text.{bytes, has}
 use Rattle.wsgs.specs.Records.{look_up, Name}
 use Rattle.records.specs.Parts.{first_place}
@@ -64,6 +64,11 @@ module _ (r : Name) (rs : List Name) (t : List ℕ) (is : Bool) (e : is ≡ same
   pub passed_over : is ≡ false → look_up (r ∷ rs) t ≡ look_up rs t
   unfolding look_up
   passed_over h = rw (← e, h, look_up)
+
+-- a text that none of the names is
+pub nothing_left : (t : List ℕ) → look_up [] t ≡ Unknown
+unfolding look_up
+nothing_left t = refl
 
 -- THE FIRST PLACE of a byte b, in a text that begins with it, and in one that begins with another
 module _ (b x : ℕ) (xs : List ℕ) where

@@ -1,4 +1,4 @@
-//! What the tests share. They need the proved event program, which `rt check kivdrag` builds.
+//! What the tests share. They need the proved event program, which `tools/proved kivdrag` builds.
 #![allow(dead_code)] // each test file uses a part of it
 
 use std::fs;

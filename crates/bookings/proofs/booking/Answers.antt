@@ -1,6 +1,5 @@
 -- `bookings::booking` meets its contract: no product of two words wraps. Assumes nothing.
 use native.Mathlib.Omega.{arith}
-use borrow.Author.Rules.{rules}
 use Rattle.bookings.proofs.Laws.{words_product}
 use Rattle.bookings.proofs.booking.Goals as goal
 

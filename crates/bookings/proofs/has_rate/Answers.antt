@@ -1,7 +1,6 @@
 -- `bookings::has_rate` meets its contract. Assumes nothing.
 use native.Mathlib.Omega.{arith}
 use Rattle.bookings.proofs.Laws.{rate_short, rate_found}
-use borrow.Author.Rules.{rules}
 use Rattle.bookings.proofs.has_rate.Goals as goal
 
 pub returns-then-count-rates : goal.returns-then-count-rates

@@ -2,7 +2,6 @@
 use mathlib.Core.Path.{sym, ap₂, ◌∙◌}
 use Prim.Native.Nat.{◌+◌, ◌-◌}
 use native.Mathlib.Omega.{arith}
-use borrow.Author.Rules.{rules}
 use Rattle.wsgs.proofs.Laws.Bookings.{booking_mono}
 use Rattle.bookings.proofs.Laws.{sum_product, long_frame, rise_is}
 use Rattle.bookings.proofs.rise.Goals as goal

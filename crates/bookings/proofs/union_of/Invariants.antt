@@ -1,13 +1,9 @@
 -- `bookings::union_of` meets its contract. The loop's invariant: the union is that of the words so far. Assumes nothing.
 use Prim.Native.Nat.{◌-◌, ◌≤◌}
-use mathlib.Core.Path.{◌≡◌, refl, ap, ◌∙◌}
-use native.Mathlib.Numerals.{add-one}
-use native.Mathlib.Omega.{arith}
-use borrow.Author.Rules.{rules}
+use mathlib.Core.Path.{◌≡◌}
 use lib.Dec.{ltb}
 use lib.ListN.{get_or}
 use Rattle.wsgs.specs.Basics.{some_of}
-use Rattle.bookings.proofs.Laws.{union_more}
 use Rattle.bookings.proofs.union_of.Given as goal
 
 abbrev pub invariant-loop-at : goal.invariant-loop-at

@@ -3,7 +3,6 @@ use native.Mathlib.Omega.{arith}
 use Rattle.wsgs.specs.Text.{bytes, lines, heading}
 use Rattle.lines.specs.Lines.{heading_room}
 use Rattle.lines.proofs.Writing.{no_room, room}
-use borrow.Author.Rules.{rules}
 use Rattle.lines.proofs.heading_line.Goals as goal
 
 pub returns-then-out-lt-HEADING_ROOM : goal.returns-then-out-lt-HEADING_ROOM

@@ -4,7 +4,6 @@ use Rattle.wsgs.specs.Text.{bytes}
 use Rattle.lines.specs.Lines.{refusal_room}
 use Rattle.lines.proofs.Printing.{no_refusal, the_refusal}
 use Rattle.lines.proofs.Writing.{no_room, room, wrote_none, wrote_is}
-use borrow.Author.Rules.{rules}
 use Rattle.lines.proofs.refusal_line.Goals as goal
 
 pub returns-then-out-lt-REFUSAL_ROOM : goal.returns-then-out-lt-REFUSAL_ROOM

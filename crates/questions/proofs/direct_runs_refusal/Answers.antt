@@ -1,6 +1,5 @@
 -- `questions::direct_runs_refusal` meets its contract: the sizes refuse, or else the runs decide. Assumes nothing.
 use mathlib.Core.Path.{sym, ◌∙◌}
-use borrow.Author.Rules.{rules}
 use Rattle.questions.proofs.Laws.Runs.{direct_sized, direct_short, direct_long}
 use mathlib.Core.Path.{ap}
 use mathlib.Core.Bool.{not}

@@ -1,6 +1,5 @@
 -- `questions::direct_start_refusal` meets its contract: sizes and runs refuse, or else the line rate decides. Assumes nothing.
 use mathlib.Core.Path.{sym, ◌∙◌}
-use borrow.Author.Rules.{rules}
 use Rattle.questions.proofs.Laws.Runs.{direct_start_sized, direct_start_line}
 use Rattle.questions.proofs.direct_start_refusal.Goals as goal
 

@@ -1,6 +1,5 @@
 -- `questions::direct_tick_refusal` meets its contract: sizes and runs refuse, or else the clock decides. Assumes nothing.
 use mathlib.Core.Path.{sym, ◌∙◌}
-use borrow.Author.Rules.{rules}
 use Rattle.questions.proofs.Laws.Runs.{direct_tick_sized, direct_tick_clock}
 use Rattle.questions.proofs.direct_tick_refusal.Goals as goal
 

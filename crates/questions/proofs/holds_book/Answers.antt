@@ -1,5 +1,4 @@
 -- `questions::holds_book` meets its contract. Assumes nothing.
-use borrow.Author.Rules.{rules}
 use Rattle.questions.proofs.Laws.Answers.{said_no, said_yes}
 use mathlib.Core.Path.{ap}
 use mathlib.Core.Bool.{not}

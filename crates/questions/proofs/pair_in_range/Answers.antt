@@ -1,7 +1,6 @@
 -- `questions::pair_in_range` meets its contract. Assumes nothing.
 use mathlib.Core.Path.{◌≡◌}
 use mathlib.Core.Bool.{true, false}
-use borrow.Author.Rules.{rules}
 use Rattle.wsgs.specs.Basics.{between}
 use Rattle.questions.proofs.Laws.Answers.{said_no, said_yes}
 use mathlib.Core.Path.{ap}

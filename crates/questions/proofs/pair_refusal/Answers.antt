@@ -1,6 +1,5 @@
 -- `questions::pair_refusal` meets its contract: the sizes refuse, or else the questions after them decide. Assumes nothing.
 use mathlib.Core.Path.{refl, sym, ◌∙◌}
-use borrow.Author.Rules.{rules}
 use Rattle.questions.proofs.Laws.Pairs.{pair_sized, pair_short, pair_outside, pair_inside}
 use Rattle.questions.proofs.Laws.Answers.{said_no, said_yes}
 use mathlib.Core.Path.{ap}
@@ -17,10 +16,14 @@ returns-then-not-enough c =
 
 pub returns-then-not-pair_in_range : goal.returns-then-not-pair_in_range
 returns-then-not-pair_in_range c =
-    record { result = pair_outside _ _ _ _ (sym c.if-refusal-ne0.false ∙ c.sizes_refusal-refusal.ensures.result) (said_yes refl (ap not c.if-not-enough.false))
-    (said_no c.pair_in_range.ensures.result (ap not c.if-not-pair_in_range.true)) }
+    record {
+      result = pair_outside _ _ _ _ (sym c.if-refusal-ne0.false ∙ c.sizes_refusal-refusal.ensures.result) (said_yes refl (ap not c.if-not-enough.false))
+          (said_no c.pair_in_range.ensures.result (ap not c.if-not-pair_in_range.true));
+    }
 
 pub returns : goal.returns
 returns c =
-    record { result = pair_inside _ _ _ _ (sym c.if-refusal-ne0.false ∙ c.sizes_refusal-refusal.ensures.result) (said_yes refl (ap not c.if-not-enough.false))
-    (said_yes c.pair_in_range.ensures.result (ap not c.if-not-pair_in_range.false)) }
+    record {
+      result = pair_inside _ _ _ _ (sym c.if-refusal-ne0.false ∙ c.sizes_refusal-refusal.ensures.result) (said_yes refl (ap not c.if-not-enough.false))
+          (said_yes c.pair_in_range.ensures.result (ap not c.if-not-pair_in_range.false));
+    }

@@ -1,7 +1,6 @@
 -- `questions::pipelined_runs_refusal` meets its contract: the sizes refuse, or the frame is too short, or else the runs decide.
 -- Assumes nothing.
 use mathlib.Core.Path.{sym, ◌∙◌}
-use borrow.Author.Rules.{rules}
 use Rattle.questions.proofs.Laws.Pairs.{sizes_asked}
 use Rattle.questions.proofs.Laws.Runs.{pipelined_sized, pipelined_uncovered, pipelined_short, pipelined_long}
 use mathlib.Core.Path.{ap}
@@ -22,10 +21,14 @@ pipelined_runs_suffice-requires c =
 
 pub returns-then-not-pipelined_runs_suffice : goal.returns-then-not-pipelined_runs_suffice
 returns-then-not-pipelined_runs_suffice c =
-    record { result = pipelined_short _ _ _ (sym c.if-refusal-ne0.false ∙ c.sizes_refusal-refusal.ensures.result) c.if-frame-ports.false
-    _ c.pipelined_runs_suffice.ensures.result (ap not c.if-not-pipelined_runs_suffice.true) }
+    record {
+      result = pipelined_short _ _ _ (sym c.if-refusal-ne0.false ∙ c.sizes_refusal-refusal.ensures.result) c.if-frame-ports.false
+          _ c.pipelined_runs_suffice.ensures.result (ap not c.if-not-pipelined_runs_suffice.true);
+    }
 
 pub returns : goal.returns
 returns c =
-    record { result = pipelined_long _ _ _ (sym c.if-refusal-ne0.false ∙ c.sizes_refusal-refusal.ensures.result) c.if-frame-ports.false
-    _ c.pipelined_runs_suffice.ensures.result (ap not c.if-not-pipelined_runs_suffice.false) }
+    record {
+      result = pipelined_long _ _ _ (sym c.if-refusal-ne0.false ∙ c.sizes_refusal-refusal.ensures.result) c.if-frame-ports.false
+          _ c.pipelined_runs_suffice.ensures.result (ap not c.if-not-pipelined_runs_suffice.false);
+    }

@@ -1,6 +1,5 @@
 -- `questions::pipelined_start_refusal` meets its contract: sizes and runs refuse, or else the line rate decides. Assumes nothing.
 use mathlib.Core.Path.{sym, ◌∙◌}
-use borrow.Author.Rules.{rules}
 use Rattle.questions.proofs.Laws.Runs.{pipelined_start_sized, pipelined_start_line}
 use Rattle.questions.proofs.pipelined_start_refusal.Goals as goal
 

@@ -1,6 +1,5 @@
 -- `questions::pipelined_tick_refusal` meets its contract: sizes and runs refuse, or else the clock decides. Assumes nothing.
 use mathlib.Core.Path.{sym, ◌∙◌}
-use borrow.Author.Rules.{rules}
 use Rattle.questions.proofs.Laws.Runs.{pipelined_tick_sized, pipelined_tick_clock}
 use Rattle.questions.proofs.pipelined_tick_refusal.Goals as goal
 

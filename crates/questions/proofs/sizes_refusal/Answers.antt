@@ -1,7 +1,6 @@
 -- `questions::sizes_refusal` meets its contract. Assumes nothing.
 use mathlib.Core.Path.{◌≡◌}
 use mathlib.Core.Bool.{false}
-use borrow.Author.Rules.{rules}
 use Rattle.wsgs.specs.Basics.{between}
 use Rattle.questions.specs.Refusals.{sizes_refusal}
 use Rattle.questions.proofs.Laws.Answers.{said_no, said_yes}

@@ -1,10 +1,7 @@
 -- Two texts compared. The loop's invariant: they are of one length, and the bytes passed agree.
-use Prim.Native.Nat.{◌-◌}
 use mathlib.Core.Path.{sym}
 use native.Mathlib.Omega.{arith}
-use lib.ListN.{length}
-use Rattle.records.proofs.Texts.{lengths_differ, Agree, agree_none, agree_more, agree_not, agree_all}
-use borrow.Author.Rules.{rules}
+use Rattle.records.proofs.Texts.{lengths_differ, agree_none, agree_more, agree_not, agree_all}
 use Rattle.records.proofs.is_same.Goals as goal
 
 pub returns-then-a-b : goal.returns-then-a-b

@@ -1,16 +1,10 @@
 -- An operation's name. Each name is tried in turn, and the ones before it were passed over.
 use mathlib.Core.Path.{◌≡◌, sym, ◌∙◌}
-use mathlib.Core.List.{List}
-use Prim.Native.Nat.{ℕ}
-use borrow.Author.Rules.{rules}
 use lib.ListN.{drop}
 use Rattle.wsgs.specs.Text.{bytes}
 use Rattle.wsgs.specs.Records.{names, look_up}
-use Rattle.records.proofs.Texts.{found, passed_over}
+use Rattle.records.proofs.Texts.{found, passed_over, nothing_left}
 use Rattle.records.proofs.look_up.Goals as goal
-
--- LEFT abbrev text : tie.Start → List ℕ
--- LEFT text s = s.args.text.now
 
 pub returns-then-is_same : goal.returns-then-is_same
 unfolding bytes
@@ -20,50 +14,50 @@ returns-then-is_same c =
 pub returns-then-is_same-2 : goal.returns-then-is_same-2
 unfolding bytes
 returns-then-is_same-2 c =
-    let past-1 : look_up names (text c) ≡ look_up (drop 1 names) (text c) = passed_over _ _ _ _ c.is_same.ensures.comparison c.if-is_same.false in
-     record { operation = sym (past-1 c ∙ found _ _ _ _ c.is_same-2.ensures.comparison c.if-is_same-2.true) }
+    let past-1 : look_up names c.args.text.now ≡ look_up (drop 1 names) c.args.text.now = passed_over _ _ _ _ c.is_same.ensures.comparison c.if-is_same.false in
+    record { operation = sym (past-1 ∙ found _ _ _ _ c.is_same-2.ensures.comparison c.if-is_same-2.true) }
 
 pub returns-then-is_same-3 : goal.returns-then-is_same-3
 unfolding bytes
 returns-then-is_same-3 c =
-    let past-1 : look_up names (text c) ≡ look_up (drop 1 names) (text c) = passed_over _ _ _ _ c.is_same.ensures.comparison c.if-is_same.false in
-    let past-2 : look_up names (text c) ≡ look_up (drop 2 names) (text c) = past-1 ∙ passed_over _ _ _ _ c.is_same-2.ensures.comparison c.if-is_same-2.false in
-     record { operation = sym (past-2 c ∙ found _ _ _ _ c.is_same-3.ensures.comparison c.if-is_same-3.true) }
+    let past-1 : look_up names c.args.text.now ≡ look_up (drop 1 names) c.args.text.now = passed_over _ _ _ _ c.is_same.ensures.comparison c.if-is_same.false in
+    let past-2 : look_up names c.args.text.now ≡ look_up (drop 2 names) c.args.text.now = past-1 ∙ passed_over _ _ _ _ c.is_same-2.ensures.comparison c.if-is_same-2.false in
+    record { operation = sym (past-2 ∙ found _ _ _ _ c.is_same-3.ensures.comparison c.if-is_same-3.true) }
 
 pub returns-then-is_same-4 : goal.returns-then-is_same-4
 unfolding bytes
 returns-then-is_same-4 c =
-    let past-1 : look_up names (text c) ≡ look_up (drop 1 names) (text c) = passed_over _ _ _ _ c.is_same.ensures.comparison c.if-is_same.false in
-    let past-2 : look_up names (text c) ≡ look_up (drop 2 names) (text c) = past-1 ∙ passed_over _ _ _ _ c.is_same-2.ensures.comparison c.if-is_same-2.false in
-    let past-3 : look_up names (text c) ≡ look_up (drop 3 names) (text c) = past-2 ∙ passed_over _ _ _ _ c.is_same-3.ensures.comparison c.if-is_same-3.false in
-     record { operation = sym (past-3 c ∙ found _ _ _ _ c.is_same-4.ensures.comparison c.if-is_same-4.true) }
+    let past-1 : look_up names c.args.text.now ≡ look_up (drop 1 names) c.args.text.now = passed_over _ _ _ _ c.is_same.ensures.comparison c.if-is_same.false in
+    let past-2 : look_up names c.args.text.now ≡ look_up (drop 2 names) c.args.text.now = past-1 ∙ passed_over _ _ _ _ c.is_same-2.ensures.comparison c.if-is_same-2.false in
+    let past-3 : look_up names c.args.text.now ≡ look_up (drop 3 names) c.args.text.now = past-2 ∙ passed_over _ _ _ _ c.is_same-3.ensures.comparison c.if-is_same-3.false in
+    record { operation = sym (past-3 ∙ found _ _ _ _ c.is_same-4.ensures.comparison c.if-is_same-4.true) }
 
 pub returns-then-is_same-5 : goal.returns-then-is_same-5
 unfolding bytes
 returns-then-is_same-5 c =
-    let past-1 : look_up names (text c) ≡ look_up (drop 1 names) (text c) = passed_over _ _ _ _ c.is_same.ensures.comparison c.if-is_same.false in
-    let past-2 : look_up names (text c) ≡ look_up (drop 2 names) (text c) = past-1 ∙ passed_over _ _ _ _ c.is_same-2.ensures.comparison c.if-is_same-2.false in
-    let past-3 : look_up names (text c) ≡ look_up (drop 3 names) (text c) = past-2 ∙ passed_over _ _ _ _ c.is_same-3.ensures.comparison c.if-is_same-3.false in
-    let past-4 : look_up names (text c) ≡ look_up (drop 4 names) (text c) = past-3 ∙ passed_over _ _ _ _ c.is_same-4.ensures.comparison c.if-is_same-4.false in
-     record { operation = sym (past-4 c ∙ found _ _ _ _ c.is_same-5.ensures.comparison c.if-is_same-5.true) }
+    let past-1 : look_up names c.args.text.now ≡ look_up (drop 1 names) c.args.text.now = passed_over _ _ _ _ c.is_same.ensures.comparison c.if-is_same.false in
+    let past-2 : look_up names c.args.text.now ≡ look_up (drop 2 names) c.args.text.now = past-1 ∙ passed_over _ _ _ _ c.is_same-2.ensures.comparison c.if-is_same-2.false in
+    let past-3 : look_up names c.args.text.now ≡ look_up (drop 3 names) c.args.text.now = past-2 ∙ passed_over _ _ _ _ c.is_same-3.ensures.comparison c.if-is_same-3.false in
+    let past-4 : look_up names c.args.text.now ≡ look_up (drop 4 names) c.args.text.now = past-3 ∙ passed_over _ _ _ _ c.is_same-4.ensures.comparison c.if-is_same-4.false in
+    record { operation = sym (past-4 ∙ found _ _ _ _ c.is_same-5.ensures.comparison c.if-is_same-5.true) }
 
 pub returns-then-is_same-6 : goal.returns-then-is_same-6
 unfolding bytes
 returns-then-is_same-6 c =
-    let past-1 : look_up names (text c) ≡ look_up (drop 1 names) (text c) = passed_over _ _ _ _ c.is_same.ensures.comparison c.if-is_same.false in
-    let past-2 : look_up names (text c) ≡ look_up (drop 2 names) (text c) = past-1 ∙ passed_over _ _ _ _ c.is_same-2.ensures.comparison c.if-is_same-2.false in
-    let past-3 : look_up names (text c) ≡ look_up (drop 3 names) (text c) = past-2 ∙ passed_over _ _ _ _ c.is_same-3.ensures.comparison c.if-is_same-3.false in
-    let past-4 : look_up names (text c) ≡ look_up (drop 4 names) (text c) = past-3 ∙ passed_over _ _ _ _ c.is_same-4.ensures.comparison c.if-is_same-4.false in
-    let past-5 : look_up names (text c) ≡ look_up (drop 5 names) (text c) = past-4 ∙ passed_over _ _ _ _ c.is_same-5.ensures.comparison c.if-is_same-5.false in
-     record { operation = sym (past-5 c ∙ found _ _ _ _ c.is_same-6.ensures.comparison c.if-is_same-6.true) }
+    let past-1 : look_up names c.args.text.now ≡ look_up (drop 1 names) c.args.text.now = passed_over _ _ _ _ c.is_same.ensures.comparison c.if-is_same.false in
+    let past-2 : look_up names c.args.text.now ≡ look_up (drop 2 names) c.args.text.now = past-1 ∙ passed_over _ _ _ _ c.is_same-2.ensures.comparison c.if-is_same-2.false in
+    let past-3 : look_up names c.args.text.now ≡ look_up (drop 3 names) c.args.text.now = past-2 ∙ passed_over _ _ _ _ c.is_same-3.ensures.comparison c.if-is_same-3.false in
+    let past-4 : look_up names c.args.text.now ≡ look_up (drop 4 names) c.args.text.now = past-3 ∙ passed_over _ _ _ _ c.is_same-4.ensures.comparison c.if-is_same-4.false in
+    let past-5 : look_up names c.args.text.now ≡ look_up (drop 5 names) c.args.text.now = past-4 ∙ passed_over _ _ _ _ c.is_same-5.ensures.comparison c.if-is_same-5.false in
+    record { operation = sym (past-5 ∙ found _ _ _ _ c.is_same-6.ensures.comparison c.if-is_same-6.true) }
 
 pub returns : goal.returns
-unfolding bytes look_up
+unfolding bytes
 returns c =
-    let past-1 : look_up names (text c) ≡ look_up (drop 1 names) (text c) = passed_over _ _ _ _ c.is_same.ensures.comparison c.if-is_same.false in
-    let past-2 : look_up names (text c) ≡ look_up (drop 2 names) (text c) = past-1 ∙ passed_over _ _ _ _ c.is_same-2.ensures.comparison c.if-is_same-2.false in
-    let past-3 : look_up names (text c) ≡ look_up (drop 3 names) (text c) = past-2 ∙ passed_over _ _ _ _ c.is_same-3.ensures.comparison c.if-is_same-3.false in
-    let past-4 : look_up names (text c) ≡ look_up (drop 4 names) (text c) = past-3 ∙ passed_over _ _ _ _ c.is_same-4.ensures.comparison c.if-is_same-4.false in
-    let past-5 : look_up names (text c) ≡ look_up (drop 5 names) (text c) = past-4 ∙ passed_over _ _ _ _ c.is_same-5.ensures.comparison c.if-is_same-5.false in
-    let past-6 : look_up names (text c) ≡ look_up (drop 6 names) (text c) = past-5 ∙ passed_over _ _ _ _ c.is_same-6.ensures.comparison c.if-is_same-6.false in
-     record { operation = sym past-6 }
+    let past-1 : look_up names c.args.text.now ≡ look_up (drop 1 names) c.args.text.now = passed_over _ _ _ _ c.is_same.ensures.comparison c.if-is_same.false in
+    let past-2 : look_up names c.args.text.now ≡ look_up (drop 2 names) c.args.text.now = past-1 ∙ passed_over _ _ _ _ c.is_same-2.ensures.comparison c.if-is_same-2.false in
+    let past-3 : look_up names c.args.text.now ≡ look_up (drop 3 names) c.args.text.now = past-2 ∙ passed_over _ _ _ _ c.is_same-3.ensures.comparison c.if-is_same-3.false in
+    let past-4 : look_up names c.args.text.now ≡ look_up (drop 4 names) c.args.text.now = past-3 ∙ passed_over _ _ _ _ c.is_same-4.ensures.comparison c.if-is_same-4.false in
+    let past-5 : look_up names c.args.text.now ≡ look_up (drop 5 names) c.args.text.now = past-4 ∙ passed_over _ _ _ _ c.is_same-5.ensures.comparison c.if-is_same-5.false in
+    let past-6 : look_up names c.args.text.now ≡ look_up (drop 6 names) c.args.text.now = past-5 ∙ passed_over _ _ _ _ c.is_same-6.ensures.comparison c.if-is_same-6.false in
+    record { operation = sym (past-6 ∙ nothing_left _) }

@@ -1,8 +1,6 @@
 -- A record is asked its questions in their order, and its numbers are read.
 use mathlib.Core.Path.{ap, sym, ◌∙◌}
 use native.Mathlib.Omega.{arith}
-use borrow.Author.Rules.{rules}
-use borrow.Author.Tests.{not-true, not-false}
 use lib.Seq.{length-take-le}
 use Rattle.wsgs.specs.Records.{names, look_up}
 use Rattle.records.proofs.Texts.{place_fits, has_byte, has_not}
@@ -24,20 +22,26 @@ slice_bounds-look_up-end c =
 
 pub returns-in_default : goal.returns-in_default
 returns-in_default c =
-    record { reading = unknown _ _ (omega arith) (has_not _ _ (omega (arith, c.place_of.ensures.place)))
-    (ap (look_up names) (first_field _ _ c.place_of-operation_end.ensures.place) ∙ sym c.look_up.ensures.operation ∙ c.enum_told-1.given.1) }
+    record {
+      reading = unknown _ _ (omega arith) (has_not _ _ (omega (arith, c.place_of.ensures.place)))
+          (ap (look_up names) (first_field _ _ c.place_of-operation_end.ensures.place) ∙ sym c.look_up.ensures.operation ∙ c.in_default.is);
+    }
 
 pub returns-then-not-is_in_time : goal.returns-then-not-is_in_time
 returns-then-not-is_in_time c =
-    record { reading = too_early _ _ (omega arith) (has_not _ _ (omega (arith, c.place_of.ensures.place))) _
-    (ap (look_up names) (first_field _ _ c.place_of-operation_end.ensures.place) ∙ sym c.look_up.ensures.operation ∙ c.operation-1.given.1)
-    (sym c.is_in_time.ensures.answer ∙ c.if-not-is_in_time.true) }
+    record {
+      reading = too_early _ _ (omega arith) (has_not _ _ (omega (arith, c.place_of.ensures.place))) _
+          (ap (look_up names) (first_field _ _ c.place_of-operation_end.ensures.place) ∙ sym c.look_up.ensures.operation ∙ c.in-Known.is)
+          (sym c.is_in_time.ensures.answer ∙ c.if-not-is_in_time.true);
+    }
 
 pub returns-then-field_count-ne-FIELDS : goal.returns-then-field_count-ne-FIELDS
 returns-then-field_count-ne-FIELDS c =
-    record { reading = other_count _ _ (omega arith) (has_not _ _ (omega (arith, c.place_of.ensures.place))) _
-    (ap (look_up names) (first_field _ _ c.place_of-operation_end.ensures.place) ∙ sym c.look_up.ensures.operation ∙ c.operation-1.given.1)
-    (sym c.is_in_time.ensures.answer ∙ c.if-not-is_in_time.false) (λ e. c.if-field_count-ne-FIELDS.true (c.field_count.ensures.count ∙ e)) }
+    record {
+      reading = other_count _ _ (omega arith) (has_not _ _ (omega (arith, c.place_of.ensures.place))) _
+          (ap (look_up names) (first_field _ _ c.place_of-operation_end.ensures.place) ∙ sym c.look_up.ensures.operation ∙ c.in-Known.is)
+          (sym c.is_in_time.ensures.answer ∙ c.if-not-is_in_time.false) (λ e. c.if-field_count-ne-FIELDS.true (c.field_count.ensures.count ∙ e));
+    }
 
 pub overflow_add-operation_end : goal.overflow_add-operation_end
 overflow_add-operation_end c =
@@ -57,8 +61,10 @@ read_numbers-requires c =
 
 pub returns : goal.returns
 returns c =
-    let four = sym c.field_count.ensures.count ∙ c.if-field_count-ne-FIELDS.false in record { reading = c.read_numbers.ensures.reading
-    ∙ by_numbers _ _ (omega arith) (has_not _ _ (omega (arith, c.place_of.ensures.place))) _
-    (ap (look_up names) (first_field _ _ c.place_of-operation_end.ensures.place) ∙ sym c.look_up.ensures.operation ∙ c.operation-1.given.1)
-    (sym c.is_in_time.ensures.answer ∙ c.if-not-is_in_time.false) four _ _
-    (next_field _ _ c.place_of-operation_end.ensures.place (comma_within _ _ c.place_of-operation_end.ensures.place (omega (arith, four)))) }
+    let four = sym c.field_count.ensures.count ∙ c.if-field_count-ne-FIELDS.false in record {
+      reading = c.read_numbers.ensures.reading
+          ∙ by_numbers _ _ (omega arith) (has_not _ _ (omega (arith, c.place_of.ensures.place))) _
+          (ap (look_up names) (first_field _ _ c.place_of-operation_end.ensures.place) ∙ sym c.look_up.ensures.operation ∙ c.in-Known.is)
+          (sym c.is_in_time.ensures.answer ∙ c.if-not-is_in_time.false) four _ _
+          (next_field _ _ c.place_of-operation_end.ensures.place (comma_within _ _ c.place_of-operation_end.ensures.place (omega (arith, four))));
+    }

@@ -1,6 +1,5 @@
 -- `starts::start_pipelined` meets its contract: the start is refused and all stays, or every used word is set to 0. Assumes nothing.
 use mathlib.Core.Path.{◌≡◌, sym, ◌∙◌}
-use borrow.Author.Rules.{rules}
 use Rattle.wsgs.specs.Answers.{pipelined_runs_of}
 use Rattle.wsgs.specs.Pipelined
 use Rattle.questions.specs.Refusals.{StartInRange}
@@ -8,35 +7,32 @@ use Rattle.questions.proofs.Laws.Runs.{pipelined_asked}
 use Rattle.starts.proofs.Laws.{pipelined_stays, pipelined_clears}
 use Rattle.starts.proofs.start_pipelined.Goals as goal
 
--- LEFT abbrev runs : tie.Start → Pipelined.Runs
--- LEFT runs s =
--- LEFT     let a = s.args in
--- LEFT     pipelined_runs_of a.slots.now a.rates.now a.credits.now a.queues.now a.given.now a.copy.now a.flight.now
-
 pub returns-then-refusal-ne0 : goal.returns-then-refusal-ne0
 returns-then-refusal-ne0 c =
-    record { outcome = pipelined_stays _ _ _ _ (runs c) _ _ c.pipelined_start_refusal-refusal.ensures.result c.if-refusal-ne0.true }
+    record { outcome = pipelined_stays _ _ _ _ (pipelined_runs_of c.args.slots.now c.args.rates.now c.args.credits.now c.args.queues.now c.args.given.now c.args.copy.now c.args.flight.now) _ _ c.pipelined_start_refusal-refusal.ensures.result c.if-refusal-ne0.true }
 
 pub clear_runs-requires : goal.clear_runs-requires
 clear_runs-requires c =
-    let passed :  0 ≡ Pipelined.start_refusal c.args.ports c.args.frame c.args.line (runs c) = sym c.if-refusal-ne0.false ∙ c.pipelined_start_refusal-refusal.ensures.result in
-    let numbers :  StartInRange c.args.ports c.args.frame c.args.line = (pipelined_asked _ _ _ _ passed).0 in
-     record { ports_in_range = numbers.sizes.ports.1 }
+    let passed : 0 ≡ Pipelined.start_refusal c.args.ports c.args.frame c.args.line (pipelined_runs_of c.args.slots.now c.args.rates.now c.args.credits.now c.args.queues.now c.args.given.now c.args.copy.now c.args.flight.now) = sym c.if-refusal-ne0.false ∙ c.pipelined_start_refusal-refusal.ensures.result in
+    let numbers : StartInRange c.args.ports c.args.frame c.args.line = (pipelined_asked _ _ _ _ passed).0 in
+    record { ports_in_range = numbers.sizes.ports.1 }
 
 pub clear_pipeline-requires : goal.clear_pipeline-requires
 clear_pipeline-requires c =
-    let passed :  0 ≡ Pipelined.start_refusal c.args.ports c.args.frame c.args.line (runs c) = sym c.if-refusal-ne0.false ∙ c.pipelined_start_refusal-refusal.ensures.result in
-    let numbers :  StartInRange c.args.ports c.args.frame c.args.line = (pipelined_asked _ _ _ _ passed).0 in
-     record { ports_in_range = numbers.sizes.ports.1 }
+    let passed : 0 ≡ Pipelined.start_refusal c.args.ports c.args.frame c.args.line (pipelined_runs_of c.args.slots.now c.args.rates.now c.args.credits.now c.args.queues.now c.args.given.now c.args.copy.now c.args.flight.now) = sym c.if-refusal-ne0.false ∙ c.pipelined_start_refusal-refusal.ensures.result in
+    let numbers : StartInRange c.args.ports c.args.frame c.args.line = (pipelined_asked _ _ _ _ passed).0 in
+    record { ports_in_range = numbers.sizes.ports.1 }
 
 pub first_clock-requires : goal.first_clock-requires
 first_clock-requires c =
-    let passed :  0 ≡ Pipelined.start_refusal c.args.ports c.args.frame c.args.line (runs c) = sym c.if-refusal-ne0.false ∙ c.pipelined_start_refusal-refusal.ensures.result in
-    let numbers :  StartInRange c.args.ports c.args.frame c.args.line = (pipelined_asked _ _ _ _ passed).0 in
-     record { start_in_range = numbers }
+    let passed : 0 ≡ Pipelined.start_refusal c.args.ports c.args.frame c.args.line (pipelined_runs_of c.args.slots.now c.args.rates.now c.args.credits.now c.args.queues.now c.args.given.now c.args.copy.now c.args.flight.now) = sym c.if-refusal-ne0.false ∙ c.pipelined_start_refusal-refusal.ensures.result in
+    let numbers : StartInRange c.args.ports c.args.frame c.args.line = (pipelined_asked _ _ _ _ passed).0 in
+    record { start_in_range = numbers }
 
 pub returns : goal.returns
 returns c =
-    let passed :  0 ≡ Pipelined.start_refusal c.args.ports c.args.frame c.args.line (runs c) = sym c.if-refusal-ne0.false ∙ c.pipelined_start_refusal-refusal.ensures.result in
-     record { outcome = pipelined_clears _ _ _ _ (runs c) _ passed _ c.first_clock.ensures.result
-    _ _ _ _ _ _ _ c.clear_runs.ensures c.clear_pipeline.ensures }
+    let passed : 0 ≡ Pipelined.start_refusal c.args.ports c.args.frame c.args.line (pipelined_runs_of c.args.slots.now c.args.rates.now c.args.credits.now c.args.queues.now c.args.given.now c.args.copy.now c.args.flight.now) = sym c.if-refusal-ne0.false ∙ c.pipelined_start_refusal-refusal.ensures.result in
+    record {
+      outcome = pipelined_clears _ _ _ _ (pipelined_runs_of c.args.slots.now c.args.rates.now c.args.credits.now c.args.queues.now c.args.given.now c.args.copy.now c.args.flight.now) _ passed _ c.first_clock.ensures.result
+          _ _ _ _ _ _ _ (c.clear_runs.ensures.slots_exit, (c.clear_runs.ensures.rates_exit, (c.clear_runs.ensures.credits_exit, (c.clear_runs.ensures.queues_exit, c.clear_runs.ensures.given_exit)))) (c.clear_pipeline.ensures.copy_exit, c.clear_pipeline.ensures.flight_exit);
+    }

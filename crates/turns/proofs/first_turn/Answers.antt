@@ -35,13 +35,23 @@ returns-then-choice-gt0 c =
     let allowed :  Turn c.args.ports c.args.input.0 c.args.credits.now = due _ _ _ c.has_turn.ensures.tested (ap not c.if-not-has_turn.false) in
     let found :     c.second_turn-choice.result.output.0 ≡ first_output c.args.free c.args.asked c.args.ports c.args.input.0 c.args.credits.now c.args.queues.now c.args.given.now = with_turn (is_due _ _ _ allowed) c.second_turn-choice.ensures.output in
     let counted :     c.second_turn-choice.result.looks ≡ first_looks c.args.free c.args.asked c.args.ports c.args.input.0 c.args.credits.now c.args.queues.now c.args.given.now = with_turn (is_due _ _ _ allowed) c.second_turn-choice.ensures.looks in
-                    (found c, (counted c, (c.spend_credit.ensures.less ∙ sym (charged_some _ _ _ _ c.if-choice-gt0.true), c.second_turn-choice.ensures.1.1)))
-    -- LEFT: the fields are ['output', 'looks', 'credits_exit', 'queues_exit', 'given_exit']
+    record {
+      output = found;
+      looks = counted;
+      credits_exit = c.spend_credit.ensures.less ∙ sym (charged_some _ _ _ _ c.if-choice-gt0.true);
+      queues_exit = c.second_turn-choice.ensures.queues_exit;
+      given_exit = c.second_turn-choice.ensures.given_exit;
+    }
 
 pub returns-else-choice-gt0 : goal.returns-else-choice-gt0
 returns-else-choice-gt0 c =
     let allowed :  Turn c.args.ports c.args.input.0 c.args.credits.now = due _ _ _ c.has_turn.ensures.tested (ap not c.if-not-has_turn.false) in
     let found :     c.second_turn-choice.result.output.0 ≡ first_output c.args.free c.args.asked c.args.ports c.args.input.0 c.args.credits.now c.args.queues.now c.args.given.now = with_turn (is_due _ _ _ allowed) c.second_turn-choice.ensures.output in
     let counted :     c.second_turn-choice.result.looks ≡ first_looks c.args.free c.args.asked c.args.ports c.args.input.0 c.args.credits.now c.args.queues.now c.args.given.now = with_turn (is_due _ _ _ allowed) c.second_turn-choice.ensures.looks in
-            (found c, (counted c, (sym (charged_none _ _ _ _ c.if-choice-gt0.false), c.second_turn-choice.ensures.1.1)))
-    -- LEFT: the fields are ['output', 'looks', 'credits_exit', 'queues_exit', 'given_exit']
+    record {
+      output = found;
+      looks = counted;
+      credits_exit = sym (charged_none _ _ _ _ c.if-choice-gt0.false);
+      queues_exit = c.second_turn-choice.ensures.queues_exit;
+      given_exit = c.second_turn-choice.ensures.given_exit;
+    }

@@ -1,6 +1,6 @@
 -- `turns::second_turn` meets its contract: where the input has a turn, the search's output is a port or none, and it pays for a port. Assumes nothing.
 use mathlib.Core.Path.{◌≡◌, sym, ◌∙◌, ap}
-use mathlib.Core.Bool.{true, false, ◌&&◌}
+use mathlib.Core.Bool.{true, false, not, ◌&&◌}
 use mathlib.Core.Logic.{inl, inr}
 use Prim.Native.Nat.{◌≤◌}
 use native.Mathlib.Omega.{arith}
@@ -14,29 +14,29 @@ use Rattle.turns.specs.Requests.{has_turn, common_in_turn, second_output, second
 use Rattle.turns.proofs.Costs.{charged_some, charged_none, noted_some, noted_none}
 use Rattle.turns.proofs.TurnLaws.{Turn, due, is_due, not_due, with_turn, without_turn, both_yes, first_no, second_no, second_port}
 use Rattle.turns.proofs.second_turn.Goals as goal
-
--- LEFT none : (c : tie.Joined1) → let a = (start c.before).args in
--- LEFT     (has_turn a.ports a.input.0 (length a.queues.now) && leb a.ports (length a.given.now)) ≡ false
--- LEFT none c =
--- LEFT     let a = (start c.before).args in
--- LEFT     elim c.if1.branch [
--- LEFT       | inl t ↦ first_no _ (not_due _ _ _ c.before.has_turn.ensures t.taken)
--- LEFT       | inr t ↦ second_no (has_turn a.ports a.input.0 (length a.queues.now)) (lt-leb a.ports (length a.given.now) (ltb-true (length a.given.now) a.ports t.1.taken))
--- LEFT     ]
+use Rattle.turns.proofs.second_turn.Goals.{then-not-has_turn-via-then-not-has_turn, then-not-has_turn-via-else-not-has_turn+then-given-ports}
 
 pub returns-then-not-has_turn : goal.returns-then-not-has_turn
 returns-then-not-has_turn c =
+    let none : (has_turn c.args.ports c.args.input.0 (length c.args.queues.now) && leb c.args.ports (length c.args.given.now)) ≡ false
+        = elim c.then-not-has_turn.branch [
+            | then-not-has_turn-via-then-not-has_turn w ↦ first_no _ (not_due _ _ _ c.has_turn.ensures.tested (ap not w.if-not-has_turn.true))
+            | then-not-has_turn-via-else-not-has_turn+then-given-ports w ↦
+                second_no (has_turn c.args.ports c.args.input.0 (length c.args.queues.now))
+                (lt-leb c.args.ports (length c.args.given.now) w.if-given-ports.true)
+          ]
+    in
     record {
-      output = without_turn _ (none c);
-      looks = without_turn _ (none c);
+      output = without_turn _ none;
+      looks = without_turn _ none;
       queues_exit = sym (charged_none _ _ _ _ (omega arith));
       given_exit = sym (noted_none _ _ _ (omega arith));
     }
 
 pub last_given-last-requires : goal.last_given-last-requires
 last_given-last-requires c =
-    let allowed :  Turn c.args.ports c.args.input.0 c.args.queues.now = due _ _ _ c.has_turn.ensures.tested c.then-not-has_turn.false in
-    let long :  c.args.ports ≤ length c.args.given.now = ltb-false (length c.args.given.now) c.args.ports c.if-given-ports.false in
+    let allowed :  Turn c.args.ports c.args.input.0 c.args.queues.now = due _ _ _ c.has_turn.ensures.tested (ap not c.if-not-has_turn.false) in
+    let long :  c.args.ports ≤ length c.args.given.now = c.if-given-ports.false in
      let d = allowed in record {
       some_input = d.port.low;
       inside = omega (arith, d.port.high, long);
@@ -44,13 +44,13 @@ last_given-last-requires c =
 
 pub choose-choice-requires : goal.choose-choice-requires
 choose-choice-requires c =
-    let allowed :  Turn c.args.ports c.args.input.0 c.args.queues.now = due _ _ _ c.has_turn.ensures.tested c.then-not-has_turn.false in
+    let allowed :  Turn c.args.ports c.args.input.0 c.args.queues.now = due _ _ _ c.has_turn.ensures.tested (ap not c.if-not-has_turn.false) in
      record { ports = allowed.few }
 
 pub take_packet-requires : goal.take_packet-requires
 take_packet-requires c =
-    let allowed :  Turn c.args.ports c.args.input.0 c.args.queues.now = due _ _ _ c.has_turn.ensures.tested c.then-not-has_turn.false in
-    let long :  c.args.ports ≤ length c.args.given.now = ltb-false (length c.args.given.now) c.args.ports c.if-given-ports.false in
+    let allowed :  Turn c.args.ports c.args.input.0 c.args.queues.now = due _ _ _ c.has_turn.ensures.tested (ap not c.if-not-has_turn.false) in
+    let long :  c.args.ports ≤ length c.args.given.now = c.if-given-ports.false in
     let there :     (has_turn c.args.ports c.args.input.0 (length c.args.queues.now) && leb c.args.ports (length c.args.given.now)) ≡ true = both_yes (is_due _ _ _ allowed) (le-leb c.args.ports (length c.args.given.now) long) in
     let found :     c.choose-choice.result.output.0 ≡ second_output c.args.free c.args.asked c.args.ports c.args.input.0 c.args.queues.now c.args.given.now = with_turn there (c.choose-choice.ensures.output ∙ ap (common_in_turn c.args.free c.args.asked c.args.ports) c.last_given-last.ensures.read) in
     let taken :   Port c.args.ports c.choose-choice.result.output.0 = second_port c.args.free c.args.asked c.args.ports c.args.input.0 c.args.queues.now c.args.given.now _ found c.if-choice-gt0.true in
@@ -63,8 +63,8 @@ take_packet-requires c =
 
 pub note_given-requires : goal.note_given-requires
 note_given-requires c =
-    let allowed :  Turn c.args.ports c.args.input.0 c.args.queues.now = due _ _ _ c.has_turn.ensures.tested c.then-not-has_turn.false in
-    let long :  c.args.ports ≤ length c.args.given.now = ltb-false (length c.args.given.now) c.args.ports c.if-given-ports.false in
+    let allowed :  Turn c.args.ports c.args.input.0 c.args.queues.now = due _ _ _ c.has_turn.ensures.tested (ap not c.if-not-has_turn.false) in
+    let long :  c.args.ports ≤ length c.args.given.now = c.if-given-ports.false in
     let there :     (has_turn c.args.ports c.args.input.0 (length c.args.queues.now) && leb c.args.ports (length c.args.given.now)) ≡ true = both_yes (is_due _ _ _ allowed) (le-leb c.args.ports (length c.args.given.now) long) in
     let found :     c.choose-choice.result.output.0 ≡ second_output c.args.free c.args.asked c.args.ports c.args.input.0 c.args.queues.now c.args.given.now = with_turn there (c.choose-choice.ensures.output ∙ ap (common_in_turn c.args.free c.args.asked c.args.ports) c.last_given-last.ensures.read) in
     let taken :   Port c.args.ports c.choose-choice.result.output.0 = second_port c.args.free c.args.asked c.args.ports c.args.input.0 c.args.queues.now c.args.given.now _ found c.if-choice-gt0.true in
@@ -76,8 +76,8 @@ note_given-requires c =
 
 pub returns-then-choice-gt0 : goal.returns-then-choice-gt0
 returns-then-choice-gt0 c =
-    let allowed :  Turn c.args.ports c.args.input.0 c.args.queues.now = due _ _ _ c.has_turn.ensures.tested c.then-not-has_turn.false in
-    let long :  c.args.ports ≤ length c.args.given.now = ltb-false (length c.args.given.now) c.args.ports c.if-given-ports.false in
+    let allowed :  Turn c.args.ports c.args.input.0 c.args.queues.now = due _ _ _ c.has_turn.ensures.tested (ap not c.if-not-has_turn.false) in
+    let long :  c.args.ports ≤ length c.args.given.now = c.if-given-ports.false in
     let there :     (has_turn c.args.ports c.args.input.0 (length c.args.queues.now) && leb c.args.ports (length c.args.given.now)) ≡ true = both_yes (is_due _ _ _ allowed) (le-leb c.args.ports (length c.args.given.now) long) in
     let found :     c.choose-choice.result.output.0 ≡ second_output c.args.free c.args.asked c.args.ports c.args.input.0 c.args.queues.now c.args.given.now = with_turn there (c.choose-choice.ensures.output ∙ ap (common_in_turn c.args.free c.args.asked c.args.ports) c.last_given-last.ensures.read) in
     let counted :     c.choose-choice.result.looks ≡ second_looks c.args.free c.args.asked c.args.ports c.args.input.0 c.args.queues.now c.args.given.now = with_turn there (c.choose-choice.ensures.looks ∙ ap (looks (in_mask c.args.free) (in_mask c.args.asked) c.args.ports) c.last_given-last.ensures.read) in
@@ -91,8 +91,8 @@ returns-then-choice-gt0 c =
 
 pub returns-else-choice-gt0 : goal.returns-else-choice-gt0
 returns-else-choice-gt0 c =
-    let allowed :  Turn c.args.ports c.args.input.0 c.args.queues.now = due _ _ _ c.has_turn.ensures.tested c.then-not-has_turn.false in
-    let long :  c.args.ports ≤ length c.args.given.now = ltb-false (length c.args.given.now) c.args.ports c.if-given-ports.false in
+    let allowed :  Turn c.args.ports c.args.input.0 c.args.queues.now = due _ _ _ c.has_turn.ensures.tested (ap not c.if-not-has_turn.false) in
+    let long :  c.args.ports ≤ length c.args.given.now = c.if-given-ports.false in
     let there :     (has_turn c.args.ports c.args.input.0 (length c.args.queues.now) && leb c.args.ports (length c.args.given.now)) ≡ true = both_yes (is_due _ _ _ allowed) (le-leb c.args.ports (length c.args.given.now) long) in
     let found :     c.choose-choice.result.output.0 ≡ second_output c.args.free c.args.asked c.args.ports c.args.input.0 c.args.queues.now c.args.given.now = with_turn there (c.choose-choice.ensures.output ∙ ap (common_in_turn c.args.free c.args.asked c.args.ports) c.last_given-last.ensures.read) in
     let counted :     c.choose-choice.result.looks ≡ second_looks c.args.free c.args.asked c.args.ports c.args.input.0 c.args.queues.now c.args.given.now = with_turn there (c.choose-choice.ensures.looks ∙ ap (looks (in_mask c.args.free) (in_mask c.args.asked) c.args.ports) c.last_given-last.ensures.read) in

@@ -1,11 +1,13 @@
 -- `amounts::booked` meets its contract. Assumes nothing.
-use native.Mathlib.Omega.{arith}
-use borrow.Author.Rules.{rules}
+use Rattle.std.proofs.Common.{arith}
 use Rattle.wsgs.specs.Bookings.{booking}
 use Rattle.bookings.proofs.amounts.booked.Goals as goal
 
-pub returns : goal.returns
+pub returns-then-slots-gt-MAX_BOOKING-clause-result :
+    goal.returns-then-slots-gt-MAX_BOOKING-clause-result
 unfolding booking
-returns c =
-    omega (arith, c.counted.ensures.result, c.rate_slots.ensures)
-    -- LEFT: the fields are ['result', 'fits']
+returns-then-slots-gt-MAX_BOOKING-clause-result c = omega arith
+
+pub returns-clause-result : goal.returns-clause-result
+unfolding booking
+returns-clause-result c = omega (arith, c.counted.ensures, c.rate_slots.ensures.result)

@@ -1,7 +1,6 @@
 -- `amounts::rate_slots` meets its contract: without a rate or a line it is 0, else the quotient. Assumes nothing.
 use mathlib.Core.Path.{sym}
 use native.Mathlib.Omega.{arith}
-use borrow.Author.Rules.{rules}
 use Rattle.bookings.proofs.Laws.{no_rate, no_line, divided, quotient_few}
 use Rattle.bookings.proofs.amounts.rate_slots.Goals as goal
 

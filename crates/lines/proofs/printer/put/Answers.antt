@@ -1,9 +1,6 @@
 -- A text is put byte by byte. The loop's invariant: the bytes passed stand in the buffer.
-use Prim.Native.Nat.{◌+◌, ◌-◌, ◌≤◌}
 use native.Mathlib.Omega.{arith}
-use lib.ListN.{length}
-use Rattle.lines.proofs.Writing.{Copied, copied_none, copied_more, copied_all}
-use borrow.Author.Rules.{rules}
+use Rattle.lines.proofs.Writing.{copied_none, copied_more, copied_all}
 use Rattle.lines.proofs.printer.put.Goals as goal
 
 pub loop-i-init : goal.loop-i-init

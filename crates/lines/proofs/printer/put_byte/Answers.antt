@@ -1,7 +1,6 @@
 -- A byte is put.
 use native.Mathlib.Omega.{arith}
 use Rattle.lines.proofs.Writing.{wrote_byte}
-use borrow.Author.Rules.{rules}
 use Rattle.lines.proofs.printer.put_byte.Goals as goal
 
 pub returns : goal.returns

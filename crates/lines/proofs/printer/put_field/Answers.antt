@@ -2,7 +2,6 @@
 use native.Mathlib.Omega.{arith}
 use Rattle.lines.proofs.Decimals.{decimal_short}
 use Rattle.lines.proofs.Writing.{wrote_then}
-use borrow.Author.Rules.{rules}
 use Rattle.lines.proofs.printer.put_field.Goals as goal
 
 pub put_number-requires : goal.put_number-requires

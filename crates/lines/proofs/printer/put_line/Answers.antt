@@ -2,7 +2,6 @@
 use native.Mathlib.Omega.{arith}
 use Rattle.lines.proofs.Printing.{field_short, line_of}
 use Rattle.lines.proofs.Writing.{wrote_is, wrote_then}
-use borrow.Author.Rules.{rules}
 use Rattle.lines.proofs.printer.put_line.Goals as goal
 
 pub put_field-fourth-requires : goal.put_field-fourth-requires
@@ -23,12 +22,14 @@ put-requires c =
 
 pub returns : goal.returns
 returns c =
-    record { text = wrote_is
-    (wrote_then
-    (wrote_then
-    (wrote_then
-    (wrote_then (wrote_then c.put-second.ensures.text c.put_field-third.ensures.text) c.put_field-fourth.ensures.text)
-    c.put_field-fifth.ensures.text)
-    c.put_field-end.ensures.text)
-    c.put.ensures.text)
-    (line_of _ _ _ _ _) }
+    record {
+      text = wrote_is
+          (wrote_then
+          (wrote_then
+          (wrote_then
+          (wrote_then (wrote_then c.put-second.ensures.text c.put_field-third.ensures.text) c.put_field-fourth.ensures.text)
+          c.put_field-fifth.ensures.text)
+          c.put_field-end.ensures.text)
+          c.put.ensures.text)
+          (line_of _ _ _ _ _);
+    }

@@ -5,7 +5,6 @@ use Rattle.wsgs.specs.Text.{bytes}
 use Rattle.lines.specs.Lines.{is_set}
 use Rattle.lines.proofs.Printing.{pass_of, bit_small, no_line, the_line}
 use Rattle.lines.proofs.Writing.{wrote_none, wrote_is}
-use borrow.Author.Rules.{rules}
 use Rattle.lines.proofs.printer.put_match.Goals as goal
 
 pub returns-then-output-eq0 : goal.returns-then-output-eq0

@@ -1,13 +1,8 @@
 -- A slot's lines. The loop's invariant: those of the inputs passed stand in the buffer.
 use Prim.Native.Nat.{◌≤◌, ◌-◌}
-use mathlib.Core.Path.{◌≡◌}
-use native.Mathlib.Omega.{arith}
 use Rattle.wsgs.specs.Answers.{matching_of}
 use Rattle.wsgs.specs.Program.{match_lines}
 use Rattle.lines.specs.Lines.{TextWritten}
-use Rattle.lines.proofs.Printing.{matches_none, matches_more, matches_short}
-use Rattle.lines.proofs.Writing.{wrote_none, wrote_is, wrote_then, wrote_long}
-use borrow.Author.Rules.{rules}
 use Rattle.lines.proofs.printer.put_matches.Given as goal
 
 abbrev pub invariant-loop-i : goal.invariant-loop-i

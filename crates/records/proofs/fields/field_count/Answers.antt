@@ -1,10 +1,6 @@
 -- A count of fields. The loop's invariant: those that begin in the bytes passed are counted.
-use mathlib.Core.Logic.{inl, inr}
-use Prim.Native.Nat.{◌-◌}
 use native.Mathlib.Omega.{arith}
-use borrow.Author.Rules.{rules}
-use lib.ListN.{length}
-use Rattle.records.proofs.Cuts.{Counted, counted_one, counted_comma, counted_other, counted_all}
+use Rattle.records.proofs.Cuts.{counted_one, counted_comma, counted_other, counted_all}
 use Rattle.records.proofs.fields.field_count.Goals as goal
 
 pub loop-i-init : goal.loop-i-init
@@ -18,8 +14,8 @@ overflow_add-count c =
 pub loop-i-preserved : goal.loop-i-preserved
 loop-i-preserved c =
     elim c.if-text-i-eq44.branch [
-      | inl w ↦ rw w.1 (counted_comma _ _ _ c.loop-i.invariant (omega arith) w.0.taken)
-      | inr w ↦ rw w.1 (counted_other _ _ _ c.loop-i.invariant (omega arith) w.0.left)
+      | goal.then-text-i-eq44 w ↦ rw w.count-is (counted_comma _ _ _ c.loop-i.invariant (omega arith) w.if-text-i-eq44.true)
+      | goal.else-text-i-eq44 w ↦ rw w.count-is (counted_other _ _ _ c.loop-i.invariant (omega arith) w.if-text-i-eq44.false)
     ]
 
 pub returns : goal.returns

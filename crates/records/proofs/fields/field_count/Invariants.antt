@@ -1,10 +1,7 @@
 -- A count of fields. The loop's invariant: those that begin in the bytes passed are counted.
-use mathlib.Core.Logic.{inl, inr}
 use Prim.Native.Nat.{◌-◌}
-use native.Mathlib.Omega.{arith}
-use borrow.Author.Rules.{rules}
 use lib.ListN.{length}
-use Rattle.records.proofs.Cuts.{Counted, counted_one, counted_comma, counted_other, counted_all}
+use Rattle.records.proofs.Cuts.{Counted}
 use Rattle.records.proofs.fields.field_count.Given as goal
 
 abbrev pub invariant-loop-i : goal.invariant-loop-i

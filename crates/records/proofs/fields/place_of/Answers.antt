@@ -1,9 +1,6 @@
 -- The first place of a byte. The loop's invariant: the bytes passed are others.
-use Prim.Native.Nat.{◌-◌}
 use native.Mathlib.Omega.{arith}
-use lib.ListN.{length}
-use Rattle.records.proofs.Texts.{Without, without_none, without_more, place_here, place_nowhere}
-use borrow.Author.Rules.{rules}
+use Rattle.records.proofs.Texts.{without_none, without_more, place_here, place_nowhere}
 use Rattle.records.proofs.fields.place_of.Goals as goal
 
 pub loop-i-init : goal.loop-i-init

@@ -1,9 +1,7 @@
 -- A field reads as the definition says. The loop's invariant: the bytes passed are digits, and `value` is their value.
 use Prim.Native.Nat.{◌-◌}
-use native.Mathlib.Omega.{arith}
-use borrow.Author.Rules.{rules}
 use lib.ListN.{length}
-use Rattle.records.proofs.Digits.{Digits, no_digits, too_short, too_long, next_fits, next_digit, below_digits, above_digits, all_read}
+use Rattle.records.proofs.Digits.{Digits}
 use Rattle.records.proofs.fields.read_field.Given as goal
 
 abbrev pub invariant-loop-i : goal.invariant-loop-i

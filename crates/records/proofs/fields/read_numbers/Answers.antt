@@ -1,7 +1,6 @@
 -- A text of three fields is cut at its two commas, and its fields are read.
 use mathlib.Core.Path.{sym}
 use native.Mathlib.Omega.{arith}
-use borrow.Author.Rules.{rules}
 use lib.Seq.{length-take-le}
 use Rattle.records.proofs.Cuts.{comma_within, second_within, three_fields}
 use Rattle.records.proofs.fields.read_numbers.Goals as goal

@@ -1,6 +1,5 @@
 -- `starts::initial::clear_pipeline` meets its contract. Assumes nothing.
 use native.Mathlib.Omega.{arith}
-use borrow.Author.Rules.{rules}
 use Rattle.wsgs.proofs.Laws.Words.{square_small, rows_small}
 use Rattle.starts.proofs.initial.clear_pipeline.Goals as goal
 

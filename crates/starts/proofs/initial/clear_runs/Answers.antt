@@ -1,6 +1,5 @@
 -- `starts::initial::clear_runs` meets its contract. Assumes nothing.
 use native.Mathlib.Omega.{arith}
-use borrow.Author.Rules.{rules}
 use Rattle.wsgs.proofs.Laws.Words.{square_small}
 use Rattle.starts.proofs.initial.clear_runs.Goals as goal
 

@@ -12,17 +12,14 @@ use Rattle.turns.specs.Masks.{ready_mask}
 use Rattle.turns.proofs.Ready.{column_two, ready_start, ready_next}
 use Rattle.turns.proofs.sweep.ready_in.Goals as goal
 
--- LEFT abbrev above : tie.At-loop → List ℕ → Bool
--- LEFT above l run = ltb 0 (get_or run ((start l).args.row + l.loop.column) 0)
-
 pub loop-column-init : goal.loop-column-init
 loop-column-init c =
     (search rules, ready_start _ _ _)
 
 pub loop-column-preserved : goal.loop-column-preserved
 loop-column-preserved c =
-    let credit = above c c.args.credits.now in
-    let packet = above c c.args.queues.now in
+    let credit : Bool = ltb 0 (get_or c.args.credits.now (c.args.row + c.loop-column.column) 0) in
+    let packet : Bool = ltb 0 (get_or c.args.queues.now (c.args.row + c.loop-column.column) 0) in
     let paid = c.bit_if-credit.ensures.bit ∙ ap (λ left. pick (ltb 0 left) (2 ^ c.loop-column.column) 0) c.credits_at-left.ensures.read in
     (omega arith, ready_next _ _ _ c.loop-column.column _ _ c.loop-column.invariant.1 (column_two _ credit packet _ _ c.bit_if-packet.ensures.bit paid))
 
