@@ -1,4 +1,5 @@
--- The same of the exported C functions, whose clock is lent as its words: one theorem for each. Assumes nothing.
+-- The same of the C functions (crates/kivdrag_c_c exports them with these contracts), whose clock is lent as its words: one theorem for each.
+-- Stated over any `Logic`, as the contracts are; uses none of its laws.
 use mathlib.Core.Path.{◌≡◌, ap}
 use mathlib.Core.List.{List}
 use Prim.Native.Nat.{ℕ}

@@ -1,6 +1,6 @@
 -- One theorem for each call of a switch and each public function that does it: what the function's contract says, its result and its runs at
 -- exit put together into an outcome of the switch, is `apply` of the call. The contracts are those of the source, as the toolchain has them.
--- Assumes nothing.
+-- Stated over any `Logic`, as the contracts are; uses none of its laws.
 use mathlib.Core.Path.{◌≡◌, ap}
 use mathlib.Core.List.{List}
 use Prim.Native.Nat.{ℕ}

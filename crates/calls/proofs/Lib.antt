@@ -1,3 +1,3 @@
--- The contracts of the public functions, and of the exported C functions.
+-- The contracts of the public functions, and of the C functions.
 pub mod Contracts
 pub mod CContracts

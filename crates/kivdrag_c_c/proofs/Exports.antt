@@ -1,5 +1,6 @@
 -- The promise of each export is that of the function of its name in crates/kivdrag_c, as the toolchain has both from the source: the same facts
--- of the same arguments, result and parameters at exit. So what crates/calls shows of those functions holds of the exports. Assumes nothing.
+-- of the same arguments, result and parameters at exit. So what crates/calls shows of those functions holds of the exports. Stated over any `Logic`,
+-- as the contracts are; uses none of its laws.
 use mathlib.Core.Path.{◌≡◌, refl}
 use seplogic.Ra.Ura.{Ura}
 use base.Logic.{SProp}
