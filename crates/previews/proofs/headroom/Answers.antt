@@ -10,7 +10,6 @@ use Rattle.questions.proofs.Laws.Pairs.{pair_asked}
 use Rattle.book.proofs.Laws.PairSums.{refusal_told}
 use Rattle.previews.proofs.Laws.Headrooms.{headroom_left, headroom_refused, headroom_given}
 use Rattle.previews.proofs.Laws.Previews.{pair_held, own_in_both}
-use borrow.Author.Rules.{rules}
 use Rattle.previews.proofs.headroom.Goals as goal
 
 pub returns-then-present-ne0 : goal.returns-then-present-ne0
@@ -30,7 +29,9 @@ returns c =
     let passed : 0 ≡ pair_refusal c.args.clock (holds_book c.args.clock.ports (book_of c.args.slots.now c.args.rates.now)) c.args.input.0 c.args.output.0 = sym c.if-present-ne0.false ∙ told in
     let m = book_of c.args.slots.now c.args.rates.now in
     let r = pair_asked _ _ _ _ passed in
-    let p = pair_held c.args.clock m c.args.input.0 c.args.output.0 r _ c.pair_sums-present.ensures.result in record { result = headroom_given _ _ _ _ _ passed
-    (to_z-of_z w64 _ c.difference.ensures.fits
-    ∙ c.difference.ensures.result
-    ∙ headroom_left c.args.clock m c.args.input.0 c.args.output.0 _ _ _ r.output (ap (λ x. x.row) p) (ap (λ x. x.column) p) (ap (λ x. x.booking) p)) }
+    let p = pair_held c.args.clock m c.args.input.0 c.args.output.0 r _ c.pair_sums-present.ensures.result in record {
+      result = headroom_given _ _ _ _ _ passed
+          (to_z-of_z w64 _ c.difference.ensures.fits
+          ∙ c.difference.ensures.result
+          ∙ headroom_left c.args.clock m c.args.input.0 c.args.output.0 _ _ _ r.output (ap (λ x. x.row) p) (ap (λ x. x.column) p) (ap (λ x. x.booking) p));
+    }

@@ -10,7 +10,6 @@ use Rattle.wsgs.proofs.Preview.{none_shown, with_booking, book_shows}
 use Rattle.questions.proofs.Laws.Answers.{said_no, said_yes}
 use Rattle.book.specs.PairSums.{present_sums}
 use Rattle.previews.proofs.Laws.Previews.{Shown, sums_shown, sums_hidden, book_reached, pair_held, own_in_both, sums_with}
-use borrow.Author.Rules.{rules}
 use mathlib.Core.Bool.{not}
 use Rattle.previews.proofs.preview_book.Goals as goal
 
@@ -44,8 +43,10 @@ returns c =
     let sums : Shown c.book_refusal-number.result = sums_shown _ (said_yes c.shows_sums.ensures.result (ap not c.if-not-shows_sums.false)) in
     let reached : Reached c.args.clock (holds_book c.args.clock.ports (book_of c.args.slots.now c.args.rates.now)) c.args.input.0 c.args.output.0 × (c.args.amount.0 ≤ c.args.clock.frame) = book_reached c.args.clock (book_of c.args.slots.now c.args.rates.now) c.args.input.0 c.args.output.0 c.args.amount.0 _ c.book_refusal-number.ensures.result sums in
     let held : c.pair_sums-present.result ≡ present_sums c.args.clock (book_of c.args.slots.now c.args.rates.now) c.args.input.0 c.args.output.0 = pair_held _ _ _ _ reached.0 _ c.pair_sums-present.ensures.result in
-                    let m = book_of c.args.slots.now c.args.rates.now in
-    let r = reached.0 in record { result = c.with_booking.ensures.result
-    ∙ sums_with c.args.clock m c.args.input.0 c.args.output.0 r c.pair_sums-present.result c.pair_sums-present.ensures.result c.book_refusal-number.result _
-    ∙ ap (λ p. with_booking c.args.clock m c.args.input.0 c.args.output.0 c.book_refusal-number.result (p.booking + c.args.amount.0)) held
-    ∙ book_shows c.args.clock m c.args.input.0 c.args.output.0 r.input r.output c.args.amount.0 _ c.book_refusal-number.ensures.result sums }
+    let m = book_of c.args.slots.now c.args.rates.now in
+    let r = reached.0 in record {
+      result = c.with_booking.ensures.result
+          ∙ sums_with c.args.clock m c.args.input.0 c.args.output.0 r c.pair_sums-present.result c.pair_sums-present.ensures.result c.book_refusal-number.result _
+          ∙ ap (λ p. with_booking c.args.clock m c.args.input.0 c.args.output.0 c.book_refusal-number.result (p.booking + c.args.amount.0)) held
+          ∙ book_shows c.args.clock m c.args.input.0 c.args.output.0 r.input r.output c.args.amount.0 _ c.book_refusal-number.ensures.result sums;
+    }

@@ -11,7 +11,6 @@ use Rattle.questions.proofs.Laws.Answers.{said_no, said_yes}
 use Rattle.book.specs.PairSums.{present_sums}
 use Rattle.book.proofs.Laws.Amounts.{rises_by}
 use Rattle.previews.proofs.Laws.Previews.{Shown, sums_shown, sums_hidden, rate_reached, pair_held, own_in_both, sums_with}
-use borrow.Author.Rules.{rules}
 use mathlib.Core.Bool.{not}
 use Rattle.previews.proofs.preview_book_rate.Goals as goal
 
@@ -49,11 +48,13 @@ returns c =
     let sums : Shown c.rate_refusal-number.result = sums_shown _ (said_yes c.shows_sums.ensures.result (ap not c.if-not-shows_sums.false)) in
     let reached : Reached c.args.clock (holds_book c.args.clock.ports (book_of c.args.slots.now c.args.rates.now)) c.args.input.0 c.args.output.0 × (c.args.rate ≤ 100000000) = rate_reached c.args.clock (book_of c.args.slots.now c.args.rates.now) c.args.input.0 c.args.output.0 c.args.rate _ c.rate_refusal-number.ensures.result sums in
     let held : c.pair_sums-present.result ≡ present_sums c.args.clock (book_of c.args.slots.now c.args.rates.now) c.args.input.0 c.args.output.0 = pair_held _ _ _ _ reached.0 _ c.pair_sums-present.ensures.result in
-                            let m = book_of c.args.slots.now c.args.rates.now in
+    let m = book_of c.args.slots.now c.args.rates.now in
     let r = reached.0 in
-        let risen =
+    let risen =
     rises_by c.args.clock m c.args.input.0 c.args.output.0 c.args.rate _ _ _ r.frame.1
-    (c.slots_of-held.ensures.result ∙ ap (λ p. p.slots) held) (ap (λ p. p.rate) held) c.rise-more.ensures.result in record { result = c.with_booking.ensures.result
-    ∙ sums_with c.args.clock m c.args.input.0 c.args.output.0 r c.pair_sums-present.result c.pair_sums-present.ensures.result c.rate_refusal-number.result _
-    ∙ ap₂ (λ p d. with_booking c.args.clock m c.args.input.0 c.args.output.0 c.rate_refusal-number.result (p.booking + d)) held risen
-    ∙ rate_shows c.args.clock m c.args.input.0 c.args.output.0 r.input r.output c.args.rate _ c.rate_refusal-number.ensures.result sums }
+    (c.slots_of-held.ensures.result ∙ ap (λ p. p.slots) held) (ap (λ p. p.rate) held) c.rise-more.ensures.result in record {
+      result = c.with_booking.ensures.result
+          ∙ sums_with c.args.clock m c.args.input.0 c.args.output.0 r c.pair_sums-present.result c.pair_sums-present.ensures.result c.rate_refusal-number.result _
+          ∙ ap₂ (λ p d. with_booking c.args.clock m c.args.input.0 c.args.output.0 c.rate_refusal-number.result (p.booking + d)) held risen
+          ∙ rate_shows c.args.clock m c.args.input.0 c.args.output.0 r.input r.output c.args.rate _ c.rate_refusal-number.ensures.result sums;
+    }
