@@ -37,14 +37,14 @@ pub loop-buffer-preserved : goal.loop-buffer-preserved
 loop-buffer-preserved c =
     (
       so_far_more _ _ _ c.loop-buffer.invariant.0 (sym c.goes_on.ensures.answer ∙ c.loop-buffer-test.true) c.step-fed.ensures.outcome c.step-fed.ensures.taken,
-      c.step-fed.auto.1.1.0 ∙ c.loop-buffer.invariant.1,
-      c.step-fed.auto.1.1.1.1.0 ∙ c.loop-buffer.invariant.2,
-      c.step-fed.auto.1.1.1.1.1.0 ∙ c.loop-buffer.invariant.3,
-      c.step-fed.auto.1.1.1.1.1.1.0 ∙ c.loop-buffer.invariant.4,
-      c.step-fed.auto.1.1.1.1.1.1.1.0 ∙ c.loop-buffer.invariant.5,
-      c.step-fed.auto.1.1.1.1.1.1.1.1.0 ∙ c.loop-buffer.invariant.6,
-      c.step-fed.auto.1.1.1.1.1.1.1.1.1.0 ∙ c.loop-buffer.invariant.7,
-      c.step-fed.auto.1.1.1.1.1.1.1.1.1.1.0 ∙ c.loop-buffer.invariant.8,
+      c.step-fed.auto.buffer ∙ c.loop-buffer.invariant.1,
+      c.step-fed.auto.slots ∙ c.loop-buffer.invariant.2,
+      c.step-fed.auto.rates ∙ c.loop-buffer.invariant.3,
+      c.step-fed.auto.credits ∙ c.loop-buffer.invariant.4,
+      c.step-fed.auto.queues ∙ c.loop-buffer.invariant.5,
+      c.step-fed.auto.given ∙ c.loop-buffer.invariant.6,
+      c.step-fed.auto.copy ∙ c.loop-buffer.invariant.7,
+      c.step-fed.auto.flight ∙ c.loop-buffer.invariant.8,
     )
 
 pub shape_of-buffer : goal.shape_of-buffer
