@@ -1,5 +1,4 @@
 -- A record, by what it reads as.
-use borrow.Author.Rules.{rules}
 use Rattle.wsgs.specs.Program.{obey}
 use Rattle.machine.proofs.obey.Goals as goal
 

@@ -1,5 +1,4 @@
 -- A request, by its operation.
-use borrow.Author.Rules.{rules}
 use Rattle.machine.proofs.calls.obey_request.Goals as goal
 
 pub returns-in-Start : goal.returns-in-Start
