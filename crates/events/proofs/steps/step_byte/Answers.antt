@@ -1,6 +1,5 @@
 -- A byte of the block.
 use native.Mathlib.Omega.{arith}
-use borrow.Author.Rules.{rules}
 use Rattle.events.proofs.steps.step_byte.Goals as goal
 
 pub overflow_add-result : goal.overflow_add-result
