@@ -7,7 +7,6 @@ use Rattle.wsgs.proofs.Rises.{slots_word_fits}
 use Rattle.book.proofs.Laws.Reach.{slots_pair}
 use Rattle.wsgs.specs.Book.{book_refusal, book_words}
 use Rattle.book.proofs.Laws.Calls.{kept, done}
-use borrow.Author.Rules.{rules}
 use Rattle.book.proofs.book.Goals as goal
 
 pub returns-then-refusal-ne0 : goal.returns-then-refusal-ne0
@@ -17,8 +16,8 @@ returns-then-refusal-ne0 c =
 
 pub add_to_word-requires : goal.add_to_word-requires
 add_to_word-requires c =
-    let accepted :  0 ≡ book_refusal c.args.clock (book_of c.args.slots.now c.args.rates.now) c.args.input.0 c.args.output.0 c.args.amount.0 = sym c.if-refusal-ne0.false ∙ c.book_refusal-refusal.ensures.result in
-                let m = book_of c.args.slots.now c.args.rates.now in record {
+    let accepted : 0 ≡ book_refusal c.args.clock (book_of c.args.slots.now c.args.rates.now) c.args.input.0 c.args.output.0 c.args.amount.0 = sym c.if-refusal-ne0.false ∙ c.book_refusal-refusal.ensures.result in
+    let m = book_of c.args.slots.now c.args.rates.now in record {
       pair_fits = slots_pair c.args.clock m c.args.input.0 c.args.output.0 ((book_asks c.args.clock m c.args.input.0 c.args.output.0 c.args.amount.0).0 (sym accepted)).1.reach;
       sum_fits = omega (arith, slots_word_fits c.args.clock m c.args.input.0 c.args.output.0 c.args.amount.0 (sym accepted));
     }
@@ -26,5 +25,5 @@ add_to_word-requires c =
 pub returns : goal.returns
 unfolding book_words
 returns c =
-    let accepted :  0 ≡ book_refusal c.args.clock (book_of c.args.slots.now c.args.rates.now) c.args.input.0 c.args.output.0 c.args.amount.0 = sym c.if-refusal-ne0.false ∙ c.book_refusal-refusal.ensures.result in
-     record { outcome = rw c.add_to_word.ensures.run_exit (done _ _ _ accepted) }
+    let accepted : 0 ≡ book_refusal c.args.clock (book_of c.args.slots.now c.args.rates.now) c.args.input.0 c.args.output.0 c.args.amount.0 = sym c.if-refusal-ne0.false ∙ c.book_refusal-refusal.ensures.result in
+    record { outcome = rw c.add_to_word.ensures.run_exit (done _ _ _ accepted) }

@@ -6,7 +6,6 @@ use Rattle.wsgs.proofs.Refusals.{release_rate_asked}
 use Rattle.book.proofs.Laws.Reach.{rates_pair}
 use Rattle.wsgs.specs.Book.{release_rate_refusal, release_rate_words}
 use Rattle.book.proofs.Laws.Calls.{kept, done}
-use borrow.Author.Rules.{rules}
 use Rattle.book.proofs.release_rate.Goals as goal
 
 pub returns-then-refusal-ne0 : goal.returns-then-refusal-ne0
@@ -16,8 +15,8 @@ returns-then-refusal-ne0 c =
 
 pub take_off_word-requires : goal.take_off_word-requires
 take_off_word-requires c =
-    let accepted :  0 ≡ release_rate_refusal c.args.clock (book_of c.args.slots.now c.args.rates.now) c.args.input.0 c.args.output.0 c.args.rate = sym c.if-refusal-ne0.false ∙ c.release_rate_refusal-refusal.ensures.result in
-                let m = book_of c.args.slots.now c.args.rates.now in
+    let accepted : 0 ≡ release_rate_refusal c.args.clock (book_of c.args.slots.now c.args.rates.now) c.args.input.0 c.args.output.0 c.args.rate = sym c.if-refusal-ne0.false ∙ c.release_rate_refusal-refusal.ensures.result in
+    let m = book_of c.args.slots.now c.args.rates.now in
     let q = release_rate_asked c.args.clock m c.args.input.0 c.args.output.0 c.args.rate (sym accepted) in record {
       pair_fits = rates_pair c.args.clock m c.args.input.0 c.args.output.0 q.0;
       held = omega (arith, q.1);
@@ -26,5 +25,5 @@ take_off_word-requires c =
 pub returns : goal.returns
 unfolding release_rate_words
 returns c =
-    let accepted :  0 ≡ release_rate_refusal c.args.clock (book_of c.args.slots.now c.args.rates.now) c.args.input.0 c.args.output.0 c.args.rate = sym c.if-refusal-ne0.false ∙ c.release_rate_refusal-refusal.ensures.result in
-     record { outcome = rw c.take_off_word.ensures.run_exit (done _ _ _ accepted) }
+    let accepted : 0 ≡ release_rate_refusal c.args.clock (book_of c.args.slots.now c.args.rates.now) c.args.input.0 c.args.output.0 c.args.rate = sym c.if-refusal-ne0.false ∙ c.release_rate_refusal-refusal.ensures.result in
+    record { outcome = rw c.take_off_word.ensures.run_exit (done _ _ _ accepted) }

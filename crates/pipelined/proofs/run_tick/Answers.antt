@@ -5,13 +5,19 @@ use Rattle.pipelined.proofs.run_tick.Goals as goal
 
 pub all_turns-requires : goal.all_turns-requires
 all_turns-requires c =
-    omega (arith, c.requires.runs_fit, c.look_ahead-ahead.ensures.ahead)
-    -- LEFT: the fields are ['runs_fit', 'row_one', 'row_two']
+    record {
+      runs_fit = omega (arith, c.requires.runs_fit, c.look_ahead-ahead.ensures.ahead);
+      row_one = omega (arith, c.requires.runs_fit, c.look_ahead-ahead.ensures.ahead);
+      row_two = omega (arith, c.requires.runs_fit, c.look_ahead-ahead.ensures.ahead);
+    }
 
 pub hand_out-requires : goal.hand_out-requires
 hand_out-requires c =
-    omega (arith, c.requires.some_port, c.requires.runs_fit.ports, c.requires.runs_fit.flight)
-    -- LEFT: the fields are ['some_port', 'few_ports', 'flight_fits']
+    record {
+      some_port = omega (arith, c.requires.some_port);
+      few_ports = omega (arith, c.requires.runs_fit.ports);
+      flight_fits = omega (arith, c.requires.runs_fit.flight);
+    }
 
 pub returns : goal.returns
 returns c =

@@ -10,33 +10,28 @@ use Rattle.questions.proofs.Laws.Pairs.{pair_asked}
 use Rattle.book.proofs.Laws.PairSums.{refusal_told}
 use Rattle.previews.proofs.Laws.Headrooms.{headroom_left, headroom_refused, headroom_given}
 use Rattle.previews.proofs.Laws.Previews.{pair_held, own_in_both}
-use borrow.Author.Rules.{rules}
 use Rattle.previews.proofs.headroom.Goals as goal
-
--- LEFT told : (c : tie.After-pair-sums)
--- LEFT     → let a = (start c).args in
--- LEFT     c.pair_sums.result.refusal
--- LEFT     ≡ pair_refusal a.clock (holds_book a.clock.ports (book_of a.slots.now a.rates.now)) a.input.0 a.output.0
--- LEFT told c = ap (λ p. p.refusal) c.pair_sums.ensures.0 ∙ refusal_told _ _ _ _
-
--- LEFT passed : (c : tie.Else1)
--- LEFT     → let a = (start (found c)).args in
--- LEFT     0 ≡ pair_refusal a.clock (holds_book a.clock.ports (book_of a.slots.now a.rates.now)) a.input.0 a.output.0
--- LEFT passed c = sym c.if1.false ∙ told (found c)
 
 pub returns-then-present-ne0 : goal.returns-then-present-ne0
 returns-then-present-ne0 c =
-    record { result = headroom_refused _ _ _ _ _ (told c) c.if-present-ne0.true }
+    let told : c.pair_sums-present.result.refusal ≡ pair_refusal c.args.clock (holds_book c.args.clock.ports (book_of c.args.slots.now c.args.rates.now)) c.args.input.0 c.args.output.0 = ap (λ p. p.refusal) c.pair_sums-present.ensures.result ∙ refusal_told _ _ _ _ in
+    record { result = headroom_refused _ _ _ _ _ told c.if-present-ne0.true }
 
 pub overflow_sub-taken : goal.overflow_sub-taken
 overflow_sub-taken c =
-    omega (arith, (own_in_both _ _ _ _ (pair_asked _ _ _ _ (passed c)) _ c.pair_sums-present.ensures.result).0)
+    let told : c.pair_sums-present.result.refusal ≡ pair_refusal c.args.clock (holds_book c.args.clock.ports (book_of c.args.slots.now c.args.rates.now)) c.args.input.0 c.args.output.0 = ap (λ p. p.refusal) c.pair_sums-present.ensures.result ∙ refusal_told _ _ _ _ in
+    let passed : 0 ≡ pair_refusal c.args.clock (holds_book c.args.clock.ports (book_of c.args.slots.now c.args.rates.now)) c.args.input.0 c.args.output.0 = sym c.if-present-ne0.false ∙ told in
+    omega (arith, (own_in_both _ _ _ _ (pair_asked _ _ _ _ passed) _ c.pair_sums-present.ensures.result).0)
 
 pub returns : goal.returns
 returns c =
+    let told : c.pair_sums-present.result.refusal ≡ pair_refusal c.args.clock (holds_book c.args.clock.ports (book_of c.args.slots.now c.args.rates.now)) c.args.input.0 c.args.output.0 = ap (λ p. p.refusal) c.pair_sums-present.ensures.result ∙ refusal_told _ _ _ _ in
+    let passed : 0 ≡ pair_refusal c.args.clock (holds_book c.args.clock.ports (book_of c.args.slots.now c.args.rates.now)) c.args.input.0 c.args.output.0 = sym c.if-present-ne0.false ∙ told in
     let m = book_of c.args.slots.now c.args.rates.now in
-    let r = pair_asked _ _ _ _ (passed c) in
-    let p = pair_held c.args.clock m c.args.input.0 c.args.output.0 r _ c.pair_sums-present.ensures.result in record { result = headroom_given _ _ _ _ _ (passed c)
-    (to_z-of_z w64 _ c.difference.ensures.fits
-    ∙ c.difference.ensures.result
-    ∙ headroom_left c.args.clock m c.args.input.0 c.args.output.0 _ _ _ r.output (ap (λ x. x.row) p) (ap (λ x. x.column) p) (ap (λ x. x.booking) p)) }
+    let r = pair_asked _ _ _ _ passed in
+    let p = pair_held c.args.clock m c.args.input.0 c.args.output.0 r _ c.pair_sums-present.ensures.result in record {
+      result = headroom_given _ _ _ _ _ passed
+          (to_z-of_z w64 _ c.difference.ensures.fits
+          ∙ c.difference.ensures.result
+          ∙ headroom_left c.args.clock m c.args.input.0 c.args.output.0 _ _ _ r.output (ap (λ x. x.row) p) (ap (λ x. x.column) p) (ap (λ x. x.booking) p));
+    }

@@ -10,21 +10,8 @@ use Rattle.wsgs.proofs.Preview.{none_shown, with_booking, book_shows}
 use Rattle.questions.proofs.Laws.Answers.{said_no, said_yes}
 use Rattle.book.specs.PairSums.{present_sums}
 use Rattle.previews.proofs.Laws.Previews.{Shown, sums_shown, sums_hidden, book_reached, pair_held, own_in_both, sums_with}
-use borrow.Author.Rules.{rules}
 use mathlib.Core.Bool.{not}
 use Rattle.previews.proofs.preview_book.Goals as goal
-
--- LEFT reached : (c : tie.Else1)
--- LEFT     → let a = (start c).args in
--- LEFT     Reached a.clock (holds_book a.clock.ports (book_of a.slots.now a.rates.now)) a.input.0 a.output.0 × (a.amount.0 ≤ a.clock.frame)
--- LEFT reached c =
--- LEFT     let a = (start c).args in
--- LEFT     book_reached a.clock (book_of a.slots.now a.rates.now) a.input.0 a.output.0 a.amount.0 _ c.before.before.book_refusal.ensures (sums c)
-
--- LEFT held : (c : tie.After-pair-sums)
--- LEFT     → let a = (start c.before).args in
--- LEFT     c.pair_sums.result ≡ present_sums a.clock (book_of a.slots.now a.rates.now) a.input.0 a.output.0
--- LEFT held c = pair_held _ _ _ _ (reached c.before).0 _ c.pair_sums.ensures.0
 
 pub returns-then-not-shows_sums : goal.returns-then-not-shows_sums
 unfolding operation_effect
@@ -33,12 +20,16 @@ returns-then-not-shows_sums c =
 
 pub overflow_add-raised : goal.overflow_add-raised
 overflow_add-raised c =
-    let r = reached c in
+    let sums : Shown c.book_refusal-number.result = sums_shown _ (said_yes c.shows_sums.ensures.result (ap not c.if-not-shows_sums.false)) in
+    let reached : Reached c.args.clock (holds_book c.args.clock.ports (book_of c.args.slots.now c.args.rates.now)) c.args.input.0 c.args.output.0 × (c.args.amount.0 ≤ c.args.clock.frame) = book_reached c.args.clock (book_of c.args.slots.now c.args.rates.now) c.args.input.0 c.args.output.0 c.args.amount.0 _ c.book_refusal-number.ensures.result sums in
+    let r = reached in
     omega (arith, r.1, r.0.frame, (own_in_both _ _ _ _ r.0 _ c.pair_sums-present.ensures.result).0, c.pair_sums-present.ensures.row_fits)
 
 pub with_booking-requires : goal.with_booking-requires
 with_booking-requires c =
-    let r = reached c in
+    let sums : Shown c.book_refusal-number.result = sums_shown _ (said_yes c.shows_sums.ensures.result (ap not c.if-not-shows_sums.false)) in
+    let reached : Reached c.args.clock (holds_book c.args.clock.ports (book_of c.args.slots.now c.args.rates.now)) c.args.input.0 c.args.output.0 × (c.args.amount.0 ≤ c.args.clock.frame) = book_reached c.args.clock (book_of c.args.slots.now c.args.rates.now) c.args.input.0 c.args.output.0 c.args.amount.0 _ c.book_refusal-number.ensures.result sums in
+    let r = reached in
     let o = own_in_both _ _ _ _ r.0 _ c.pair_sums-present.ensures.result in record {
       own_in_row = o.0;
       own_in_column = o.1;
@@ -50,8 +41,12 @@ with_booking-requires c =
 pub returns : goal.returns
 returns c =
     let sums : Shown c.book_refusal-number.result = sums_shown _ (said_yes c.shows_sums.ensures.result (ap not c.if-not-shows_sums.false)) in
-                    let m = book_of c.args.slots.now c.args.rates.now in
-    let r = (reached c).0 in record { result = c.with_booking.ensures.result
-    ∙ sums_with c.args.clock m c.args.input.0 c.args.output.0 r c.pair_sums-present.result c.pair_sums-present.ensures.result c.book_refusal-number.result _
-    ∙ ap (λ p. with_booking c.args.clock m c.args.input.0 c.args.output.0 c.book_refusal-number.result (p.booking + c.args.amount.0)) (held c)
-    ∙ book_shows c.args.clock m c.args.input.0 c.args.output.0 r.input r.output c.args.amount.0 _ c.book_refusal-number.ensures.result sums }
+    let reached : Reached c.args.clock (holds_book c.args.clock.ports (book_of c.args.slots.now c.args.rates.now)) c.args.input.0 c.args.output.0 × (c.args.amount.0 ≤ c.args.clock.frame) = book_reached c.args.clock (book_of c.args.slots.now c.args.rates.now) c.args.input.0 c.args.output.0 c.args.amount.0 _ c.book_refusal-number.ensures.result sums in
+    let held : c.pair_sums-present.result ≡ present_sums c.args.clock (book_of c.args.slots.now c.args.rates.now) c.args.input.0 c.args.output.0 = pair_held _ _ _ _ reached.0 _ c.pair_sums-present.ensures.result in
+    let m = book_of c.args.slots.now c.args.rates.now in
+    let r = reached.0 in record {
+      result = c.with_booking.ensures.result
+          ∙ sums_with c.args.clock m c.args.input.0 c.args.output.0 r c.pair_sums-present.result c.pair_sums-present.ensures.result c.book_refusal-number.result _
+          ∙ ap (λ p. with_booking c.args.clock m c.args.input.0 c.args.output.0 c.book_refusal-number.result (p.booking + c.args.amount.0)) held
+          ∙ book_shows c.args.clock m c.args.input.0 c.args.output.0 r.input r.output c.args.amount.0 _ c.book_refusal-number.ensures.result sums;
+    }

@@ -11,21 +11,8 @@ use Rattle.questions.proofs.Laws.Answers.{said_no, said_yes}
 use Rattle.book.specs.PairSums.{present_sums}
 use Rattle.book.proofs.Laws.Amounts.{rises_by}
 use Rattle.previews.proofs.Laws.Previews.{Shown, sums_shown, sums_hidden, rate_reached, pair_held, own_in_both, sums_with}
-use borrow.Author.Rules.{rules}
 use mathlib.Core.Bool.{not}
 use Rattle.previews.proofs.preview_book_rate.Goals as goal
-
--- LEFT reached : (c : tie.Else1)
--- LEFT     → let a = (start c).args in
--- LEFT     Reached a.clock (holds_book a.clock.ports (book_of a.slots.now a.rates.now)) a.input.0 a.output.0 × (a.rate ≤ 100000000)
--- LEFT reached c =
--- LEFT     let a = (start c).args in
--- LEFT     rate_reached a.clock (book_of a.slots.now a.rates.now) a.input.0 a.output.0 a.rate _ c.before.before.rate_refusal.ensures (sums c)
-
--- LEFT held : (c : tie.After-pair-sums)
--- LEFT     → let a = (start c.before).args in
--- LEFT     c.pair_sums.result ≡ present_sums a.clock (book_of a.slots.now a.rates.now) a.input.0 a.output.0
--- LEFT held c = pair_held _ _ _ _ (reached c.before).0 _ c.pair_sums.ensures.0
 
 pub returns-then-not-shows_sums : goal.returns-then-not-shows_sums
 unfolding operation_effect
@@ -34,15 +21,21 @@ returns-then-not-shows_sums c =
 
 pub overflow_cast-rate : goal.overflow_cast-rate
 overflow_cast-rate c =
-    omega (arith, (reached c).1)
+    let sums : Shown c.rate_refusal-number.result = sums_shown _ (said_yes c.shows_sums.ensures.result (ap not c.if-not-shows_sums.false)) in
+    let reached : Reached c.args.clock (holds_book c.args.clock.ports (book_of c.args.slots.now c.args.rates.now)) c.args.input.0 c.args.output.0 × (c.args.rate ≤ 100000000) = rate_reached c.args.clock (book_of c.args.slots.now c.args.rates.now) c.args.input.0 c.args.output.0 c.args.rate _ c.rate_refusal-number.ensures.result sums in
+    omega (arith, reached.1)
 
 pub overflow_add-risen : goal.overflow_add-risen
 overflow_add-risen c =
-    omega (arith, (own_in_both _ _ _ _ (reached c).0 _ c.pair_sums-present.ensures.result).0, c.pair_sums-present.ensures.row_fits, c.rise-more.ensures.fits)
+    let sums : Shown c.rate_refusal-number.result = sums_shown _ (said_yes c.shows_sums.ensures.result (ap not c.if-not-shows_sums.false)) in
+    let reached : Reached c.args.clock (holds_book c.args.clock.ports (book_of c.args.slots.now c.args.rates.now)) c.args.input.0 c.args.output.0 × (c.args.rate ≤ 100000000) = rate_reached c.args.clock (book_of c.args.slots.now c.args.rates.now) c.args.input.0 c.args.output.0 c.args.rate _ c.rate_refusal-number.ensures.result sums in
+    omega (arith, (own_in_both _ _ _ _ reached.0 _ c.pair_sums-present.ensures.result).0, c.pair_sums-present.ensures.row_fits, c.rise-more.ensures.fits)
 
 pub with_booking-requires : goal.with_booking-requires
 with_booking-requires c =
-    let o = own_in_both _ _ _ _ (reached c).0 _ c.pair_sums-present.ensures.result in record {
+    let sums : Shown c.rate_refusal-number.result = sums_shown _ (said_yes c.shows_sums.ensures.result (ap not c.if-not-shows_sums.false)) in
+    let reached : Reached c.args.clock (holds_book c.args.clock.ports (book_of c.args.slots.now c.args.rates.now)) c.args.input.0 c.args.output.0 × (c.args.rate ≤ 100000000) = rate_reached c.args.clock (book_of c.args.slots.now c.args.rates.now) c.args.input.0 c.args.output.0 c.args.rate _ c.rate_refusal-number.ensures.result sums in
+    let o = own_in_both _ _ _ _ reached.0 _ c.pair_sums-present.ensures.result in record {
       own_in_row = o.0;
       own_in_column = o.1;
       row_fits = c.pair_sums-present.ensures.row_fits;
@@ -53,11 +46,15 @@ with_booking-requires c =
 pub returns : goal.returns
 returns c =
     let sums : Shown c.rate_refusal-number.result = sums_shown _ (said_yes c.shows_sums.ensures.result (ap not c.if-not-shows_sums.false)) in
-                            let m = book_of c.args.slots.now c.args.rates.now in
-    let r = (reached c).0 in
-        let risen =
+    let reached : Reached c.args.clock (holds_book c.args.clock.ports (book_of c.args.slots.now c.args.rates.now)) c.args.input.0 c.args.output.0 × (c.args.rate ≤ 100000000) = rate_reached c.args.clock (book_of c.args.slots.now c.args.rates.now) c.args.input.0 c.args.output.0 c.args.rate _ c.rate_refusal-number.ensures.result sums in
+    let held : c.pair_sums-present.result ≡ present_sums c.args.clock (book_of c.args.slots.now c.args.rates.now) c.args.input.0 c.args.output.0 = pair_held _ _ _ _ reached.0 _ c.pair_sums-present.ensures.result in
+    let m = book_of c.args.slots.now c.args.rates.now in
+    let r = reached.0 in
+    let risen =
     rises_by c.args.clock m c.args.input.0 c.args.output.0 c.args.rate _ _ _ r.frame.1
-    (c.slots_of-held.ensures.result ∙ ap (λ p. p.slots) (held c)) (ap (λ p. p.rate) (held c)) c.rise-more.ensures.result in record { result = c.with_booking.ensures.result
-    ∙ sums_with c.args.clock m c.args.input.0 c.args.output.0 r c.pair_sums-present.result c.pair_sums-present.ensures.result c.rate_refusal-number.result _
-    ∙ ap₂ (λ p d. with_booking c.args.clock m c.args.input.0 c.args.output.0 c.rate_refusal-number.result (p.booking + d)) (held c) risen
-    ∙ rate_shows c.args.clock m c.args.input.0 c.args.output.0 r.input r.output c.args.rate _ c.rate_refusal-number.ensures.result sums }
+    (c.slots_of-held.ensures.result ∙ ap (λ p. p.slots) held) (ap (λ p. p.rate) held) c.rise-more.ensures.result in record {
+      result = c.with_booking.ensures.result
+          ∙ sums_with c.args.clock m c.args.input.0 c.args.output.0 r c.pair_sums-present.result c.pair_sums-present.ensures.result c.rate_refusal-number.result _
+          ∙ ap₂ (λ p d. with_booking c.args.clock m c.args.input.0 c.args.output.0 c.rate_refusal-number.result (p.booking + d)) held risen
+          ∙ rate_shows c.args.clock m c.args.input.0 c.args.output.0 r.input r.output c.args.rate _ c.rate_refusal-number.ensures.result sums;
+    }

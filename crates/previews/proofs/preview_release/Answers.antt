@@ -13,33 +13,8 @@ use Rattle.questions.proofs.Laws.Answers.{said_no, said_yes}
 use Rattle.book.specs.PairSums.{present_sums}
 use Rattle.previews.proofs.Laws.Previews.{sums_shown, sums_hidden, shown_none, pair_held, own_in_both, sums_with}
 use Rattle.wsgs.proofs.Preview.{none_shown, with_booking, release_shows}
-use borrow.Author.Rules.{rules}
 use mathlib.Core.Bool.{not}
 use Rattle.previews.proofs.preview_release.Goals as goal
-
--- LEFT accepted : (c : tie.Else1)
--- LEFT     → let a = (start c).args in
--- LEFT     (c.before.before.release_refusal.result ≡ 0) × (0 ≡ release_refusal a.clock (book_of a.slots.now a.rates.now) a.input.0 a.output.0 a.amount.0)
--- LEFT accepted c =
--- LEFT     let k = c.before in
--- LEFT     let a = (start c).args in
--- LEFT     let r = k.before.release_refusal.ensures in
--- LEFT     let h = release_never a.clock (book_of a.slots.now a.rates.now) a.input.0 a.output.0 a.amount.0 in
--- LEFT     let z = shown_none _ (λ e. h (subst RefusedByRule r e)) (sums_shown _ (said_yes k.shows_sums.ensures c.if1.false)) in
--- LEFT     (z, sym z ∙ r)
-
--- LEFT reached : (c : tie.Else1)
--- LEFT     → let a = (start c).args in
--- LEFT     Reached a.clock (holds_book a.clock.ports (book_of a.slots.now a.rates.now)) a.input.0 a.output.0
--- LEFT     × (a.amount.0 ≤ word a.clock.ports a.slots.now a.input.0 a.output.0)
--- LEFT reached c =
--- LEFT     let a = (start c).args in
--- LEFT     release_asked a.clock (book_of a.slots.now a.rates.now) a.input.0 a.output.0 a.amount.0 (sym (accepted c).1)
-
--- LEFT held : (c : tie.After-pair-sums)
--- LEFT     → let a = (start c.before).args in
--- LEFT     c.pair_sums.result ≡ present_sums a.clock (book_of a.slots.now a.rates.now) a.input.0 a.output.0
--- LEFT held c = pair_held _ _ _ _ (reached c.before).0 _ c.pair_sums.ensures.0
 
 pub returns-then-not-shows_sums : goal.returns-then-not-shows_sums
 unfolding operation_effect
@@ -48,11 +23,22 @@ returns-then-not-shows_sums c =
 
 pub overflow_sub-fewer : goal.overflow_sub-fewer
 overflow_sub-fewer c =
-    omega (arith, (reached c).1, ap (λ p. p.slots) (held c))
+    let accepted : (c.release_refusal-number.result ≡ 0) × (0 ≡ release_refusal c.args.clock (book_of c.args.slots.now c.args.rates.now) c.args.input.0 c.args.output.0 c.args.amount.0) =
+    let h = release_never c.args.clock (book_of c.args.slots.now c.args.rates.now) c.args.input.0 c.args.output.0 c.args.amount.0 in
+    let z = shown_none _ (λ e. h (subst RefusedByRule c.release_refusal-number.ensures.result e)) (sums_shown _ (said_yes c.shows_sums.ensures.result (ap not c.if-not-shows_sums.false))) in
+    (z, sym z ∙ c.release_refusal-number.ensures.result) in
+    let reached : Reached c.args.clock (holds_book c.args.clock.ports (book_of c.args.slots.now c.args.rates.now)) c.args.input.0 c.args.output.0 × (c.args.amount.0 ≤ word c.args.clock.ports c.args.slots.now c.args.input.0 c.args.output.0) = release_asked c.args.clock (book_of c.args.slots.now c.args.rates.now) c.args.input.0 c.args.output.0 c.args.amount.0 (sym accepted.1) in
+    let held : c.pair_sums-present.result ≡ present_sums c.args.clock (book_of c.args.slots.now c.args.rates.now) c.args.input.0 c.args.output.0 = pair_held _ _ _ _ reached.0 _ c.pair_sums-present.ensures.result in
+    omega (arith, reached.1, ap (λ p. p.slots) held)
 
 pub with_booking-requires : goal.with_booking-requires
 with_booking-requires c =
-    let o = own_in_both _ _ _ _ (reached c).0 _ c.pair_sums-present.ensures.result in record {
+    let accepted : (c.release_refusal-number.result ≡ 0) × (0 ≡ release_refusal c.args.clock (book_of c.args.slots.now c.args.rates.now) c.args.input.0 c.args.output.0 c.args.amount.0) =
+    let h = release_never c.args.clock (book_of c.args.slots.now c.args.rates.now) c.args.input.0 c.args.output.0 c.args.amount.0 in
+    let z = shown_none _ (λ e. h (subst RefusedByRule c.release_refusal-number.ensures.result e)) (sums_shown _ (said_yes c.shows_sums.ensures.result (ap not c.if-not-shows_sums.false))) in
+    (z, sym z ∙ c.release_refusal-number.ensures.result) in
+    let reached : Reached c.args.clock (holds_book c.args.clock.ports (book_of c.args.slots.now c.args.rates.now)) c.args.input.0 c.args.output.0 × (c.args.amount.0 ≤ word c.args.clock.ports c.args.slots.now c.args.input.0 c.args.output.0) = release_asked c.args.clock (book_of c.args.slots.now c.args.rates.now) c.args.input.0 c.args.output.0 c.args.amount.0 (sym accepted.1) in
+    let o = own_in_both _ _ _ _ reached.0 _ c.pair_sums-present.ensures.result in record {
       own_in_row = o.0;
       own_in_column = o.1;
       row_fits = c.pair_sums-present.ensures.row_fits;
@@ -62,10 +48,18 @@ with_booking-requires c =
 
 pub returns : goal.returns
 returns c =
+    let accepted : (c.release_refusal-number.result ≡ 0) × (0 ≡ release_refusal c.args.clock (book_of c.args.slots.now c.args.rates.now) c.args.input.0 c.args.output.0 c.args.amount.0) =
+    let h = release_never c.args.clock (book_of c.args.slots.now c.args.rates.now) c.args.input.0 c.args.output.0 c.args.amount.0 in
+    let z = shown_none _ (λ e. h (subst RefusedByRule c.release_refusal-number.ensures.result e)) (sums_shown _ (said_yes c.shows_sums.ensures.result (ap not c.if-not-shows_sums.false))) in
+    (z, sym z ∙ c.release_refusal-number.ensures.result) in
+    let reached : Reached c.args.clock (holds_book c.args.clock.ports (book_of c.args.slots.now c.args.rates.now)) c.args.input.0 c.args.output.0 × (c.args.amount.0 ≤ word c.args.clock.ports c.args.slots.now c.args.input.0 c.args.output.0) = release_asked c.args.clock (book_of c.args.slots.now c.args.rates.now) c.args.input.0 c.args.output.0 c.args.amount.0 (sym accepted.1) in
+    let held : c.pair_sums-present.result ≡ present_sums c.args.clock (book_of c.args.slots.now c.args.rates.now) c.args.input.0 c.args.output.0 = pair_held _ _ _ _ reached.0 _ c.pair_sums-present.ensures.result in
     let m = book_of c.args.slots.now c.args.rates.now in
-    let r = (reached c).0 in
-    let z = accepted c in
-    let left = c.booking-left.ensures.result ∙ ap₂ (booking c.args.clock.frame c.args.clock.line) (ap (λ p. p.slots - c.args.amount.0) (held c)) (ap (λ p. p.rate) (held c)) in record { result = c.with_booking.ensures.result
-    ∙ sums_with c.args.clock m c.args.input.0 c.args.output.0 r c.pair_sums-present.result c.pair_sums-present.ensures.result _ _
-    ∙ ap₂ (with_booking c.args.clock m c.args.input.0 c.args.output.0) z.0 left
-    ∙ release_shows c.args.clock m c.args.input.0 c.args.output.0 r.input r.output c.args.amount.0 z.1 }
+    let r = reached.0 in
+    let z = accepted in
+    let left = c.booking-left.ensures.result ∙ ap₂ (booking c.args.clock.frame c.args.clock.line) (ap (λ p. p.slots - c.args.amount.0) held) (ap (λ p. p.rate) held) in record {
+      result = c.with_booking.ensures.result
+          ∙ sums_with c.args.clock m c.args.input.0 c.args.output.0 r c.pair_sums-present.result c.pair_sums-present.ensures.result _ _
+          ∙ ap₂ (with_booking c.args.clock m c.args.input.0 c.args.output.0) z.0 left
+          ∙ release_shows c.args.clock m c.args.input.0 c.args.output.0 r.input r.output c.args.amount.0 z.1;
+    }

@@ -1,14 +1,9 @@
 -- `turns::first_requests` meets its contract: where the input has a turn and a credit, the sweep gives what it asks for. Assumes nothing.
-use Prim.Native.Nat.{ℕ}
 use mathlib.Core.Path.{◌≡◌, sym, ◌∙◌}
 use mathlib.Core.Bool.{false, ◌&&◌}
-use mathlib.Core.Logic.{inl, inr}
 use native.Mathlib.Omega.{arith}
-use borrow.Author.Rules.{rules}
-use borrow.Author.Tests.{not-true}
 use lib.ListN.{length}
-use Rattle.turns.specs.Masks.{ready_mask}
-use Rattle.turns.specs.Requests.{has_turn, first_requested}
+use Rattle.turns.specs.Requests.{has_turn}
 use Rattle.turns.proofs.Ready.{ready_at, ready_pairs, nothing_ready}
 use Rattle.turns.proofs.TurnLaws.{Turn, due, is_due, not_due, row_there, with_turn, without_turn, both_yes, first_no, second_no}
 use mathlib.Core.Path.{ap}
@@ -19,19 +14,19 @@ use Rattle.turns.proofs.first_requests.Goals.{then-not-has_turn-via-then-not-has
 pub returns-then-not-has_turn : goal.returns-then-not-has_turn
 returns-then-not-has_turn c =
     let none : (has_turn c.args.ports c.args.input.0 (length c.args.credits.now) && has_turn c.args.ports c.args.input.0 (length c.args.queues.now)) ≡ false
-        = elim c.then-not-has_turn.branch [
-            | then-not-has_turn-via-then-not-has_turn w ↦ first_no _ (not_due _ _ _ c.has_turn.ensures.tested (ap not w.if-not-has_turn.true))
-            | then-not-has_turn-via-else-not-has_turn+then-not-has_turn-2 w ↦
-                second_no (has_turn c.args.ports c.args.input.0 (length c.args.credits.now))
-                (not_due _ _ _ w.has_turn-else-not-has_turn.ensures.tested (ap not w.if-not-has_turn-2.true))
-          ]
+    = elim c.then-not-has_turn.branch [
+      | then-not-has_turn-via-then-not-has_turn w ↦ first_no _ (not_due _ _ _ c.has_turn.ensures.tested (ap not w.if-not-has_turn.true))
+      | then-not-has_turn-via-else-not-has_turn+then-not-has_turn-2 w ↦
+          second_no (has_turn c.args.ports c.args.input.0 (length c.args.credits.now))
+          (not_due _ _ _ w.has_turn-else-not-has_turn.ensures.tested (ap not w.if-not-has_turn-2.true))
+    ]
     in
     record { asked = without_turn _ none }
 
 pub has_credit-requires : goal.has_credit-requires
 has_credit-requires c =
-    let by-credits :  Turn c.args.ports c.args.input.0 c.args.credits.now = due _ _ _ c.has_turn.ensures.tested (ap not c.if-not-has_turn.false) in
-     record { credits_fit = omega (arith, c.row_of-row.ensures.within, by-credits.long) }
+    let by-credits : Turn c.args.ports c.args.input.0 c.args.credits.now = due _ _ _ c.has_turn.ensures.tested (ap not c.if-not-has_turn.false) in
+    record { credits_fit = omega (arith, c.row_of-row.ensures.within, by-credits.long) }
 
 -- it has no credit
 pub returns-then-not-has_credit : goal.returns-then-not-has_credit
@@ -45,9 +40,9 @@ returns-then-not-has_credit c =
 
 pub ready_in-requires : goal.ready_in-requires
 ready_in-requires c =
-    let by-credits :  Turn c.args.ports c.args.input.0 c.args.credits.now = due _ _ _ c.has_turn.ensures.tested (ap not c.if-not-has_turn.false) in
-    let by-queues :  Turn c.args.ports c.args.input.0 c.args.queues.now = due _ _ _ c.has_turn-else-not-has_turn.ensures.tested (ap not c.if-not-has_turn-2.false) in
-            let d = by-queues in record {
+    let by-credits : Turn c.args.ports c.args.input.0 c.args.credits.now = due _ _ _ c.has_turn.ensures.tested (ap not c.if-not-has_turn.false) in
+    let by-queues : Turn c.args.ports c.args.input.0 c.args.queues.now = due _ _ _ c.has_turn-else-not-has_turn.ensures.tested (ap not c.if-not-has_turn-2.false) in
+    let d = by-queues in record {
       ports = d.few;
       credits_fit = omega (arith, c.row_of-row.ensures.within, by-credits.long);
       queues_fit = omega (arith, c.row_of-row.ensures.within, d.long);

@@ -1,7 +1,6 @@
 -- `turns::first_turn` meets its contract: where the input has a turn, what it takes as in pass two it pays for with a credit too. Assumes nothing.
 use mathlib.Core.Path.{◌≡◌, sym, ◌∙◌}
 use native.Mathlib.Omega.{arith}
-use borrow.Author.Rules.{rules}
 use Rattle.turns.specs.Requests.{first_output, first_looks}
 use Rattle.turns.proofs.Costs.{charged_some, charged_none, noted_none}
 use Rattle.turns.proofs.TurnLaws.{Turn, due, is_due, not_due, with_turn, without_turn, second_port}
@@ -21,8 +20,8 @@ returns-then-not-has_turn c =
 
 pub spend_credit-requires : goal.spend_credit-requires
 spend_credit-requires c =
-    let allowed :  Turn c.args.ports c.args.input.0 c.args.credits.now = due _ _ _ c.has_turn.ensures.tested (ap not c.if-not-has_turn.false) in
-                    let d = allowed in
+    let allowed : Turn c.args.ports c.args.input.0 c.args.credits.now = due _ _ _ c.has_turn.ensures.tested (ap not c.if-not-has_turn.false) in
+    let d = allowed in
     let p = second_port c.args.free c.args.asked c.args.ports c.args.input.0 c.args.queues.now c.args.given.now _ c.second_turn-choice.ensures.output c.if-choice-gt0.true in record {
       ports = d.few;
       input = d.port;
@@ -32,9 +31,9 @@ spend_credit-requires c =
 
 pub returns-then-choice-gt0 : goal.returns-then-choice-gt0
 returns-then-choice-gt0 c =
-    let allowed :  Turn c.args.ports c.args.input.0 c.args.credits.now = due _ _ _ c.has_turn.ensures.tested (ap not c.if-not-has_turn.false) in
-    let found :     c.second_turn-choice.result.output.0 ≡ first_output c.args.free c.args.asked c.args.ports c.args.input.0 c.args.credits.now c.args.queues.now c.args.given.now = with_turn (is_due _ _ _ allowed) c.second_turn-choice.ensures.output in
-    let counted :     c.second_turn-choice.result.looks ≡ first_looks c.args.free c.args.asked c.args.ports c.args.input.0 c.args.credits.now c.args.queues.now c.args.given.now = with_turn (is_due _ _ _ allowed) c.second_turn-choice.ensures.looks in
+    let allowed : Turn c.args.ports c.args.input.0 c.args.credits.now = due _ _ _ c.has_turn.ensures.tested (ap not c.if-not-has_turn.false) in
+    let found : c.second_turn-choice.result.output.0 ≡ first_output c.args.free c.args.asked c.args.ports c.args.input.0 c.args.credits.now c.args.queues.now c.args.given.now = with_turn (is_due _ _ _ allowed) c.second_turn-choice.ensures.output in
+    let counted : c.second_turn-choice.result.looks ≡ first_looks c.args.free c.args.asked c.args.ports c.args.input.0 c.args.credits.now c.args.queues.now c.args.given.now = with_turn (is_due _ _ _ allowed) c.second_turn-choice.ensures.looks in
     record {
       output = found;
       looks = counted;
@@ -45,9 +44,9 @@ returns-then-choice-gt0 c =
 
 pub returns-else-choice-gt0 : goal.returns-else-choice-gt0
 returns-else-choice-gt0 c =
-    let allowed :  Turn c.args.ports c.args.input.0 c.args.credits.now = due _ _ _ c.has_turn.ensures.tested (ap not c.if-not-has_turn.false) in
-    let found :     c.second_turn-choice.result.output.0 ≡ first_output c.args.free c.args.asked c.args.ports c.args.input.0 c.args.credits.now c.args.queues.now c.args.given.now = with_turn (is_due _ _ _ allowed) c.second_turn-choice.ensures.output in
-    let counted :     c.second_turn-choice.result.looks ≡ first_looks c.args.free c.args.asked c.args.ports c.args.input.0 c.args.credits.now c.args.queues.now c.args.given.now = with_turn (is_due _ _ _ allowed) c.second_turn-choice.ensures.looks in
+    let allowed : Turn c.args.ports c.args.input.0 c.args.credits.now = due _ _ _ c.has_turn.ensures.tested (ap not c.if-not-has_turn.false) in
+    let found : c.second_turn-choice.result.output.0 ≡ first_output c.args.free c.args.asked c.args.ports c.args.input.0 c.args.credits.now c.args.queues.now c.args.given.now = with_turn (is_due _ _ _ allowed) c.second_turn-choice.ensures.output in
+    let counted : c.second_turn-choice.result.looks ≡ first_looks c.args.free c.args.asked c.args.ports c.args.input.0 c.args.credits.now c.args.queues.now c.args.given.now = with_turn (is_due _ _ _ allowed) c.second_turn-choice.ensures.looks in
     record {
       output = found;
       looks = counted;

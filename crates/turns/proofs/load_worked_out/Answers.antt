@@ -1,7 +1,6 @@
 -- `turns::load_worked_out` meets its contract: all runs are long enough and the credits loaded, or nothing changes. Assumes nothing.
 use mathlib.Core.Path.{◌∙◌}
 use native.Mathlib.Omega.{arith}
-use borrow.Author.Rules.{rules}
 use Rattle.bookings.proofs.Laws.{bookings_fit, slots_short, rates_short, target_short}
 use Rattle.turns.proofs.load_worked_out.Goals as goal
 

@@ -1,7 +1,6 @@
 -- `turns::second_requests` meets its contract: where the input has a turn, the sweep gives what it asks for. Assumes nothing.
 use mathlib.Core.Path.{◌∙◌}
 use native.Mathlib.Omega.{arith}
-use borrow.Author.Rules.{rules}
 use Rattle.turns.proofs.Ready.{ready_at}
 use Rattle.turns.proofs.TurnLaws.{Turn, due, is_due, not_due, row_there, with_turn, without_turn, waiting_pairs}
 use mathlib.Core.Path.{ap}
@@ -14,13 +13,13 @@ returns-then-not-has_turn c =
 
 pub waiting_in-requires : goal.waiting_in-requires
 waiting_in-requires c =
-    let allowed :  Turn c.args.ports c.args.input.0 c.args.queues.now = due _ _ _ c.has_turn.ensures.tested (ap not c.if-not-has_turn.false) in
-     let d = allowed in record {
+    let allowed : Turn c.args.ports c.args.input.0 c.args.queues.now = due _ _ _ c.has_turn.ensures.tested (ap not c.if-not-has_turn.false) in
+    let d = allowed in record {
       ports = d.few;
       queues_fit = omega (arith, c.row_of-row.ensures.within, d.long);
     }
 
 pub returns : goal.returns
 returns c =
-    let allowed :  Turn c.args.ports c.args.input.0 c.args.queues.now = due _ _ _ c.has_turn.ensures.tested (ap not c.if-not-has_turn.false) in
-            let d = allowed in record { asked = with_turn (is_due _ _ _ d) (ready_at _ _ _ _ _ (row_there _ _ _ d _ c.row_of-row.ensures.row) c.waiting_in.ensures.waiting ∙ waiting_pairs _ _ _) }
+    let allowed : Turn c.args.ports c.args.input.0 c.args.queues.now = due _ _ _ c.has_turn.ensures.tested (ap not c.if-not-has_turn.false) in
+    let d = allowed in record { asked = with_turn (is_due _ _ _ d) (ready_at _ _ _ _ _ (row_there _ _ _ d _ c.row_of-row.ensures.row) c.waiting_in.ensures.waiting ∙ waiting_pairs _ _ _) }

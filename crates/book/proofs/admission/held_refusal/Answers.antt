@@ -1,7 +1,6 @@
 -- `book::admission::held_refusal` meets its contract. Assumes nothing.
 use native.Mathlib.Omega.{arith}
 use Rattle.book.proofs.Laws.Amounts.{too_little_held, enough_is_held}
-use borrow.Author.Rules.{rules}
 use Rattle.book.proofs.admission.held_refusal.Goals as goal
 
 pub returns-then-held-amount : goal.returns-then-held-amount

@@ -5,13 +5,9 @@ use Rattle.questions.proofs.Laws.Answers.{said_no, said_yes}
 use Rattle.book.specs.declared.afterwards.BookingRequest.{BookingRequest}
 use Rattle.book.proofs.Laws.Reach.{book_fits}
 use Rattle.book.proofs.Laws.Sharing.{row_unfit, column_unfit, both_fit}
-use borrow.Author.Rules.{rules}
 use mathlib.Core.Path.{ap}
 use mathlib.Core.Bool.{not}
 use Rattle.book.proofs.admission.pairs_refusal.Goals as goal
-
--- LEFT abbrev request : tie.Start → BookingRequest
--- LEFT request s = let a = s.args in record { input = a.input; output = a.output; more = a.more }
 
 pub all_sums-totals-requires : goal.all_sums-totals-requires
 all_sums-totals-requires c =
@@ -22,14 +18,21 @@ all_sums-totals-requires c =
 
 pub returns-then-not-row_fits : goal.returns-then-not-row_fits
 returns-then-not-row_fits c =
-    record { result = row_unfit c.args.clock (book_of c.args.slots.now c.args.rates.now) (request c) (said_no c.row_fits.ensures.result (ap not c.if-not-row_fits.true)) }
+    let request : BookingRequest = record { input = c.args.input; output = c.args.output; more = c.args.more } in
+    record { result = row_unfit c.args.clock (book_of c.args.slots.now c.args.rates.now) request (said_no c.row_fits.ensures.result (ap not c.if-not-row_fits.true)) }
 
 pub returns-then-column_fits : goal.returns-then-column_fits
 returns-then-column_fits c =
-    record { result = both_fit c.args.clock (book_of c.args.slots.now c.args.rates.now) (request c) (said_yes c.row_fits.ensures.result (ap not c.if-not-row_fits.false))
-    (sym c.column_fits.ensures.result ∙ c.if-column_fits.true) }
+    let request : BookingRequest = record { input = c.args.input; output = c.args.output; more = c.args.more } in
+    record {
+      result = both_fit c.args.clock (book_of c.args.slots.now c.args.rates.now) request (said_yes c.row_fits.ensures.result (ap not c.if-not-row_fits.false))
+          (sym c.column_fits.ensures.result ∙ c.if-column_fits.true);
+    }
 
 pub returns : goal.returns
 returns c =
-    record { result = column_unfit c.args.clock (book_of c.args.slots.now c.args.rates.now) (request c) (said_yes c.row_fits.ensures.result (ap not c.if-not-row_fits.false))
-    (sym c.column_fits.ensures.result ∙ c.if-column_fits.false) }
+    let request : BookingRequest = record { input = c.args.input; output = c.args.output; more = c.args.more } in
+    record {
+      result = column_unfit c.args.clock (book_of c.args.slots.now c.args.rates.now) request (said_yes c.row_fits.ensures.result (ap not c.if-not-row_fits.false))
+          (sym c.column_fits.ensures.result ∙ c.if-column_fits.false);
+    }

@@ -1,7 +1,6 @@
 -- `book::admission::rule_refusal` meets its contract: the clock tells which rule is asked. Assumes nothing.
 use mathlib.Core.Path.{◌∙◌}
 use Rattle.book.proofs.Laws.Sharing.{plain_rule, fine_rule}
-use borrow.Author.Rules.{rules}
 use Rattle.book.proofs.admission.rule_refusal.Goals as goal
 
 pub returns-then-clock-eq0 : goal.returns-then-clock-eq0

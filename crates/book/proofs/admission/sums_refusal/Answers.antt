@@ -4,16 +4,7 @@ use native.Mathlib.Omega.{arith}
 use Rattle.wsgs.specs.Bookings.{book_of, bookings, row_sum}
 use Rattle.book.proofs.Laws.Reach.{book_fits}
 use Rattle.book.proofs.Laws.Amounts.{row_full, column_full, both_admit}
-use borrow.Author.Rules.{rules}
 use Rattle.book.proofs.admission.sums_refusal.Goals as goal
-
--- LEFT row_admits : (c : tie.Else1)
--- LEFT     → let a = (start c).args in
--- LEFT     2
--- LEFT     * (row_sum a.clock.ports (bookings a.clock.ports a.clock.frame a.clock.line (book_of a.slots.now a.rates.now)) a.input.0
--- LEFT     + a.more.0)
--- LEFT     ≤ a.clock.frame + 1
--- LEFT row_admits c = omega (arith, c.before.before.row_sum.ensures.0)
 
 pub row_sum-requires : goal.row_sum-requires
 row_sum-requires c =
@@ -35,8 +26,10 @@ column_sum-requires c =
 
 pub returns-then-column_sum-more : goal.returns-then-column_sum-more
 returns-then-column_sum-more c =
-    record { result = column_full _ _ _ _ _ (row_admits c) (omega (arith, c.column_sum.ensures.result)) }
+    let row_admits : 2 * (row_sum c.args.clock.ports (bookings c.args.clock.ports c.args.clock.frame c.args.clock.line (book_of c.args.slots.now c.args.rates.now)) c.args.input.0 + c.args.more.0) ≤ c.args.clock.frame + 1 = omega (arith, c.row_sum.ensures.result) in
+    record { result = column_full _ _ _ _ _ row_admits (omega (arith, c.column_sum.ensures.result)) }
 
 pub returns : goal.returns
 returns c =
-    record { result = both_admit _ _ _ _ _ (row_admits c) (omega (arith, c.column_sum.ensures.result)) }
+    let row_admits : 2 * (row_sum c.args.clock.ports (bookings c.args.clock.ports c.args.clock.frame c.args.clock.line (book_of c.args.slots.now c.args.rates.now)) c.args.input.0 + c.args.more.0) ≤ c.args.clock.frame + 1 = omega (arith, c.row_sum.ensures.result) in
+    record { result = both_admit _ _ _ _ _ row_admits (omega (arith, c.column_sum.ensures.result)) }

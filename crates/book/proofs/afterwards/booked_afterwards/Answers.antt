@@ -4,7 +4,6 @@ use Prim.Native.Nat.{◌+◌}
 use native.Mathlib.Omega.{arith}
 use Rattle.wsgs.specs.Bookings.{book_of}
 use Rattle.book.proofs.Laws.Afterwards.{asked_pair, other_input, other_output}
-use borrow.Author.Rules.{rules}
 use Rattle.book.proofs.afterwards.booked_afterwards.Goals as goal
 
 pub returns-then-input-request : goal.returns-then-input-request

@@ -1,15 +1,14 @@
 -- `book::all_sums::add_row` meets its contract. The loop's invariant: the sum is that of the first j bookings of the row, and the columns before j have its
 -- booking. Assumes nothing.
 use mathlib.Core.Path.{◌≡◌, refl, ◌∙◌, ap}
-use Prim.Native.Nat.{◌+◌, ◌-◌, ◌*◌, ◌^◌, ◌≤◌, ◌<◌}
+use Prim.Native.Nat.{◌+◌, ◌-◌, ◌^◌, ◌<◌}
 use native.Mathlib.Omega.{arith}
-use borrow.Author.Rules.{rules}
 use lib.ListN.{get_or}
 use Rattle.wsgs.specs.Basics.{sum}
 use Rattle.wsgs.specs.Bookings.{book_of, row_sum}
 use Rattle.book.specs.Afterwards.{afterwards}
 use Rattle.book.proofs.Laws.Sums.{sum_more}
-use Rattle.book.proofs.Laws.Afterwards.{InRow, row_begins, row_ends, column_added, column_few}
+use Rattle.book.proofs.Laws.Afterwards.{row_begins, row_ends, column_added, column_few}
 use Rattle.book.proofs.all_sums.add_row.Goals as goal
 
 pub loop-j-init : goal.loop-j-init
@@ -26,14 +25,13 @@ overflow_add-columns c =
     record { fits = h }
 
 pub loop-j-preserved : goal.loop-j-preserved
-loop-j-preserved c =
-    (
-      omega arith,
-      refl,
-      sum_more (λ y. afterwards c.args.clock (book_of c.args.slots.now c.args.rates.now) c.args.request c.args.input.0 y) _ _ _ c.loop-j.invariant.2 c.booked_afterwards-own.ensures.result,
-      omega (arith, c.booked_afterwards-own.ensures.fits),
-      column_added _ _ _ _ _ _ c.requires.input_in_range.low (omega (arith, c.loop-j-test.true)) c.loop-j.invariant.4 c.booked_afterwards-own.ensures.result,
-    )
+loop-j-preserved c = (
+  omega arith,
+  refl,
+  sum_more (λ y. afterwards c.args.clock (book_of c.args.slots.now c.args.rates.now) c.args.request c.args.input.0 y) _ _ _ c.loop-j.invariant.2 c.booked_afterwards-own.ensures.result,
+  omega (arith, c.booked_afterwards-own.ensures.fits),
+  column_added _ _ _ _ _ _ c.requires.input_in_range.low (omega (arith, c.loop-j-test.true)) c.loop-j.invariant.4 c.booked_afterwards-own.ensures.result,
+)
 
 pub returns : goal.returns
 unfolding row_sum

@@ -1,15 +1,11 @@
 -- `book::all_sums::add_row` meets its contract. The loop's invariant: the sum is that of the first j bookings of the row, and the columns before j have its
 -- booking. Assumes nothing.
-use mathlib.Core.Path.{◌≡◌, refl, ◌∙◌, ap}
-use Prim.Native.Nat.{◌+◌, ◌-◌, ◌*◌, ◌^◌, ◌≤◌, ◌<◌}
-use native.Mathlib.Omega.{arith}
-use borrow.Author.Rules.{rules}
-use lib.ListN.{get_or}
+use mathlib.Core.Path.{◌≡◌}
+use Prim.Native.Nat.{◌-◌, ◌*◌, ◌≤◌}
 use Rattle.wsgs.specs.Basics.{sum}
-use Rattle.wsgs.specs.Bookings.{book_of, row_sum}
+use Rattle.wsgs.specs.Bookings.{book_of}
 use Rattle.book.specs.Afterwards.{afterwards}
-use Rattle.book.proofs.Laws.Sums.{sum_more}
-use Rattle.book.proofs.Laws.Afterwards.{InRow, row_begins, row_ends, column_added, column_few}
+use Rattle.book.proofs.Laws.Afterwards.{InRow}
 use Rattle.book.proofs.all_sums.add_row.Given as goal
 
 abbrev pub invariant-loop-j : goal.invariant-loop-j

@@ -1,11 +1,8 @@
 -- `book::all_sums::all_sums` meets its contract. The loop's invariant: the sums of the first i rows are written down, and those of the columns are over these
 -- rows. Assumes nothing.
 use mathlib.Core.Path.{◌≡◌, refl}
-use Prim.Native.Nat.{◌+◌, ◌-◌, ◌≤◌}
+use Prim.Native.Nat.{◌+◌, ◌-◌}
 use native.Mathlib.Omega.{arith}
-use borrow.Author.Rules.{rules}
-use Rattle.wsgs.specs.Bookings.{book_of}
-use Rattle.book.specs.Afterwards.{afterwards, RowSums, ColumnSums}
 use Rattle.book.proofs.Laws.Afterwards.{rows_begin, columns_begin, row_added}
 use Rattle.book.proofs.all_sums.all_sums.Goals as goal
 
@@ -23,13 +20,12 @@ add_row-requires c =
     }
 
 pub loop-i-preserved : goal.loop-i-preserved
-loop-i-preserved c =
-    (
-      omega arith,
-      refl,
-      row_added _ _ _ _ _ (omega arith) c.loop-i.invariant.2 c.add_row.ensures.row,
-      c.add_row.ensures.columns_exit,
-    )
+loop-i-preserved c = (
+  omega arith,
+  refl,
+  row_added _ _ _ _ _ (omega arith) c.loop-i.invariant.2 c.add_row.ensures.row,
+  c.add_row.ensures.columns_exit,
+)
 
 pub returns : goal.returns
 returns c =

@@ -1,12 +1,9 @@
 -- `book::all_sums::all_sums` meets its contract. The loop's invariant: the sums of the first i rows are written down, and those of the columns are over these
 -- rows. Assumes nothing.
-use mathlib.Core.Path.{◌≡◌, refl}
-use Prim.Native.Nat.{◌+◌, ◌-◌, ◌≤◌}
-use native.Mathlib.Omega.{arith}
-use borrow.Author.Rules.{rules}
+use mathlib.Core.Path.{◌≡◌}
+use Prim.Native.Nat.{◌-◌, ◌≤◌}
 use Rattle.wsgs.specs.Bookings.{book_of}
 use Rattle.book.specs.Afterwards.{afterwards, RowSums, ColumnSums}
-use Rattle.book.proofs.Laws.Afterwards.{rows_begin, columns_begin, row_added}
 use Rattle.book.proofs.all_sums.all_sums.Given as goal
 
 abbrev pub invariant-loop-i : goal.invariant-loop-i

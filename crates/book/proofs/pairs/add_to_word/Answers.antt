@@ -1,5 +1,4 @@
 -- `book::pairs::add_to_word` meets its contract. Assumes nothing.
-use borrow.Author.Rules.{rules}
 use Rattle.book.proofs.pairs.add_to_word.Goals as goal
 
 pub returns : goal.returns

@@ -1,7 +1,6 @@
 -- `book::pairs::put_word` meets its contract: the place lies inside the run. Assumes nothing.
 use mathlib.Core.Path.{ap}
 use native.Mathlib.Omega.{arith}
-use borrow.Author.Rules.{rules}
 use lib.ListN.{set}
 use Rattle.wsgs.specs.Words.{put}
 use Rattle.book.proofs.Laws.Places.{at_place, at_inside}

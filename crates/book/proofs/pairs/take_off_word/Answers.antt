@@ -1,5 +1,4 @@
 -- `book::pairs::take_off_word` meets its contract. Assumes nothing.
-use borrow.Author.Rules.{rules}
 use Rattle.book.proofs.pairs.take_off_word.Goals as goal
 
 pub returns : goal.returns

@@ -1,7 +1,6 @@
 -- `book::pairs::word_of` meets its contract: the place lies inside the run. Assumes nothing.
 use mathlib.Core.Path.{ap}
 use native.Mathlib.Omega.{arith}
-use borrow.Author.Rules.{rules}
 use lib.ListN.{get_or}
 use Rattle.wsgs.specs.Words.{word}
 use Rattle.book.proofs.Laws.Places.{at_place, at_inside}

@@ -1,7 +1,6 @@
 -- `book::queues::queue_refusal` meets its contract. Assumes nothing.
 use native.Mathlib.Omega.{arith}
 use Rattle.book.proofs.Laws.Amounts.{queue_full, queue_takes}
-use borrow.Author.Rules.{rules}
 use Rattle.book.proofs.queues.queue_refusal.Goals as goal
 
 pub returns-then-waiting-gt-MAX_QUEUE : goal.returns-then-waiting-gt-MAX_QUEUE

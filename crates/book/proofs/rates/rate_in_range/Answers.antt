@@ -1,5 +1,4 @@
 -- `book::rates::rate_in_range` meets its contract. Assumes nothing.
-use borrow.Author.Rules.{rules}
 use Rattle.questions.proofs.Laws.Answers.{said_no, said_yes}
 use mathlib.Core.Path.{ap}
 use mathlib.Core.Bool.{not}

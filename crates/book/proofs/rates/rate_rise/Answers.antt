@@ -3,7 +3,6 @@ use mathlib.Core.Path.{◌∙◌}
 use Rattle.wsgs.specs.Bookings.{book_of}
 use Rattle.book.proofs.Laws.Reach.{slots_pair, rates_pair}
 use Rattle.book.proofs.Laws.Amounts.{rises_by}
-use borrow.Author.Rules.{rules}
 use Rattle.book.proofs.rates.rate_rise.Goals as goal
 
 pub word_of-held-requires : goal.word_of-held-requires

@@ -1,7 +1,6 @@
 -- `book::refusals::book_pair_refusal` meets its contract. Assumes nothing.
 use mathlib.Core.Path.{◌∙◌, ap}
 use Rattle.questions.specs.Refusals.{pair_refusal}
-use borrow.Author.Rules.{rules}
 use Rattle.book.proofs.refusals.book_pair_refusal.Goals as goal
 
 pub returns : goal.returns

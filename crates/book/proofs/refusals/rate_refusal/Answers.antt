@@ -10,14 +10,8 @@ use Rattle.questions.specs.Refusals.{pair_refusal}
 use Rattle.questions.proofs.Laws.Pairs.{pair_asked}
 use Rattle.questions.proofs.Laws.Answers.{said_no, said_yes}
 use Rattle.book.proofs.Laws.Calls.{rate_decides}
-use borrow.Author.Rules.{rules}
 use mathlib.Core.Bool.{not}
 use Rattle.book.proofs.refusals.rate_refusal.Goals as goal
-
--- LEFT passed : (c : tie.Else1)
--- LEFT     → let a = (start c).args in
--- LEFT     0 ≡ pair_refusal a.clock (holds_book a.clock.ports (book_of a.slots.now a.rates.now)) a.input.0 a.output.0
--- LEFT passed c = sym c.if1.false ∙ c.before.book-pair-refusal.ensures
 
 pub returns-then-refusal-ne0 : goal.returns-then-refusal-ne0
 returns-then-refusal-ne0 c =
@@ -25,26 +19,32 @@ returns-then-refusal-ne0 c =
 
 pub returns-then-not-rate_in_range : goal.returns-then-not-rate_in_range
 returns-then-not-rate_in_range c =
-    record { result = (rate_decides _ _ _ _ _).at_amount (passed c) (said_no c.rate_in_range.ensures.result (ap not c.if-not-rate_in_range.true)) }
+    let passed : 0 ≡ pair_refusal c.args.clock (holds_book c.args.clock.ports (book_of c.args.slots.now c.args.rates.now)) c.args.input.0 c.args.output.0 = sym c.if-refusal-ne0.false ∙ c.book_pair_refusal-refusal.ensures.result in
+    record { result = (rate_decides _ _ _ _ _).at_amount passed (said_no c.rate_in_range.ensures.result (ap not c.if-not-rate_in_range.true)) }
 
 pub rate_rise-more-requires : goal.rate_rise-more-requires
 rate_rise-more-requires c =
-    let in_range :  (rate_in_range c.args.clock.line c.args.rate).yes ≡ true = said_yes c.rate_in_range.ensures.result (ap not c.if-not-rate_in_range.false) in
-     record {
-      pair_in_range = pair_asked _ _ _ _ (passed c);
+    let passed : 0 ≡ pair_refusal c.args.clock (holds_book c.args.clock.ports (book_of c.args.slots.now c.args.rates.now)) c.args.input.0 c.args.output.0 = sym c.if-refusal-ne0.false ∙ c.book_pair_refusal-refusal.ensures.result in
+    let in_range : (rate_in_range c.args.clock.line c.args.rate).yes ≡ true = said_yes c.rate_in_range.ensures.result (ap not c.if-not-rate_in_range.false) in
+    record {
+      pair_in_range = pair_asked _ _ _ _ passed;
       rate_fits = omega (arith, rate_asked c.args.clock.line c.args.rate in_range);
     }
 
 pub rule_refusal-requires : goal.rule_refusal-requires
 rule_refusal-requires c =
+    let passed : 0 ≡ pair_refusal c.args.clock (holds_book c.args.clock.ports (book_of c.args.slots.now c.args.rates.now)) c.args.input.0 c.args.output.0 = sym c.if-refusal-ne0.false ∙ c.book_pair_refusal-refusal.ensures.result in
     record {
-      pair_in_range = pair_asked _ _ _ _ (passed c);
+      pair_in_range = pair_asked _ _ _ _ passed;
       more_fits = c.rate_rise-more.ensures.fits;
     }
 
 pub returns : goal.returns
 returns c =
-    let in_range :  (rate_in_range c.args.clock.line c.args.rate).yes ≡ true = said_yes c.rate_in_range.ensures.result (ap not c.if-not-rate_in_range.false) in
-     record { result = c.rule_refusal.ensures.result
-    ∙ ap (rule_refusal c.args.clock (book_of c.args.slots.now c.args.rates.now) c.args.input.0 c.args.output.0) c.rate_rise-more.ensures.result
-    ∙ (rate_decides _ _ _ _ _).at_rest (passed c) in_range }
+    let passed : 0 ≡ pair_refusal c.args.clock (holds_book c.args.clock.ports (book_of c.args.slots.now c.args.rates.now)) c.args.input.0 c.args.output.0 = sym c.if-refusal-ne0.false ∙ c.book_pair_refusal-refusal.ensures.result in
+    let in_range : (rate_in_range c.args.clock.line c.args.rate).yes ≡ true = said_yes c.rate_in_range.ensures.result (ap not c.if-not-rate_in_range.false) in
+    record {
+      result = c.rule_refusal.ensures.result
+          ∙ ap (rule_refusal c.args.clock (book_of c.args.slots.now c.args.rates.now) c.args.input.0 c.args.output.0) c.rate_rise-more.ensures.result
+          ∙ (rate_decides _ _ _ _ _).at_rest passed in_range;
+    }

@@ -8,15 +8,9 @@ use Rattle.questions.specs.Refusals.{pair_refusal}
 use Rattle.questions.proofs.Laws.Pairs.{pair_asked}
 use Rattle.questions.proofs.Laws.Answers.{said_no, said_yes}
 use Rattle.book.proofs.Laws.Calls.{release_decides}
-use borrow.Author.Rules.{rules}
 use mathlib.Core.Path.{ap}
 use mathlib.Core.Bool.{not}
 use Rattle.book.proofs.refusals.release_refusal.Goals as goal
-
--- LEFT passed : (c : tie.Else1)
--- LEFT     → let a = (start c).args in
--- LEFT     0 ≡ pair_refusal a.clock (holds_book a.clock.ports (book_of a.slots.now a.rates.now)) a.input.0 a.output.0
--- LEFT passed c = sym c.if1.false ∙ c.before.book-pair-refusal.ensures
 
 pub returns-then-refusal-ne0 : goal.returns-then-refusal-ne0
 returns-then-refusal-ne0 c =
@@ -24,13 +18,16 @@ returns-then-refusal-ne0 c =
 
 pub returns-then-not-is_between : goal.returns-then-not-is_between
 returns-then-not-is_between c =
-    record { result = (release_decides _ _ _ _ _).at_amount (passed c) (said_no c.is_between.ensures.result (ap not c.if-not-is_between.true)) }
+    let passed : 0 ≡ pair_refusal c.args.clock (holds_book c.args.clock.ports (book_of c.args.slots.now c.args.rates.now)) c.args.input.0 c.args.output.0 = sym c.if-refusal-ne0.false ∙ c.book_pair_refusal-refusal.ensures.result in
+    record { result = (release_decides _ _ _ _ _).at_amount passed (said_no c.is_between.ensures.result (ap not c.if-not-is_between.true)) }
 
 pub held_refusal-requires : goal.held_refusal-requires
 held_refusal-requires c =
-    record { pair_fits = slots_pair c.args.clock (book_of c.args.slots.now c.args.rates.now) c.args.input.0 c.args.output.0 (pair_asked _ _ _ _ (passed c)) }
+    let passed : 0 ≡ pair_refusal c.args.clock (holds_book c.args.clock.ports (book_of c.args.slots.now c.args.rates.now)) c.args.input.0 c.args.output.0 = sym c.if-refusal-ne0.false ∙ c.book_pair_refusal-refusal.ensures.result in
+    record { pair_fits = slots_pair c.args.clock (book_of c.args.slots.now c.args.rates.now) c.args.input.0 c.args.output.0 (pair_asked _ _ _ _ passed) }
 
 pub returns : goal.returns
 returns c =
-    let in_range :  (slots_in_range c.args.clock.frame c.args.amount.0).yes ≡ true = said_yes c.is_between.ensures.result (ap not c.if-not-is_between.false) in
-     record { result = c.held_refusal.ensures.result ∙ (release_decides _ _ _ _ _).at_rest (passed c) in_range }
+    let passed : 0 ≡ pair_refusal c.args.clock (holds_book c.args.clock.ports (book_of c.args.slots.now c.args.rates.now)) c.args.input.0 c.args.output.0 = sym c.if-refusal-ne0.false ∙ c.book_pair_refusal-refusal.ensures.result in
+    let in_range : (slots_in_range c.args.clock.frame c.args.amount.0).yes ≡ true = said_yes c.is_between.ensures.result (ap not c.if-not-is_between.false) in
+    record { result = c.held_refusal.ensures.result ∙ (release_decides _ _ _ _ _).at_rest passed in_range }

@@ -1,9 +1,7 @@
 -- `book::sharing::column_fits` meets its contract. The loop's invariant: the first i pairs of the column fit. Assumes nothing.
 use mathlib.Core.Path.{◌≡◌, refl, ◌∙◌, ap}
-use mathlib.Core.Bool.{true}
-use Prim.Native.Nat.{◌+◌, ◌-◌, ◌≤◌}
+use Prim.Native.Nat.{◌+◌}
 use native.Mathlib.Omega.{arith}
-use borrow.Author.Rules.{rules}
 use Rattle.wsgs.specs.Basics.{all_of}
 use Rattle.wsgs.specs.Bookings.{book_of}
 use Rattle.wsgs.specs.Rule.{booked_fits}
@@ -51,15 +49,17 @@ pair_fits-requires c =
 
 pub returns-then-not-pair_fits : goal.returns-then-not-pair_fits
 returns-then-not-pair_fits c =
-    let tested :      c.pair_fits.result ≡ booked_fits c.args.clock.ports c.args.clock.frame (afterwards c.args.clock (book_of c.args.slots.now c.args.rates.now) c.args.request) (c.loop-i.i + 1) c.args.request.output.0 = let b = afterwards c.args.clock (book_of c.args.slots.now c.args.rates.now) c.args.request in c.pair_fits.ensures.result ∙ fits_from c.args.clock.ports c.args.clock.frame b (c.loop-i.i + 1) c.args.request.output.0 _ _ _ c.booked_afterwards-own.ensures.result (c.requires.totals.rows.at c.loop-i.i (omega arith)) (column_at _ _ _ _ c.requires.pair_in_range.output c.requires.totals.columns) in
-     record { result = one_not _ _ _ (record { low = omega arith; high = omega arith }) (said_no tested (ap not c.if-not-pair_fits.true)) }
+    let tested : c.pair_fits.result ≡ booked_fits c.args.clock.ports c.args.clock.frame (afterwards c.args.clock (book_of c.args.slots.now c.args.rates.now) c.args.request) (c.loop-i.i + 1) c.args.request.output.0 = let b = afterwards c.args.clock (book_of c.args.slots.now c.args.rates.now) c.args.request in c.pair_fits.ensures.result ∙ fits_from c.args.clock.ports c.args.clock.frame b (c.loop-i.i + 1) c.args.request.output.0 _ _ _ c.booked_afterwards-own.ensures.result (c.requires.totals.rows.at c.loop-i.i (omega arith)) (column_at _ _ _ _ c.requires.pair_in_range.output c.requires.totals.columns) in
+    record { result = one_not _ _ _ (record { low = omega arith; high = omega arith }) (said_no tested (ap not c.if-not-pair_fits.true)) }
 
 pub loop-i-preserved : goal.loop-i-preserved
 loop-i-preserved c =
-    let tested :      c.pair_fits.result ≡ booked_fits c.args.clock.ports c.args.clock.frame (afterwards c.args.clock (book_of c.args.slots.now c.args.rates.now) c.args.request) (c.loop-i.i + 1) c.args.request.output.0 = let b = afterwards c.args.clock (book_of c.args.slots.now c.args.rates.now) c.args.request in c.pair_fits.ensures.result ∙ fits_from c.args.clock.ports c.args.clock.frame b (c.loop-i.i + 1) c.args.request.output.0 _ _ _ c.booked_afterwards-own.ensures.result (c.requires.totals.rows.at c.loop-i.i (omega arith)) (column_at _ _ _ _ c.requires.pair_in_range.output c.requires.totals.columns) in
-            (omega arith, refl, all_more _ _ c.loop-i.inv.2 (said_yes tested (ap not c.if-not-pair_fits.false)))
+    let tested : c.pair_fits.result ≡ booked_fits c.args.clock.ports c.args.clock.frame (afterwards c.args.clock (book_of c.args.slots.now c.args.rates.now) c.args.request) (c.loop-i.i + 1) c.args.request.output.0 = let b = afterwards c.args.clock (book_of c.args.slots.now c.args.rates.now) c.args.request in c.pair_fits.ensures.result ∙ fits_from c.args.clock.ports c.args.clock.frame b (c.loop-i.i + 1) c.args.request.output.0 _ _ _ c.booked_afterwards-own.ensures.result (c.requires.totals.rows.at c.loop-i.i (omega arith)) (column_at _ _ _ _ c.requires.pair_in_range.output c.requires.totals.columns) in
+    (omega arith, refl, all_more _ _ c.loop-i.invariant.2 (said_yes tested (ap not c.if-not-pair_fits.false)))
 
 pub returns : goal.returns
 returns c =
-    let e : c.loop-i.i ≡ c.args.clock.ports = omega arith in record { result = c.loop-i.invariant.2
-    ∙ ap (all_of (λ x. booked_fits c.args.clock.ports c.args.clock.frame (afterwards c.args.clock (book_of c.args.slots.now c.args.rates.now) c.args.request) x c.args.request.output.0)) e }
+    let e : c.loop-i.i ≡ c.args.clock.ports = omega arith in record {
+      result = c.loop-i.invariant.2
+          ∙ ap (all_of (λ x. booked_fits c.args.clock.ports c.args.clock.frame (afterwards c.args.clock (book_of c.args.slots.now c.args.rates.now) c.args.request) x c.args.request.output.0)) e;
+    }

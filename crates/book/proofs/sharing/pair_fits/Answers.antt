@@ -1,6 +1,5 @@
 -- `book::sharing::pair_fits` meets its contract. Assumes nothing.
 use Rattle.book.proofs.Laws.Sharing.{unbooked_fits, booked_is}
-use borrow.Author.Rules.{rules}
 use Rattle.book.proofs.sharing.pair_fits.Goals as goal
 
 pub returns-then-own-eq0 : goal.returns-then-own-eq0

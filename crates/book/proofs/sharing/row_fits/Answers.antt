@@ -1,9 +1,7 @@
 -- `book::sharing::row_fits` meets its contract. The loop's invariant: the first j pairs of the row fit. Assumes nothing.
 use mathlib.Core.Path.{◌≡◌, refl, ◌∙◌, ap}
-use mathlib.Core.Bool.{true}
-use Prim.Native.Nat.{◌+◌, ◌-◌, ◌≤◌}
+use Prim.Native.Nat.{◌+◌}
 use native.Mathlib.Omega.{arith}
-use borrow.Author.Rules.{rules}
 use Rattle.wsgs.specs.Basics.{all_of}
 use Rattle.wsgs.specs.Bookings.{book_of}
 use Rattle.wsgs.specs.Rule.{booked_fits}
@@ -51,15 +49,17 @@ pair_fits-requires c =
 
 pub returns-then-not-pair_fits : goal.returns-then-not-pair_fits
 returns-then-not-pair_fits c =
-    let tested :      c.pair_fits.result ≡ booked_fits c.args.clock.ports c.args.clock.frame (afterwards c.args.clock (book_of c.args.slots.now c.args.rates.now) c.args.request) c.args.request.input.0 (c.loop-j.j + 1) = let b = afterwards c.args.clock (book_of c.args.slots.now c.args.rates.now) c.args.request in c.pair_fits.ensures.result ∙ fits_from c.args.clock.ports c.args.clock.frame b c.args.request.input.0 (c.loop-j.j + 1) _ _ _ c.booked_afterwards-own.ensures.result (row_at _ _ _ _ c.requires.pair_in_range.input c.requires.totals.rows) (c.requires.totals.columns.at c.loop-j.j (omega arith)) in
-     record { result = one_not _ _ _ (record { low = omega arith; high = omega arith }) (said_no tested (ap not c.if-not-pair_fits.true)) }
+    let tested : c.pair_fits.result ≡ booked_fits c.args.clock.ports c.args.clock.frame (afterwards c.args.clock (book_of c.args.slots.now c.args.rates.now) c.args.request) c.args.request.input.0 (c.loop-j.j + 1) = let b = afterwards c.args.clock (book_of c.args.slots.now c.args.rates.now) c.args.request in c.pair_fits.ensures.result ∙ fits_from c.args.clock.ports c.args.clock.frame b c.args.request.input.0 (c.loop-j.j + 1) _ _ _ c.booked_afterwards-own.ensures.result (row_at _ _ _ _ c.requires.pair_in_range.input c.requires.totals.rows) (c.requires.totals.columns.at c.loop-j.j (omega arith)) in
+    record { result = one_not _ _ _ (record { low = omega arith; high = omega arith }) (said_no tested (ap not c.if-not-pair_fits.true)) }
 
 pub loop-j-preserved : goal.loop-j-preserved
 loop-j-preserved c =
-    let tested :      c.pair_fits.result ≡ booked_fits c.args.clock.ports c.args.clock.frame (afterwards c.args.clock (book_of c.args.slots.now c.args.rates.now) c.args.request) c.args.request.input.0 (c.loop-j.j + 1) = let b = afterwards c.args.clock (book_of c.args.slots.now c.args.rates.now) c.args.request in c.pair_fits.ensures.result ∙ fits_from c.args.clock.ports c.args.clock.frame b c.args.request.input.0 (c.loop-j.j + 1) _ _ _ c.booked_afterwards-own.ensures.result (row_at _ _ _ _ c.requires.pair_in_range.input c.requires.totals.rows) (c.requires.totals.columns.at c.loop-j.j (omega arith)) in
-            (omega arith, refl, all_more _ _ c.loop-j.inv.2 (said_yes tested (ap not c.if-not-pair_fits.false)))
+    let tested : c.pair_fits.result ≡ booked_fits c.args.clock.ports c.args.clock.frame (afterwards c.args.clock (book_of c.args.slots.now c.args.rates.now) c.args.request) c.args.request.input.0 (c.loop-j.j + 1) = let b = afterwards c.args.clock (book_of c.args.slots.now c.args.rates.now) c.args.request in c.pair_fits.ensures.result ∙ fits_from c.args.clock.ports c.args.clock.frame b c.args.request.input.0 (c.loop-j.j + 1) _ _ _ c.booked_afterwards-own.ensures.result (row_at _ _ _ _ c.requires.pair_in_range.input c.requires.totals.rows) (c.requires.totals.columns.at c.loop-j.j (omega arith)) in
+    (omega arith, refl, all_more _ _ c.loop-j.invariant.2 (said_yes tested (ap not c.if-not-pair_fits.false)))
 
 pub returns : goal.returns
 returns c =
-    let e : c.loop-j.j ≡ c.args.clock.ports = omega arith in record { result = c.loop-j.invariant.2
-    ∙ ap (all_of (λ y. booked_fits c.args.clock.ports c.args.clock.frame (afterwards c.args.clock (book_of c.args.slots.now c.args.rates.now) c.args.request) c.args.request.input.0 y)) e }
+    let e : c.loop-j.j ≡ c.args.clock.ports = omega arith in record {
+      result = c.loop-j.invariant.2
+          ∙ ap (all_of (λ y. booked_fits c.args.clock.ports c.args.clock.frame (afterwards c.args.clock (book_of c.args.slots.now c.args.rates.now) c.args.request) c.args.request.input.0 y)) e;
+    }

@@ -1,17 +1,11 @@
 -- `book::sharing::row_fits` meets its contract. The loop's invariant: the first j pairs of the row fit. Assumes nothing.
-use mathlib.Core.Path.{◌≡◌, refl, ◌∙◌, ap}
+use mathlib.Core.Path.{◌≡◌}
 use mathlib.Core.Bool.{true}
-use Prim.Native.Nat.{◌+◌, ◌-◌, ◌≤◌}
-use native.Mathlib.Omega.{arith}
-use borrow.Author.Rules.{rules}
+use Prim.Native.Nat.{◌-◌, ◌≤◌}
 use Rattle.wsgs.specs.Basics.{all_of}
 use Rattle.wsgs.specs.Bookings.{book_of}
 use Rattle.wsgs.specs.Rule.{booked_fits}
-use Rattle.questions.proofs.Laws.Answers.{said_no, said_yes}
 use Rattle.book.specs.Afterwards.{afterwards}
-use Rattle.book.proofs.Laws.Reach.{book_fits}
-use Rattle.book.proofs.Laws.Afterwards.{row_at, row_few, column_few}
-use Rattle.book.proofs.Laws.Sharing.{fits_from, all_none, all_more, one_not}
 use Rattle.book.proofs.sharing.row_fits.Given as goal
 
 abbrev pub invariant-loop-j : goal.invariant-loop-j

@@ -1,7 +1,6 @@
 -- `book::sums::booked` meets its contract. Assumes nothing.
 use mathlib.Core.Path.{◌∙◌, ap₂}
 use Rattle.wsgs.specs.Bookings.{booking, bookings}
-use borrow.Author.Rules.{rules}
 use Rattle.book.proofs.sums.booked.Goals as goal
 
 pub returns : goal.returns

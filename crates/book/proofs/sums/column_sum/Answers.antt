@@ -1,9 +1,7 @@
 -- `book::sums::column_sum` meets its contract. The loop's invariant: the sum is that of the first i bookings of the column, each below 2 ^ 32.
 -- Assumes nothing.
 use mathlib.Core.Path.{◌≡◌, refl, ◌∙◌, ap}
-use Prim.Native.Nat.{◌-◌, ◌*◌, ◌≤◌}
 use native.Mathlib.Omega.{arith}
-use borrow.Author.Rules.{rules}
 use Rattle.wsgs.specs.Basics.{sum}
 use Rattle.wsgs.specs.Bookings.{book_of, bookings, column_sum}
 use Rattle.book.proofs.Laws.Sums.{sum_more}
@@ -15,13 +13,12 @@ loop-i-init c =
     (omega arith, refl, refl, omega arith)
 
 pub loop-i-preserved : goal.loop-i-preserved
-loop-i-preserved c =
-    (
-      omega arith,
-      c.loop-i.invariant.1,
-      sum_more (λ x. bookings c.args.clock.ports c.args.clock.frame c.args.clock.line (book_of c.args.slots.now c.args.rates.now) x c.args.output.0) _ _ _ c.loop-i.invariant.2 c.booked-sum.ensures.result,
-      omega arith,
-    )
+loop-i-preserved c = (
+  omega arith,
+  c.loop-i.invariant.1,
+  sum_more (λ x. bookings c.args.clock.ports c.args.clock.frame c.args.clock.line (book_of c.args.slots.now c.args.rates.now) x c.args.output.0) _ _ _ c.loop-i.invariant.2 c.booked-sum.ensures.result,
+  omega arith,
+)
 
 pub returns : goal.returns
 unfolding column_sum

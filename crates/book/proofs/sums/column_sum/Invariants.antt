@@ -1,12 +1,9 @@
 -- `book::sums::column_sum` meets its contract. The loop's invariant: the sum is that of the first i bookings of the column, each below 2 ^ 32.
 -- Assumes nothing.
-use mathlib.Core.Path.{◌≡◌, refl, ◌∙◌, ap}
+use mathlib.Core.Path.{◌≡◌}
 use Prim.Native.Nat.{◌-◌, ◌*◌, ◌≤◌}
-use native.Mathlib.Omega.{arith}
-use borrow.Author.Rules.{rules}
 use Rattle.wsgs.specs.Basics.{sum}
-use Rattle.wsgs.specs.Bookings.{book_of, bookings, column_sum}
-use Rattle.book.proofs.Laws.Sums.{sum_more}
+use Rattle.wsgs.specs.Bookings.{book_of, bookings}
 use Rattle.book.proofs.sums.column_sum.Given as goal
 
 abbrev pub invariant-loop-i : goal.invariant-loop-i

@@ -1,9 +1,7 @@
 -- `book::sums::row_sum` meets its contract. The loop's invariant: the sum is that of the first j bookings of the row, each below 2 ^ 32.
 -- Assumes nothing.
 use mathlib.Core.Path.{◌≡◌, refl, ◌∙◌, ap}
-use Prim.Native.Nat.{◌-◌, ◌*◌, ◌≤◌}
 use native.Mathlib.Omega.{arith}
-use borrow.Author.Rules.{rules}
 use Rattle.wsgs.specs.Basics.{sum}
 use Rattle.wsgs.specs.Bookings.{book_of, bookings, row_sum}
 use Rattle.book.proofs.Laws.Sums.{sum_more}
@@ -15,13 +13,12 @@ loop-j-init c =
     (omega arith, refl, refl, omega arith)
 
 pub loop-j-preserved : goal.loop-j-preserved
-loop-j-preserved c =
-    (
-      omega arith,
-      c.loop-j.invariant.1,
-      sum_more (λ x. bookings c.args.clock.ports c.args.clock.frame c.args.clock.line (book_of c.args.slots.now c.args.rates.now) c.args.input.0 x) _ _ _ c.loop-j.invariant.2 c.booked-sum.ensures.result,
-      omega arith,
-    )
+loop-j-preserved c = (
+  omega arith,
+  c.loop-j.invariant.1,
+  sum_more (λ x. bookings c.args.clock.ports c.args.clock.frame c.args.clock.line (book_of c.args.slots.now c.args.rates.now) c.args.input.0 x) _ _ _ c.loop-j.invariant.2 c.booked-sum.ensures.result,
+  omega arith,
+)
 
 pub returns : goal.returns
 unfolding row_sum

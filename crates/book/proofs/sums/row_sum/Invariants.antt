@@ -1,12 +1,9 @@
 -- `book::sums::row_sum` meets its contract. The loop's invariant: the sum is that of the first j bookings of the row, each below 2 ^ 32.
 -- Assumes nothing.
-use mathlib.Core.Path.{◌≡◌, refl, ◌∙◌, ap}
+use mathlib.Core.Path.{◌≡◌}
 use Prim.Native.Nat.{◌-◌, ◌*◌, ◌≤◌}
-use native.Mathlib.Omega.{arith}
-use borrow.Author.Rules.{rules}
 use Rattle.wsgs.specs.Basics.{sum}
-use Rattle.wsgs.specs.Bookings.{book_of, bookings, row_sum}
-use Rattle.book.proofs.Laws.Sums.{sum_more}
+use Rattle.wsgs.specs.Bookings.{book_of, bookings}
 use Rattle.book.proofs.sums.row_sum.Given as goal
 
 abbrev pub invariant-loop-j : goal.invariant-loop-j

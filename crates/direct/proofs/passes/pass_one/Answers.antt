@@ -36,17 +36,17 @@ loop-row-preserved c =
                 let i = within in
      (
       omega (arith, i.0),
-      c.first_turn-choice.kept.1.1.1.1.0 ∙ c.loop-row.inv.1,
-      c.first_turn-choice.kept.1.1.1.1.1.0 ∙ c.loop-row.inv.2,
-      c.first_turn-choice.kept.1.1.1.1.1.1.0 ∙ c.loop-row.inv.3,
+      c.first_turn-choice.auto.credits ∙ c.loop-row.invariant.1,
+      c.first_turn-choice.auto.queues ∙ c.loop-row.invariant.2,
+      c.first_turn-choice.auto.given ∙ c.loop-row.invariant.3,
       elim c.if-choice-gt0.branch [
-        | inl w ↦
-            rw (w.3, w.4, w.5)
-            (one_some _ i.1 _ _ _ _ _ _ _ _ _ i.2 i.3 c.loop-row.row _ (add-one _) i.0 c.loop-row.inv.4 _ found w.0.taken
-            _ w.1.ensures _ (one_shl 32 c.loop-row.row (omega (arith, i.0, i.1))) _ _ _ c.first_turn-choice.ensures.credits_exit c.first_turn-choice.ensures.queues_exit c.first_turn-choice.ensures.given_exit)
-        | inr w ↦
-            rw (w.1, w.2, w.3)
-            (one_none _ i.1 _ _ _ _ _ _ _ _ _ i.2 i.3 c.loop-row.row _ (add-one _) i.0 c.loop-row.inv.4 _ found (omega (arith, w.0.left))
+        | goal.then-choice-gt0 w ↦
+            rw (w.free-is, w.outputs-is, w.first_pass-is)
+            (one_some _ i.1 _ _ _ _ _ _ _ _ _ i.2 i.3 c.loop-row.row _ (add-one _) i.0 c.loop-row.invariant.4 _ found w.if-choice-gt0.true
+            _ w.take-free.ensures.cleared _ (one_shl 32 c.loop-row.row (omega (arith, i.0, i.1))) _ _ _ c.first_turn-choice.ensures.credits_exit c.first_turn-choice.ensures.queues_exit c.first_turn-choice.ensures.given_exit)
+        | goal.else-choice-gt0 w ↦
+            rw (w.free-is, w.outputs-is, w.first_pass-is)
+            (one_none _ i.1 _ _ _ _ _ _ _ _ _ i.2 i.3 c.loop-row.row _ (add-one _) i.0 c.loop-row.invariant.4 _ found (omega (arith, w.if-choice-gt0.false))
             _ _ _ c.first_turn-choice.ensures.credits_exit c.first_turn-choice.ensures.queues_exit c.first_turn-choice.ensures.given_exit)
       ],
     )

@@ -49,18 +49,18 @@ loop-row-preserved c =
                 let i = within in
         let none : get_or c.loop-row.outputs c.loop-row.row 0 ≡ 0 = omega (arith, c.if-outputs-row-gt0.false) in (
       omega (arith, i.0),
-      c.second_turn-choice.kept.1.1.1.1.0 ∙ c.loop-row.inv.1,
-      c.second_turn-choice.kept.1.1.1.1.1.0 ∙ c.loop-row.inv.2,
+      c.second_turn-choice.auto.queues ∙ c.loop-row.invariant.1,
+      c.second_turn-choice.auto.given ∙ c.loop-row.invariant.2,
       λ st ws one h.
           elim c.if-choice-gt0.branch [
-            | inl w ↦
-                rw (w.3, w.4)
-                (two_some _ i.1 st ws one _ _ _ _ c.loop-row.row _ (add-one _) (c.loop-row.inv.3 st ws one h) i.0 i.2 none _ found
-                w.0.taken _ w.1.ensures _ _ c.second_turn-choice.ensures.queues_exit c.second_turn-choice.ensures.given_exit)
-            | inr w ↦
-                rw (w.1, w.2)
-                (two_none _ i.1 st ws one _ _ _ _ c.loop-row.row _ (add-one _) (c.loop-row.inv.3 st ws one h) i.0 i.2 none _ found
-                (omega (arith, w.0.left)) _ _ c.second_turn-choice.ensures.queues_exit c.second_turn-choice.ensures.given_exit)
+            | goal.then-choice-gt0 w ↦
+                rw (w.free-is, w.outputs-is)
+                (two_some _ i.1 st ws one _ _ _ _ c.loop-row.row _ (add-one _) (c.loop-row.invariant.3 st ws one h) i.0 i.2 none _ found
+                w.if-choice-gt0.true _ w.take-free.ensures.cleared _ _ c.second_turn-choice.ensures.queues_exit c.second_turn-choice.ensures.given_exit)
+            | goal.else-choice-gt0 w ↦
+                rw (w.free-is, w.outputs-is)
+                (two_none _ i.1 st ws one _ _ _ _ c.loop-row.row _ (add-one _) (c.loop-row.invariant.3 st ws one h) i.0 i.2 none _ found
+                (omega (arith, w.if-choice-gt0.false)) _ _ c.second_turn-choice.ensures.queues_exit c.second_turn-choice.ensures.given_exit)
           ],
     )
 

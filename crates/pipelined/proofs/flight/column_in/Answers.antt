@@ -9,11 +9,15 @@ overflow_sub-result c =
 
 pub returns-then-is_by_first : goal.returns-then-is_by_first
 returns-then-is_by_first c =
-    first_column c.args.ports c.args.word (sym c.is_by_first.ensures.tested ∙ c.if-is_by_first.true)
-    -- LEFT: the fields are ['some', 'none']
+    let h = first_column c.args.ports c.args.word (sym c.is_by_first.ensures.tested ∙ c.if-is_by_first.true) in record {
+      some = h.0;
+      none = h.1;
+    }
 
 pub returns : goal.returns
 returns c =
-    second_column c.args.ports c.args.word c.wrapping_sub_u32.result (sym c.is_by_first.ensures.tested ∙ c.if-is_by_first.false) c.requires.few_ports (omega arith)
-    (omega (arith, c.wrapping_sub_u32.ensures.value))
-    -- LEFT: the fields are ['some', 'none']
+    let h = second_column c.args.ports c.args.word c.wrapping_sub_u32.result (sym c.is_by_first.ensures.tested ∙ c.if-is_by_first.false) c.requires.few_ports (omega arith)
+        (omega (arith, c.wrapping_sub_u32.ensures.value)) in record {
+      some = h.0;
+      none = h.1;
+    }

@@ -14,14 +14,16 @@ pub loop-column-preserved : goal.loop-column-preserved
 loop-column-preserved c =
     let e = next_stands _ _ _ _ (omega arith) c.loop-column.invariant.2 in (
       omega arith,
-      ⊎_elim
-          (λ w. rw w.1
+      elim c.if-is_by_first.branch [
+        | goal.then-is_by_first w ↦
+          rw w.first_pass-is
           (handed_first _ _ _ _ _ _ _ _ (omega arith) c.row_of-row.ensures.is c.loop-column.invariant.1 (c.output_of.ensures.read ∙ ap (output_in _) e)
-          (sym (ap (by_first _) e) ∙ sym c.is_by_first.ensures.tested ∙ w.0.taken)))
-          (λ w. rw w.1
+          (sym (ap (by_first _) e) ∙ sym c.is_by_first.ensures.tested ∙ w.if-is_by_first.true))
+        | goal.else-is_by_first w ↦
+          rw w.first_pass-is
           (handed_other _ _ _ _ _ _ _ _ (omega arith) c.row_of-row.ensures.is c.loop-column.invariant.1 (c.output_of.ensures.read ∙ ap (output_in _) e)
-          (sym (ap (by_first _) e) ∙ sym c.is_by_first.ensures.tested ∙ w.0.left)))
-          c.if-is_by_first.branch,
+          (sym (ap (by_first _) e) ∙ sym c.is_by_first.ensures.tested ∙ w.if-is_by_first.false))
+      ],
       cleared_more _ _ _ _ (omega arith) c.loop-column.invariant.2,
       simp length-set c.loop-column.invariant.3,
     )

@@ -11,23 +11,14 @@ unfolding turns
 loop-done-init c =
     (search rules, refl, refl, refl, refl, λ frame a. refl)
 
-pub turns_of-requires : goal.turns_of-requires
-turns_of-requires c =
-    record {
-      runs_fit = search rules;
-      row_one = search rules;
-      row_two = search rules;
-      input = search rules;
-    }
-
 pub loop-done-preserved : goal.loop-done-preserved
 loop-done-preserved c =
     (
       omega arith,
-      c.turns_of.auto.1.1.1.1.1.0 ∙ c.loop-done.invariant.1,
-      c.turns_of.auto.1.1.1.1.1.1.0 ∙ c.loop-done.invariant.2,
-      c.turns_of.auto.1.1.1.1.1.1.1.0 ∙ c.loop-done.invariant.3,
-      c.turns_of.auto.1.1.1.1.1.1.1.1.0 ∙ c.loop-done.invariant.4,
+      c.turns_of.auto.credits ∙ c.loop-done.invariant.1,
+      c.turns_of.auto.queues ∙ c.loop-done.invariant.2,
+      c.turns_of.auto.given ∙ c.loop-done.invariant.3,
+      c.turns_of.auto.flight ∙ c.loop-done.invariant.4,
       λ frame a. turns_more _ frame _ _ _ _ _ _ (c.loop-done.invariant.5 frame a) (c.turns_of.ensures.turns frame a),
     )
 

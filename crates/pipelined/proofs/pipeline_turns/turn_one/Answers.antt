@@ -38,11 +38,6 @@ overflow_add-flight c =
     let small : c.first_turn-choice.result.output.0 ≤ 32 = let p = (in_turn_some _ _ _ _ found c.if-choice-gt0.true).0 in omega (arith, c.requires.few_ports) in
      omega (arith, small)
 
--- as where the place was read
-pub offset_bounds-flight-at-then-choice-gt0 : goal.offset_bounds-flight-at-then-choice-gt0
-offset_bounds-flight-at-then-choice-gt0 c =
-    mul-output-of c
-
 pub bounds-flight-at-then-choice-gt0 : goal.bounds-flight-at-then-choice-gt0
 bounds-flight-at-then-choice-gt0 c =
     omega (arith, c.requires.input, c.requires.row_fits)

@@ -8,17 +8,17 @@ turn_two-requires c =
     record {
       few_ports = c.requires.runs_fit.ports;
       input = c.requires.input;
-      queues_fit = omega (arith, c.turn_one.kept.1.1.1.1.0, c.requires.runs_fit.queues);
-      given_fits = omega (arith, c.turn_one.kept.1.1.1.1.1.0, c.requires.runs_fit.given);
-      row_fits = omega (arith, c.row_before-two.ensures.within, c.turn_one.kept.1.1.1.1.1.1.0, c.requires.runs_fit.flight);
+      queues_fit = omega (arith, c.turn_one.auto.queues, c.requires.runs_fit.queues);
+      given_fits = omega (arith, c.turn_one.auto.given, c.requires.runs_fit.given);
+      row_fits = omega (arith, c.row_before-two.ensures.within, c.turn_one.auto.flight, c.requires.runs_fit.flight);
     }
 
 pub returns-then-input-time : goal.returns-then-input-time
 returns-then-input-time c =
     record { turns = λ frame a.
-                            turns_due _ frame _ _ _ _ _ _ _ (omega (arith, c.if-input-time.taken)) (c.reload_row.ensures.reload frame _ a.covers a.place _ _ _)
-    (c.turn_one.ensures.turn _ (c.row_before-one.ensures.is _ a.row_one (omega (arith, c.if-input-time.taken))))
-    (c.turn_two.ensures.turn _ (c.row_before-two.ensures.is _ a.row_two (omega (arith, c.if-input-time.taken))) _) }
+                            turns_due _ frame _ _ _ _ _ _ _ (omega (arith, c.if-input-time.true)) (c.reload_row.ensures.reload frame _ a.covers a.place _ _ _)
+    (c.turn_one.ensures.turn _ (c.row_before-one.ensures.is _ a.row_one (omega (arith, c.if-input-time.true))))
+    (c.turn_two.ensures.turn _ (c.row_before-two.ensures.is _ a.row_two (omega (arith, c.if-input-time.true))) _) }
 
 pub returns-else-input-time : goal.returns-else-input-time
 returns-else-input-time c =

@@ -3,7 +3,6 @@ use mathlib.Core.Path.{sym, subst}
 use mir.Syntax.{w64}
 use mir.Val.{SFits}
 use Rattle.previews.proofs.Laws.Differences.{fits, machine_fits, machine_is}
-use borrow.Author.Rules.{rules}
 use Rattle.previews.proofs.headrooms.difference.Goals as goal
 
 pub overflow_sub-result : goal.overflow_sub-result

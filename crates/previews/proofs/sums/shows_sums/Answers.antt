@@ -3,7 +3,6 @@ use mathlib.Core.Path.{sym, ◌∙◌}
 use mathlib.Core.Bool.{or-false}
 use borrow.Author.Tests.{ne_eqb}
 use Rattle.previews.specs.Shown.{shows_sums}
-use borrow.Author.Rules.{rules}
 use Rattle.previews.proofs.sums.shows_sums.Goals as goal
 
 pub returns-then-refusal-eq0 : goal.returns-then-refusal-eq0

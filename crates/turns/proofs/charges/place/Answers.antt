@@ -2,7 +2,6 @@
 use mathlib.Core.Path.{◌∙◌, ap}
 use Prim.Native.Nat.{◌+◌, ◌-◌}
 use native.Mathlib.Omega.{arith}
-use borrow.Author.Rules.{rules}
 use Rattle.wsgs.specs.Words.{place}
 use Rattle.wsgs.proofs.Laws.Words.{square_small}
 use Rattle.words.proofs.PlaceLaws.{row_is}

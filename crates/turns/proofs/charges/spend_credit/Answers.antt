@@ -1,7 +1,6 @@
 -- `charges::spend_credit` meets its contract: the pair's place is inside the run, and its credits fall where there are some. Assumes nothing.
 use mathlib.Core.Path.{◌∙◌, ap}
 use Prim.Native.Nat.{◌-◌}
-use borrow.Author.Rules.{rules}
 use Rattle.turns.proofs.Falls.{at_less}
 use Rattle.turns.proofs.charges.spend_credit.Goals as goal
 

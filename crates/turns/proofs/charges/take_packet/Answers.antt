@@ -1,6 +1,5 @@
 -- `charges::take_packet` meets its contract: the pair's place is inside the run, and its word falls where it is above 0. Assumes nothing.
 use native.Mathlib.Omega.{arith}
-use borrow.Author.Rules.{rules}
 use lib.ListN.{get_or}
 use Rattle.turns.proofs.Falls.{taken_fits, falls, at_less}
 use Rattle.turns.proofs.charges.take_packet.Goals as goal

@@ -1,7 +1,6 @@
 -- `credits::booked_at` meets its contract: a word of the run fits 32 bits. Assumes nothing.
 use mathlib.Core.Path.{refl}
 use native.Mathlib.Omega.{arith}
-use borrow.Author.Rules.{rules}
 use Rattle.turns.proofs.credits.booked_at.Goals as goal
 
 pub overflow_cast-result : goal.overflow_cast-result

@@ -1,6 +1,6 @@
 -- `credits::load_first` meets its contract. The loop's invariant: the credits at the places so far are the booked slots. The measure is the
 -- places left. Assumes nothing.
-use Prim.Native.Nat.{ℕ, ◌≤◌, ◌-◌}
+use Prim.Native.Nat.{ℕ}
 use mathlib.Core.Path.{◌≡◌, refl, ap, ◌∙◌}
 use native.Mathlib.Numerals.{add-one}
 use native.Mathlib.Omega.{arith}
@@ -15,14 +15,13 @@ loop-at-init c =
     (search rules, refl, refl)
 
 pub loop-at-preserved : goal.loop-at-preserved
-loop-at-preserved c =
-    (
-      omega arith,
-      c.put_credits.ensures.written
-          ∙ ap (set c.loop-at.credits c.loop-at.at) (c.credits_for.ensures.same ∙ c.booked_at-slots.ensures.read)
-          ∙ rw (c.loop-at.invariant.1, add-one c.loop-at.at) (copy_more c.args.booked.now c.args.credits.now c.loop-at.at (omega arith) (omega arith)),
-      ap length c.put_credits.ensures.written ∙ simp length-set c.loop-at.invariant.2,
-    )
+loop-at-preserved c = (
+  omega arith,
+  c.put_credits.ensures.written
+      ∙ ap (set c.loop-at.credits c.loop-at.at) (c.credits_for.ensures.same ∙ c.booked_at-slots.ensures.read)
+      ∙ rw (c.loop-at.invariant.1, add-one c.loop-at.at) (copy_more c.args.booked.now c.args.credits.now c.loop-at.at (omega arith) (omega arith)),
+  ap length c.put_credits.ensures.written ∙ simp length-set c.loop-at.invariant.2,
+)
 
 pub returns : goal.returns
 returns c =

@@ -1,13 +1,9 @@
 -- `credits::load_first` meets its contract. The loop's invariant: the credits at the places so far are the booked slots. The measure is the
 -- places left. Assumes nothing.
-use Prim.Native.Nat.{ℕ, ◌≤◌, ◌-◌}
-use mathlib.Core.Path.{◌≡◌, refl, ap, ◌∙◌}
-use native.Mathlib.Numerals.{add-one}
-use native.Mathlib.Omega.{arith}
-use borrow.Author.Rules.{rules}
-use lib.ListN.{length, set, length-set}
+use Prim.Native.Nat.{◌≤◌, ◌-◌}
+use mathlib.Core.Path.{◌≡◌}
+use lib.ListN.{length}
 use Rattle.wsgs.specs.Words.{copied}
-use Rattle.words.proofs.Laws.{copy_more}
 use Rattle.turns.proofs.credits.load_first.Given as goal
 
 abbrev pub invariant-loop-at : goal.invariant-loop-at

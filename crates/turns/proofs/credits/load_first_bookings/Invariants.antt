@@ -1,14 +1,10 @@
 -- `credits::load_first_bookings` meets its contract. The loop's invariant: the credits at the places so far are the bookings. The measure is the
 -- places left. Assumes nothing.
-use Prim.Native.Nat.{ℕ, ◌≤◌, ◌-◌}
-use mathlib.Core.Path.{◌≡◌, refl, ap, ◌∙◌}
-use native.Mathlib.Numerals.{add-one}
-use native.Mathlib.Omega.{arith}
-use borrow.Author.Rules.{rules}
-use lib.ListN.{length, length-set}
+use Prim.Native.Nat.{◌≤◌, ◌-◌}
+use mathlib.Core.Path.{◌≡◌}
+use lib.ListN.{length}
 use Rattle.wsgs.specs.Words.{copied}
 use Rattle.wsgs.specs.Bookings.{booking_words}
-use Rattle.bookings.proofs.Laws.{booking_more_copied}
 use Rattle.turns.proofs.credits.load_first_bookings.Given as goal
 
 abbrev pub invariant-loop-at : goal.invariant-loop-at

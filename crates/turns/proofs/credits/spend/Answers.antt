@@ -1,6 +1,5 @@
 -- `credits::spend` meets its contract: a credit falls where there is one. Assumes nothing.
 use native.Mathlib.Omega.{arith}
-use borrow.Author.Rules.{rules}
 use Rattle.turns.proofs.Falls.{taken_fits, falls}
 use Rattle.turns.proofs.credits.spend.Goals as goal
 

@@ -1,6 +1,5 @@
 -- `masks::all_free` meets its contract: from 32 ports on all bits are set, and below them one bit for each. Assumes nothing.
 use native.Mathlib.Omega.{arith}
-use borrow.Author.Rules.{rules}
 use lib.Pow.{pow_pos}
 use Rattle.turns.proofs.BitLaws.{one_shl}
 use Rattle.turns.proofs.MaskLaws.{all_set, lowest_set}

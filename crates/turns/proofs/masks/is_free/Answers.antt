@@ -2,7 +2,6 @@
 use mathlib.Core.Logic.{inl, inr}
 use Prim.Native.Nat.{◌-◌}
 use native.Mathlib.Omega.{arith}
-use borrow.Author.Rules.{rules}
 use Rattle.turns.proofs.MaskLaws.{not_free, tested}
 use Rattle.turns.proofs.masks.is_free.Goals as goal
 

@@ -2,7 +2,6 @@
 use mathlib.Core.Logic.{inl, inr}
 use Prim.Native.Nat.{◌-◌}
 use native.Mathlib.Omega.{arith}
-use borrow.Author.Rules.{rules}
 use Rattle.turns.proofs.MaskLaws.{stays, cleared}
 use Rattle.turns.proofs.masks.take.Goals as goal
 

@@ -1,5 +1,4 @@
 -- `search::above` meets its contract: the bits of the outputs up to the number are cleared. Assumes nothing.
-use borrow.Author.Rules.{rules}
 use lib.Bits.{and_le_l}
 use Rattle.turns.proofs.MaskLaws.{left_above}
 use Rattle.turns.proofs.search.above.Goals as goal

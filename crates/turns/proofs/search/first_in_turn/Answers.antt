@@ -3,7 +3,6 @@ use mathlib.Core.Path.{◌∙◌}
 use native.Mathlib.Nat.{lt_of_le_of_lt}
 use native.Mathlib.Numerals.{add-one}
 use native.Mathlib.Omega.{arith}
-use borrow.Author.Rules.{rules}
 use lib.Count.{trailing_le}
 use lib.Dec.{lit<}
 use Rattle.turns.proofs.Ready.{first_of_pool, none_in_turn}
@@ -23,5 +22,7 @@ overflow_add-result c =
 
 pub returns : goal.returns
 returns c =
-    record { first = add-one _
-    ∙ first_of_pool c.args.set c.args.last _ _ (omega (arith, c.if-set-eq0.false)) c.ranges.set.fits c.above.ensures.higher c.above.ensures.within c.or_else-pool.ensures.set }
+    record {
+      first = add-one _
+          ∙ first_of_pool c.args.set c.args.last _ _ (omega (arith, c.if-set-eq0.false)) c.ranges.set.fits c.above.ensures.higher c.above.ensures.within c.or_else-pool.ensures.set;
+    }

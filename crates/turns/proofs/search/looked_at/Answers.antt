@@ -1,6 +1,5 @@
 -- `search::looked_at` meets its contract: none is come to, one above the last given one, or one that is not. Assumes nothing.
 use native.Mathlib.Omega.{arith}
-use borrow.Author.Rules.{rules}
 use Rattle.turns.proofs.LookLaws.{all_looked, looked_above, looked_wrapped}
 use Rattle.turns.proofs.search.looked_at.Goals as goal
 

@@ -1,13 +1,10 @@
 -- `sweep::has_credit` meets its contract. The loop's invariant: the or of the credits so far is above 0 where one of them is. The measure is the columns
 -- left. Assumes nothing.
 use Prim.Native.Nat.{◌+◌, ◌-◌, ◌≤◌}
-use mathlib.Core.Path.{◌≡◌, ap, ◌∙◌}
-use borrow.Author.Rules.{rules}
-use native.Mathlib.Omega.{arith}
+use mathlib.Core.Path.{◌≡◌}
 use lib.Dec.{ltb}
 use lib.ListN.{get_or}
 use Rattle.wsgs.specs.Basics.{some_of}
-use Rattle.turns.proofs.Ready.{none_yet, some_next}
 use Rattle.turns.proofs.sweep.has_credit.Given as goal
 
 abbrev pub invariant-loop-column : goal.invariant-loop-column

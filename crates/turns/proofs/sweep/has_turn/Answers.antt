@@ -1,6 +1,5 @@
 -- `sweep::has_turn` meets its contract: an input that is no port has no turn, and else the run's length decides. Assumes nothing.
 use native.Mathlib.Omega.{arith}
-use borrow.Author.Rules.{rules}
 use Rattle.words.proofs.PlaceLaws.{IsPort, known, unknown, product_fits}
 use Rattle.turns.proofs.TurnLaws.{no_turn, run_decides}
 use mathlib.Core.Path.{ap}
@@ -13,10 +12,10 @@ returns-then-not-is_port c =
 
 pub overflow_mul-result : goal.overflow_mul-result
 overflow_mul-result c =
-    let port :  IsPort c.args.ports c.args.input.0 = known _ _ c.is_port.ensures.tested (ap not c.if-not-is_port.false) in
-     let p = port in record { fits = product_fits _ _ (omega arith) (omega arith) }
+    let port : IsPort c.args.ports c.args.input.0 = known _ _ c.is_port.ensures.tested (ap not c.if-not-is_port.false) in
+    let p = port in record { fits = product_fits _ _ (omega arith) (omega arith) }
 
 pub returns : goal.returns
 returns c =
-    let port :  IsPort c.args.ports c.args.input.0 = known _ _ c.is_port.ensures.tested (ap not c.if-not-is_port.false) in
-     record { tested = run_decides _ _ _ port.yes }
+    let port : IsPort c.args.ports c.args.input.0 = known _ _ c.is_port.ensures.tested (ap not c.if-not-is_port.false) in
+    record { tested = run_decides _ _ _ port.yes }

@@ -1,13 +1,8 @@
 -- `sweep::waiting_in` meets its contract. The loop's invariant: the columns so far that have packets are marked. The measure is the columns left. Assumes
 -- nothing.
-use Prim.Native.Nat.{◌+◌, ◌-◌, ◌≤◌}
-use mathlib.Core.Path.{◌≡◌, ap, ◌∙◌}
-use borrow.Author.Rules.{rules}
-use native.Mathlib.Omega.{arith}
-use lib.Dec.{ltb}
-use lib.ListN.{get_or}
+use Prim.Native.Nat.{◌-◌, ◌≤◌}
+use mathlib.Core.Path.{◌≡◌}
 use Rattle.turns.specs.Masks.{ready_mask}
-use Rattle.turns.proofs.Ready.{column_one, ready_start, ready_next}
 use Rattle.turns.proofs.sweep.waiting_in.Given as goal
 
 abbrev pub invariant-loop-column : goal.invariant-loop-column
