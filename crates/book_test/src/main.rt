@@ -9,22 +9,24 @@ mod pairs;
 mod show;
 mod summed;
 
-fn main() {
-    forms::direct();
-    forms::pipelined();
-    pairs::clocks();
-    pairs::ports();
-    pairs::bookings();
-    pairs::rates();
-    pairs::releases();
-    pairs::rate_releases();
-    pairs::arrivals();
-    summed::streams();
-    summed::slots_and_rates();
-    summed::garbage();
-    fine::whole_lines();
-    fine::sharing();
-    fine::garbage();
-    matrices::last_pair();
-    matrices::largest_words();
+use std::io;
+
+fn main(rt: HostRuntime) -> io::Result<()> {
+    forms::direct(&rt)?;
+    forms::pipelined(&rt)?;
+    pairs::clocks(&rt)?;
+    pairs::ports(&rt)?;
+    pairs::bookings(&rt)?;
+    pairs::rates(&rt)?;
+    pairs::releases(&rt)?;
+    pairs::rate_releases(&rt)?;
+    pairs::arrivals(&rt)?;
+    summed::streams(&rt)?;
+    summed::slots_and_rates(&rt)?;
+    summed::garbage(&rt)?;
+    fine::whole_lines(&rt)?;
+    fine::sharing(&rt)?;
+    fine::garbage(&rt)?;
+    matrices::last_pair(&rt)?;
+    matrices::largest_words(&rt)
 }

@@ -1,4 +1,5 @@
 // Printing names, numbers and words, and the clock that the cases begin with.
+use std::io;
 use wsgs::Clock;
 
 // A clock that has run nine slots, with a plain book; and with a word of its own for the kind of the book.
@@ -22,43 +23,44 @@ fn wide(word: u32) -> u64 {
 }
 
 // Prints text.
-pub fn text(bytes: &[u8]) {
-    io::write_all(1, bytes);
+pub fn text(rt: &impl Print, bytes: &[u8]) -> io::Result<()> {
+    rt.write_all(bytes)
 }
 
 // Prints a name and a number.
-pub fn number(name: &[u8], value: u64) {
-    text(name);
-    io::print_decimal(1, value);
+pub fn number(rt: &impl Print, name: &[u8], value: u64) -> io::Result<()> {
+    text(rt, name)?;
+    print!(rt; "{value}")
 }
 
 // Prints the word at a place of a run, where it has one.
-pub fn word(run: &[u32], place: usize) {
+pub fn word(rt: &impl Print, run: &[u32], place: usize) -> io::Result<()> {
     if place < run.len() {
-        number(b" ", wide(run[place]));
+        number(rt, b" ", wide(run[place]))?;
     }
+    Ok(())
 }
 
 // Prints a clock.
-pub fn clock_of(clock: Clock) {
-    number(b" clock ", clock.ports as u64);
-    number(b" ", clock.frame as u64);
-    number(b" ", clock.slot as u64);
-    number(b" ", clock.line as u64);
-    number(b" ", clock.fine as u64);
+pub fn clock_of(rt: &impl Print, clock: Clock) -> io::Result<()> {
+    number(rt, b" clock ", clock.ports as u64)?;
+    number(rt, b" ", clock.frame as u64)?;
+    number(rt, b" ", clock.slot as u64)?;
+    number(rt, b" ", clock.line as u64)?;
+    number(rt, b" ", clock.fine as u64)
 }
 
 // Prints a refusal.
-pub fn refused(refusal: u32) {
-    number(b": refusal ", wide(refusal));
+pub fn refused(rt: &impl Print, refusal: u32) -> io::Result<()> {
+    number(rt, b": refusal ", wide(refusal))
 }
 
 // Prints the name and the first five words of a run: those of two ports, and one beyond.
-pub fn five_words(name: &[u8], run: &[u32]) {
-    text(name);
-    word(run, 0);
-    word(run, 1);
-    word(run, 2);
-    word(run, 3);
-    word(run, 4);
+pub fn five_words(rt: &impl Print, name: &[u8], run: &[u32]) -> io::Result<()> {
+    text(rt, name)?;
+    word(rt, run, 0)?;
+    word(rt, run, 1)?;
+    word(rt, run, 2)?;
+    word(rt, run, 3)?;
+    word(rt, run, 4)
 }

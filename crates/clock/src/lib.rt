@@ -26,9 +26,10 @@ pub fn tick_direct(
 {
     let result = direct::tick(*clock, slots, rates, credits, queues, given);
     *clock = result.clock;
+    let outputs = result.outputs;
     Answer {
         refusal: result.refusal,
-        outputs: result.outputs,
+        outputs,
         first_pass: result.first_pass,
     }
 }
@@ -49,10 +50,11 @@ pub fn step_direct(
 {
     let mut advanced = clock;
     let answer = tick_direct(&mut advanced, slots, rates, credits, queues, given);
+    let outputs = answer.outputs;
     TickResult {
         refusal: answer.refusal,
         clock: advanced,
-        outputs: answer.outputs,
+        outputs,
         first_pass: answer.first_pass,
     }
 }
@@ -79,9 +81,10 @@ pub fn tick_pipelined(
 {
     let result = pipelined::tick(*clock, slots, rates, credits, queues, given, copy, flight);
     *clock = result.clock;
+    let outputs = result.outputs;
     Answer {
         refusal: result.refusal,
-        outputs: result.outputs,
+        outputs,
         first_pass: result.first_pass,
     }
 }
@@ -115,10 +118,11 @@ pub fn step_pipelined(
         copy,
         flight,
     );
+    let outputs = answer.outputs;
     TickResult {
         refusal: answer.refusal,
         clock: advanced,
-        outputs: answer.outputs,
+        outputs,
         first_pass: answer.first_pass,
     }
 }

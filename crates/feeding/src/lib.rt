@@ -10,7 +10,6 @@ ghost use Rattle.events.specs.View.{state_of};
 ghost use Rattle.feeding.specs.Texts.{text_begun, text_state_of, next_call, TextFed};
 
 use events::{Progress, feed};
-use libc::STDOUT_FILENO;
 use lines::heading_line;
 
 // What feeding a text leaves: what is kept, how many bytes of the text are taken, and whether all that was printed could be written.
@@ -22,19 +21,19 @@ pub struct TextResult {
 }
 
 // Writes the front of a buffer to standard output.
-fn write_front(out: &[u8], count: usize) -> bool {
+fn write_front(rt: &impl Print, out: &[u8], count: usize) -> bool {
     if count <= out.len() {
-        return io::write_all(STDOUT_FILENO, &out[..count]);
+        return rt.write_all(&out[..count]).is_ok();
     }
     false
 }
 
 // Writes the heading, by way of a lent output.
-pub fn write_heading(out: &mut [u8]) -> bool
+pub fn write_heading(rt: &impl Print, out: &mut [u8]) -> bool
     ensures output { out.new ≡ (put_effect heading_room heading out.old).words }
 {
     let count = heading_line(out);
-    write_front(out, count)
+    write_front(rt, out, count)
 }
 
 // Whether a text of so many bytes has something left to do, and all so far could be written.
@@ -52,6 +51,7 @@ fn goes_on(fed: TextResult, bytes: usize, buffer: usize, room: usize) -> bool
 
 // One call of the library on the rest of a text.
 fn feed_rest(
+    rt: &impl Print,
     fed: TextResult,
     text: &[u8],
     buffer: &mut [u8],
@@ -91,12 +91,13 @@ fn feed_rest(
     TextResult {
         progress: after,
         taken: from + result.taken,
-        is_written: write_front(out, result.written),
+        is_written: write_front(rt, out, result.written),
     }
 }
 
 // Feeds a whole text, or as far as its output can be written. A buffer or an output that is too short for `feed` leaves all as it is.
 pub fn feed_text(
+    rt: &impl Print,
     progress: Progress,
     text: &[u8],
     buffer: &mut [u8],
@@ -124,7 +125,7 @@ pub fn feed_text(
     };
     while goes_on(fed, text.len(), buffer.len(), out.len()) {
         fed = feed_rest(
-            fed, text, buffer, out, slots, rates, credits, queues, given, copy, flight,
+            rt, fed, text, buffer, out, slots, rates, credits, queues, given, copy, flight,
         );
     }
     fed
@@ -132,6 +133,7 @@ pub fn feed_text(
 
 // Feeds the end of the input: CR LF, where its last record lacks them.
 pub fn feed_end(
+    rt: &impl Print,
     progress: Progress,
     buffer: &mut [u8],
     out: &mut [u8],
@@ -156,10 +158,10 @@ pub fn feed_end(
 {
     if progress.count == 0 {
         return feed_text(
-            progress, b"", buffer, out, slots, rates, credits, queues, given, copy, flight,
+            rt, progress, b"", buffer, out, slots, rates, credits, queues, given, copy, flight,
         );
     }
     feed_text(
-        progress, b"\r\n", buffer, out, slots, rates, credits, queues, given, copy, flight,
+        rt, progress, b"\r\n", buffer, out, slots, rates, credits, queues, given, copy, flight,
     )
 }

@@ -3,8 +3,11 @@
 
 use events::{KEPT_BYTES, Progress, begin};
 use feeding::{feed_end, feed_text, write_heading};
-use libc::STDIN_FILENO;
 use machine::{FLIGHT_WORDS, PAIR_WORDS, PORT_WORDS};
+use std::io::Read;
+
+// The bytes of a block, and of the output.
+const BLOCK_BYTES: usize = 65_536;
 
 // What reading a block leaves: what is kept, whether to read on, and whether the input has ended.
 #[derive(Clone, Copy)]
@@ -14,8 +17,10 @@ struct ReadResult {
     has_ended: bool,
 }
 
-// Reads a block and feeds it.
+// Reads a block and feeds it. A read that fails ends the run, as a write does.
 fn read_block(
+    input: &mut impl Read,
+    rt: &impl Print,
     progress: Progress,
     block: &mut [u8],
     buffer: &mut [u8],
@@ -28,16 +33,25 @@ fn read_block(
     copy: &mut [u32],
     flight: &mut [u32],
 ) -> ReadResult {
-    let got = libc::read(STDIN_FILENO, block);
-    if got <= 0 {
+    let count = match input.read(block) {
+        Ok(count) => count,
+        Err(_) => {
+            return ReadResult {
+                progress,
+                goes_on: false,
+                has_ended: false,
+            };
+        }
+    };
+    if count == 0 {
         return ReadResult {
             progress,
             goes_on: false,
-            has_ended: got == 0,
+            has_ended: true,
         };
     }
-    let count = io::count(got, block);
     let fed = feed_text(
+        rt,
         progress,
         &block[..count],
         buffer,
@@ -61,6 +75,8 @@ fn read_block(
 // Reads the input to its end, or to a write that fails. Nothing says that an input ends, so the blocks are counted down from a number that no
 // run uses up.
 fn read_input(
+    input: &mut impl Read,
+    rt: &impl Print,
     block: &mut [u8],
     buffer: &mut [u8],
     out: &mut [u8],
@@ -81,7 +97,8 @@ fn read_input(
     while read.goes_on && blocks > 0 {
         let progress = read.progress;
         read = read_block(
-            progress, block, buffer, out, slots, rates, credits, queues, given, copy, flight,
+            input, rt, progress, block, buffer, out, slots, rates, credits, queues, given, copy,
+            flight,
         );
         blocks -= 1;
     }
@@ -90,6 +107,8 @@ fn read_input(
 
 // The whole input, and its end.
 fn run(
+    input: &mut impl Read,
+    rt: &impl Print,
     block: &mut [u8],
     buffer: &mut [u8],
     out: &mut [u8],
@@ -102,19 +121,20 @@ fn run(
     flight: &mut [u32],
 ) {
     let read = read_input(
-        block, buffer, out, slots, rates, credits, queues, given, copy, flight,
+        input, rt, block, buffer, out, slots, rates, credits, queues, given, copy, flight,
     );
     let progress = read.progress;
     if read.has_ended {
         feed_end(
-            progress, buffer, out, slots, rates, credits, queues, given, copy, flight,
+            rt, progress, buffer, out, slots, rates, credits, queues, given, copy, flight,
         );
     }
 }
 
-fn main() {
-    let mut block = io::large_buffer();
-    let mut out = io::large_buffer();
+fn main(rt: HostRuntime) {
+    let mut input = rt.stdin();
+    let mut block = [0u8; BLOCK_BYTES];
+    let mut out = [0u8; BLOCK_BYTES];
     let mut buffer = [0u8; KEPT_BYTES];
     let mut slots = [0u32; PAIR_WORDS];
     let mut rates = [0u32; PAIR_WORDS];
@@ -123,10 +143,12 @@ fn main() {
     let mut given = [0u32; PORT_WORDS];
     let mut copy = [0u32; PAIR_WORDS];
     let mut flight = [0u32; FLIGHT_WORDS];
-    if !write_heading(&mut out) {
+    if !write_heading(&rt, &mut out) {
         return;
     }
     run(
+        &mut input,
+        &rt,
         &mut block,
         &mut buffer,
         &mut out,

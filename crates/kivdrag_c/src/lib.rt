@@ -1,4 +1,5 @@
 // The calls of a switch as C has them (include/kivdrag.h). Each is the proved call of its name, on a clock that is lent as five words.
+// crates/kivdrag_c_c exports them to C.
 #![tactic(auto)]
 
 ghost use Rattle.std.specs.Prelude.{◌≡◌};
@@ -23,8 +24,7 @@ use results::{put_preview, put_result};
 use wsgs::{BookedSlots, Input, Output};
 
 // Starts a direct switch, with a plain book where `fine` is 0, and else with a fine one.
-#[unsafe(no_mangle)]
-pub extern "C" fn kivdrag_start_direct(
+pub fn kivdrag_start_direct(
     ports: u64,
     frame: u64,
     line: u64,
@@ -51,8 +51,7 @@ pub extern "C" fn kivdrag_start_direct(
 }
 
 // Starts a pipelined switch, with a plain book where `fine` is 0, and else with a fine one.
-#[unsafe(no_mangle)]
-pub extern "C" fn kivdrag_start_pipelined(
+pub fn kivdrag_start_pipelined(
     ports: u64,
     frame: u64,
     line: u64,
@@ -93,8 +92,7 @@ pub extern "C" fn kivdrag_start_pipelined(
 }
 
 // Books slots of each frame for a pair.
-#[unsafe(no_mangle)]
-pub extern "C" fn kivdrag_book(
+pub fn kivdrag_book(
     clock: &[u32; 5],
     slots: &mut [u32],
     rates: &[u32],
@@ -112,8 +110,7 @@ pub extern "C" fn kivdrag_book(
 }
 
 // Books a rate for a pair, in kbit/s.
-#[unsafe(no_mangle)]
-pub extern "C" fn kivdrag_book_rate(
+pub fn kivdrag_book_rate(
     clock: &[u32; 5],
     slots: &[u32],
     rates: &mut [u32],
@@ -130,8 +127,7 @@ pub extern "C" fn kivdrag_book_rate(
 }
 
 // Takes slots that were booked by slots off a pair again.
-#[unsafe(no_mangle)]
-pub extern "C" fn kivdrag_release(
+pub fn kivdrag_release(
     clock: &[u32; 5],
     slots: &mut [u32],
     rates: &[u32],
@@ -149,8 +145,7 @@ pub extern "C" fn kivdrag_release(
 }
 
 // Takes a rate off a pair again, in kbit/s.
-#[unsafe(no_mangle)]
-pub extern "C" fn kivdrag_release_rate(
+pub fn kivdrag_release_rate(
     clock: &[u32; 5],
     slots: &[u32],
     rates: &mut [u32],
@@ -167,8 +162,7 @@ pub extern "C" fn kivdrag_release_rate(
 }
 
 // Tells how far a pair is from inequality (2) of the paper. The number is written beside a refusal too, as 0.
-#[unsafe(no_mangle)]
-pub extern "C" fn kivdrag_headroom(
+pub fn kivdrag_headroom(
     clock: &[u32; 5],
     slots: &[u32],
     rates: &[u32],
@@ -188,8 +182,7 @@ pub extern "C" fn kivdrag_headroom(
 }
 
 // Tells what booking slots would give, and the sums that would follow.
-#[unsafe(no_mangle)]
-pub extern "C" fn kivdrag_preview_book(
+pub fn kivdrag_preview_book(
     clock: &[u32; 5],
     slots: &[u32],
     rates: &[u32],
@@ -210,8 +203,7 @@ pub extern "C" fn kivdrag_preview_book(
 }
 
 // Tells what booking a rate would give.
-#[unsafe(no_mangle)]
-pub extern "C" fn kivdrag_preview_book_rate(
+pub fn kivdrag_preview_book_rate(
     clock: &[u32; 5],
     slots: &[u32],
     rates: &[u32],
@@ -231,8 +223,7 @@ pub extern "C" fn kivdrag_preview_book_rate(
 }
 
 // Tells what a release of slots would give.
-#[unsafe(no_mangle)]
-pub extern "C" fn kivdrag_preview_release(
+pub fn kivdrag_preview_release(
     clock: &[u32; 5],
     slots: &[u32],
     rates: &[u32],
@@ -253,8 +244,7 @@ pub extern "C" fn kivdrag_preview_release(
 }
 
 // Tells what a release of a rate would give.
-#[unsafe(no_mangle)]
-pub extern "C" fn kivdrag_preview_release_rate(
+pub fn kivdrag_preview_release_rate(
     clock: &[u32; 5],
     slots: &[u32],
     rates: &[u32],
@@ -274,8 +264,7 @@ pub extern "C" fn kivdrag_preview_release_rate(
 }
 
 // Adds packets that arrived to a pair's queue.
-#[unsafe(no_mangle)]
-pub extern "C" fn kivdrag_arrive(
+pub fn kivdrag_arrive(
     clock: &[u32; 5],
     queues: &mut [u32],
     input: u64,
@@ -290,8 +279,7 @@ pub extern "C" fn kivdrag_arrive(
 }
 
 // Runs the next slot of a direct switch.
-#[unsafe(no_mangle)]
-pub extern "C" fn kivdrag_tick_direct(
+pub fn kivdrag_tick_direct(
     clock: &mut [u32; 5],
     slots: &[u32],
     rates: &[u32],
@@ -312,8 +300,7 @@ pub extern "C" fn kivdrag_tick_direct(
 }
 
 // Runs the next tick of a pipelined switch: every input has its turns for slots ahead, and the pairs of the next slot are handed out.
-#[unsafe(no_mangle)]
-pub extern "C" fn kivdrag_tick_pipelined(
+pub fn kivdrag_tick_pipelined(
     clock: &mut [u32; 5],
     slots: &[u32],
     rates: &[u32],

@@ -2,12 +2,16 @@
 // that holds little more than one slot may print, so that ticks are cut too. tools/stored_trace makes `stdin`, and the second program `stdout`.
 #![tactic(auto)]
 
-ghost use Rattle.std.specs.Prelude.{◌≤◌, ◌<◌};
+ghost use Rattle.std.specs.Prelude.{◌≤◌, ◌<◌, length};
 
 use events::{KEPT_BYTES, begin};
 use feeding::{TextResult, feed_end, feed_text, write_heading};
-use libc::{STDIN_FILENO, STDOUT_FILENO};
 use machine::{FLIGHT_WORDS, PAIR_WORDS, PORT_WORDS};
+use std::io;
+use std::io::Read;
+
+// The bytes of the longest input, and one more.
+const INPUT_BYTES: usize = 65_536;
 
 // The bytes of an output that holds the lines of a slot and little more.
 const OUTPUT_BYTES: usize = 3_000;
@@ -27,6 +31,7 @@ fn piece_end(from: usize, end: usize) -> usize
 
 // Feeds the input piece by piece, or as far as the output can be written.
 fn feed_pieces(
+    rt: &impl Print,
     input: &[u8],
     buffer: &mut [u8],
     out: &mut [u8],
@@ -48,6 +53,7 @@ fn feed_pieces(
         let progress = fed.progress;
         let end = piece_end(from, input.len());
         fed = feed_text(
+            rt,
             progress,
             &input[from..end],
             buffer,
@@ -67,6 +73,7 @@ fn feed_pieces(
 
 // The whole input, and its end.
 fn run(
+    rt: &impl Print,
     input: &[u8],
     buffer: &mut [u8],
     out: &mut [u8],
@@ -79,18 +86,18 @@ fn run(
     flight: &mut [u32],
 ) {
     let fed = feed_pieces(
-        input, buffer, out, slots, rates, credits, queues, given, copy, flight,
+        rt, input, buffer, out, slots, rates, credits, queues, given, copy, flight,
     );
     let progress = fed.progress;
     if fed.is_written {
         feed_end(
-            progress, buffer, out, slots, rates, credits, queues, given, copy, flight,
+            rt, progress, buffer, out, slots, rates, credits, queues, given, copy, flight,
         );
     }
 }
 
 // Runs the input on a switch of its own, and begins with the heading.
-fn run_input(input: &[u8]) {
+fn run_input(rt: &impl Print, input: &[u8]) {
     let mut out = [0u8; OUTPUT_BYTES];
     let mut buffer = [0u8; KEPT_BYTES];
     let mut slots = [0u32; PAIR_WORDS];
@@ -100,10 +107,11 @@ fn run_input(input: &[u8]) {
     let mut given = [0u32; PORT_WORDS];
     let mut copy = [0u32; PAIR_WORDS];
     let mut flight = [0u32; FLIGHT_WORDS];
-    if !write_heading(&mut out) {
+    if !write_heading(rt, &mut out) {
         return;
     }
     run(
+        rt,
         input,
         &mut buffer,
         &mut out,
@@ -117,12 +125,30 @@ fn run_input(input: &[u8]) {
     );
 }
 
-fn main() {
-    let mut input = io::large_buffer();
-    let count = io::read_full(STDIN_FILENO, &mut input);
-    if count == input.len() {
-        io::write_all(STDOUT_FILENO, b"trace_test: the input does not fit\r\n");
-        return;
+// Reads until a buffer is full, the input ends or a read fails, and gives how many bytes it put at the front of the buffer.
+fn read_full(from: &mut impl Read, buf: &mut [u8]) -> usize
+    ensures within { result ≤ length buf.new }
+{
+    let mut done = 0;
+    while done < buf.len() {
+        let count = match from.read(&mut buf[done..]) {
+            Ok(count) => count,
+            Err(_) => 0,
+        };
+        if count == 0 {
+            return done;
+        }
+        done += count;
     }
-    run_input(&input[..count]);
+    done
+}
+
+fn main(rt: HostRuntime) -> io::Result<()> {
+    let mut input = [0u8; INPUT_BYTES];
+    let count = read_full(&mut rt.stdin(), &mut input);
+    if count == input.len() {
+        return rt.write_all(b"trace_test: the input does not fit\r\n");
+    }
+    run_input(&rt, &input[..count]);
+    Ok(())
 }

@@ -1,4 +1,5 @@
-// An input's turn as C has it, for the comparison with the second program alone: it is no part of the library for C.
+// An input's turn as C has it, for the comparison with the second program alone: it is no part of the library for C. crates/turns_c_c exports
+// both turns.
 #![tactic(auto)]
 
 ghost use Rattle.std.specs.Prelude.{◌≡◌};
@@ -9,8 +10,7 @@ use turns::{first_requests, first_turn, second_requests, second_turn};
 use wsgs::Input;
 
 // A turn of pass one: the output, 0 for none. The count of looks is written.
-#[unsafe(no_mangle)]
-pub extern "C" fn kivdrag_test_first_turn(
+pub fn kivdrag_test_first_turn(
     free: u32,
     ports: usize,
     input: u64,
@@ -36,8 +36,7 @@ pub extern "C" fn kivdrag_test_first_turn(
 }
 
 // A turn of pass two.
-#[unsafe(no_mangle)]
-pub extern "C" fn kivdrag_test_second_turn(
+pub fn kivdrag_test_second_turn(
     free: u32,
     ports: usize,
     input: u64,
