@@ -17,7 +17,7 @@ struct ReadResult {
     has_ended: bool,
 }
 
-// Reads a block and feeds it.
+// Reads a block and feeds it. A read that fails ends the run, as a write does.
 fn read_block(
     input: &mut impl Read,
     rt: &impl Print,

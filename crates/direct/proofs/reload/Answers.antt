@@ -7,7 +7,6 @@ use borrow.Author.Tests.{eq-eqb, ne_eqb}
 use Rattle.wsgs.specs.Frames.{into_frame}
 use Rattle.wsgs.proofs.Laws.Bookings.{booking_words_length}
 use Rattle.words.proofs.Laws.{copy_fits}
-use borrow.Author.Rules.{rules}
 use Rattle.direct.proofs.reload.Goals as goal
 
 pub returns-then-clock-eq0 : goal.returns-then-clock-eq0

@@ -1,7 +1,6 @@
 -- `direct::run_slot` meets its contract: step 1 and the two passes together are the nine steps. Assumes nothing.
 use mathlib.Core.Path.{◌∙◌}
 use native.Mathlib.Omega.{arith}
-use borrow.Author.Rules.{rules}
 use Rattle.direct.proofs.SlotLaws.{slot_run}
 use Rattle.direct.proofs.run_slot.Goals as goal
 

@@ -1,7 +1,6 @@
 -- `direct::tick` meets its contract: a refusal above 0 is answered alone, and 0 says that the slot's requirements hold. Assumes nothing.
 use mathlib.Core.Path.{sym, ◌∙◌}
 use native.Mathlib.Omega.{arith}
-use borrow.Author.Rules.{rules}
 use Rattle.wsgs.specs.Answers.{direct_runs_of}
 use Rattle.direct.proofs.Asked.{TickConditions, accepted_found}
 use Rattle.direct.proofs.SlotLaws.{tick_refused, tick_ran}
@@ -13,13 +12,13 @@ returns-then-refusal-gt0 c =
 
 pub overflow_add-next : goal.overflow_add-next
 overflow_add-next c =
-    let found :  TickConditions c.args.clock (direct_runs_of c.args.slots.now c.args.rates.now c.args.credits.now c.args.queues.now c.args.given.now) = accepted_found _ _ (sym c.direct_tick_refusal-refusal.ensures.result ∙ omega arith) in
-     omega (arith, found.slots_left)
+    let found : TickConditions c.args.clock (direct_runs_of c.args.slots.now c.args.rates.now c.args.credits.now c.args.queues.now c.args.given.now) = accepted_found _ _ (sym c.direct_tick_refusal-refusal.ensures.result ∙ omega arith) in
+    omega (arith, found.slots_left)
 
 pub run_slot-passed-requires : goal.run_slot-passed-requires
 run_slot-passed-requires c =
-    let found :  TickConditions c.args.clock (direct_runs_of c.args.slots.now c.args.rates.now c.args.credits.now c.args.queues.now c.args.given.now) = accepted_found _ _ (sym c.direct_tick_refusal-refusal.ensures.result ∙ omega arith) in
-        let a = found in record {
+    let found : TickConditions c.args.clock (direct_runs_of c.args.slots.now c.args.rates.now c.args.credits.now c.args.queues.now c.args.given.now) = accepted_found _ _ (sym c.direct_tick_refusal-refusal.ensures.result ∙ omega arith) in
+    let a = found in record {
       ports = a.few_ports;
       frame = a.some_slot;
       slot = omega arith;
@@ -32,5 +31,7 @@ run_slot-passed-requires c =
 
 pub returns : goal.returns
 returns c =
-    record { outcome = tick_ran c.args.clock (direct_runs_of c.args.slots.now c.args.rates.now c.args.credits.now c.args.queues.now c.args.given.now) _
-    c.direct_tick_refusal-refusal.ensures.result c.if-refusal-gt0.false _ _ _ _ _ c.run_slot-passed.ensures.slot_run }
+    record {
+      outcome = tick_ran c.args.clock (direct_runs_of c.args.slots.now c.args.rates.now c.args.credits.now c.args.queues.now c.args.given.now) _
+          c.direct_tick_refusal-refusal.ensures.result c.if-refusal-gt0.false _ _ _ _ _ c.run_slot-passed.ensures.slot_run;
+    }

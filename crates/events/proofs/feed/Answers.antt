@@ -1,11 +1,7 @@
 -- Feeding a block. The loop's invariant: what is written so far, and the rest of the steps from here, are those of the definition.
-use mathlib.Core.Path.{◌≡◌, refl, sym, ◌∙◌}
-use Prim.Native.Nat.{◌-◌}
+use mathlib.Core.Path.{refl, sym, ◌∙◌}
 use native.Mathlib.Omega.{arith}
-use lib.ListN.{length}
-use Rattle.events.specs.Feeding.{most_steps}
-use Rattle.events.specs.View.{state_of}
-use Rattle.events.proofs.Rounds.{SoFar, so_far_none, so_far_room, so_far_ready, so_far_less, so_far_more, so_far_all}
+use Rattle.events.proofs.Rounds.{so_far_none, so_far_room, so_far_ready, so_far_less, so_far_more, so_far_all}
 use Rattle.lines.proofs.Writing.{wrote_long}
 use Rattle.events.proofs.feed.Goals as goal
 
@@ -34,18 +30,17 @@ loop-buffer-smaller c =
     so_far_less _ _ _ c.loop-buffer.invariant.0 (sym c.goes_on.ensures.answer ∙ c.loop-buffer-test.true) c.step-fed.ensures.outcome c.step-fed.ensures.taken
 
 pub loop-buffer-preserved : goal.loop-buffer-preserved
-loop-buffer-preserved c =
-    (
-      so_far_more _ _ _ c.loop-buffer.invariant.0 (sym c.goes_on.ensures.answer ∙ c.loop-buffer-test.true) c.step-fed.ensures.outcome c.step-fed.ensures.taken,
-      c.step-fed.auto.1.1.0 ∙ c.loop-buffer.invariant.1,
-      c.step-fed.auto.1.1.1.1.0 ∙ c.loop-buffer.invariant.2,
-      c.step-fed.auto.1.1.1.1.1.0 ∙ c.loop-buffer.invariant.3,
-      c.step-fed.auto.1.1.1.1.1.1.0 ∙ c.loop-buffer.invariant.4,
-      c.step-fed.auto.1.1.1.1.1.1.1.0 ∙ c.loop-buffer.invariant.5,
-      c.step-fed.auto.1.1.1.1.1.1.1.1.0 ∙ c.loop-buffer.invariant.6,
-      c.step-fed.auto.1.1.1.1.1.1.1.1.1.0 ∙ c.loop-buffer.invariant.7,
-      c.step-fed.auto.1.1.1.1.1.1.1.1.1.1.0 ∙ c.loop-buffer.invariant.8,
-    )
+loop-buffer-preserved c = (
+  so_far_more _ _ _ c.loop-buffer.invariant.0 (sym c.goes_on.ensures.answer ∙ c.loop-buffer-test.true) c.step-fed.ensures.outcome c.step-fed.ensures.taken,
+  c.step-fed.auto.buffer ∙ c.loop-buffer.invariant.1,
+  c.step-fed.auto.slots ∙ c.loop-buffer.invariant.2,
+  c.step-fed.auto.rates ∙ c.loop-buffer.invariant.3,
+  c.step-fed.auto.credits ∙ c.loop-buffer.invariant.4,
+  c.step-fed.auto.queues ∙ c.loop-buffer.invariant.5,
+  c.step-fed.auto.given ∙ c.loop-buffer.invariant.6,
+  c.step-fed.auto.copy ∙ c.loop-buffer.invariant.7,
+  c.step-fed.auto.flight ∙ c.loop-buffer.invariant.8,
+)
 
 pub shape_of-buffer : goal.shape_of-buffer
 shape_of-buffer c =

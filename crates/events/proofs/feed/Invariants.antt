@@ -1,12 +1,10 @@
 -- Feeding a block. The loop's invariant: what is written so far, and the rest of the steps from here, are those of the definition.
-use mathlib.Core.Path.{◌≡◌, refl, sym, ◌∙◌}
+use mathlib.Core.Path.{◌≡◌}
 use Prim.Native.Nat.{◌-◌}
-use native.Mathlib.Omega.{arith}
 use lib.ListN.{length}
 use Rattle.events.specs.Feeding.{most_steps}
 use Rattle.events.specs.View.{state_of}
-use Rattle.events.proofs.Rounds.{SoFar, so_far_none, so_far_room, so_far_ready, so_far_less, so_far_more, so_far_all}
-use Rattle.lines.proofs.Writing.{wrote_long}
+use Rattle.events.proofs.Rounds.{SoFar}
 use Rattle.events.proofs.feed.Given as goal
 
 abbrev pub invariant-loop-buffer : goal.invariant-loop-buffer

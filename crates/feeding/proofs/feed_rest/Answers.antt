@@ -1,7 +1,7 @@
 -- One call of the library on the rest of a text.
-use mathlib.Core.Path.{◌≡◌, ap}
+use mathlib.Core.Path.{ap}
 use native.Mathlib.Omega.{arith}
-use Rattle.feeding.specs.Texts.{TextState, text_state_of, next_call}
+use Rattle.feeding.specs.Texts.{TextState, text_state_of}
 use Rattle.feeding.proofs.TextLaws.{next_within, call_is}
 use Rattle.feeding.proofs.feed_rest.Goals as goal
 

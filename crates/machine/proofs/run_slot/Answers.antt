@@ -1,5 +1,4 @@
 -- A slot, by the machine's form.
-use borrow.Author.Rules.{rules}
 use Rattle.machine.proofs.run_slot.Goals as goal
 
 pub returns-then-machine : goal.returns-then-machine

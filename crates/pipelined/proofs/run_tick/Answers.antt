@@ -1,5 +1,5 @@
 -- `pipelined::run_tick` meets its contract: what its calls ensure are the definition's steps. Assumes nothing.
-use Rattle.std.proofs.Common.{arith, rules}
+use Rattle.std.proofs.Common.{arith}
 use Rattle.pipelined.proofs.PipelinedTick.{ticked_left}
 use Rattle.pipelined.proofs.run_tick.Goals as goal
 

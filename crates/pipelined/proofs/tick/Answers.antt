@@ -1,5 +1,5 @@
 -- `pipelined::tick` meets its contract: a refusal above 0 is answered alone, and 0 says that the work's requirements hold. Assumes nothing.
-use Rattle.std.proofs.Common.{sym, ◌∙◌, arith, rules}
+use Rattle.std.proofs.Common.{sym, ◌∙◌, arith}
 use Rattle.wsgs.specs.Answers.{pipelined_runs_of}
 use Rattle.pipelined.proofs.PipelinedTick.{TickConditions, accepted_found, tick_ran, tick_refused}
 use Rattle.pipelined.proofs.tick.Goals as goal
@@ -10,8 +10,8 @@ returns-then-refusal-gt0 c =
 
 pub run_tick-requires : goal.run_tick-requires
 run_tick-requires c =
-    let found :     TickConditions c.args.clock (pipelined_runs_of c.args.slots.now c.args.rates.now c.args.credits.now c.args.queues.now c.args.given.now c.args.copy.now c.args.flight.now) = accepted_found _ _ (sym c.pipelined_tick_refusal-refusal.ensures.result ∙ omega arith) in
-        let a = found in record {
+    let found : TickConditions c.args.clock (pipelined_runs_of c.args.slots.now c.args.rates.now c.args.credits.now c.args.queues.now c.args.given.now c.args.copy.now c.args.flight.now) = accepted_found _ _ (sym c.pipelined_tick_refusal-refusal.ensures.result ∙ omega arith) in
+    let a = found in record {
       some_port = a.some_port;
       runs_fit = a.lent;
       slots_fit = a.slots;

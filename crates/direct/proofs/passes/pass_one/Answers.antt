@@ -1,21 +1,19 @@
 -- `passes::pass_one` meets its contract. The loop's invariant is `PassOneState`: the outputs that the inputs hold are the definition's for the inputs so
 -- far, and mask, list, words and mark are as these say. The measure is the inputs left. Assumes nothing.
-use Prim.Native.Nat.{◌+◌, ◌-◌, ◌*◌, ◌≤◌, ◌<◌}
+use Prim.Native.Nat.{◌+◌, ◌*◌, ◌≤◌, ◌<◌}
 use mathlib.Core.Path.{◌≡◌, refl, ◌∙◌}
-use mathlib.Core.Logic.{inl, inr}
 use native.Mathlib.Numerals.{add-one}
 use native.Mathlib.Omega.{arith}
 use borrow.Author.Rules.{rules}
 use lib.ListN.{length}
 use Rattle.wsgs.specs.Basics.{Port, in_turn}
-use Rattle.wsgs.specs.Words.{word, port_word}
-use Rattle.wsgs.specs.Steps.{pass_one}
+use Rattle.wsgs.specs.Words.{port_word}
 use Rattle.wsgs.proofs.Laws.InTurn.{in_turn_some}
 use Rattle.turns.proofs.Ready.{is_open}
 use Rattle.turns.proofs.BitLaws.{one_shl}
 use Rattle.turns.proofs.MaskLaws.{free_first}
 use Rattle.turns.proofs.TurnLaws.{Turn, first_asks, first_takes}
-use Rattle.direct.proofs.PassLaws.{PassOneState, one_start, one_none, one_some}
+use Rattle.direct.proofs.PassLaws.{one_start, one_none, one_some}
 use Rattle.direct.proofs.passes.pass_one.Goals as goal
 
 pub loop-row-init : goal.loop-row-init
@@ -24,17 +22,16 @@ loop-row-init c =
 
 pub overflow_cast-outputs : goal.overflow_cast-outputs
 overflow_cast-outputs c =
-    let within :      (c.loop-row.row < c.args.ports) × (c.args.ports ≤ 32) × (c.args.ports * c.args.ports ≤ length c.loop-row.credits) × (c.args.ports * c.args.ports ≤ length c.loop-row.queues) × (c.args.ports ≤ length c.loop-row.given) = (omega arith, omega arith, omega arith, omega arith, omega (arith, c.loop-row.invariant.3)) in
-    let found :      c.first_turn-choice.result.output.0 ≡ in_turn (is_open c.args.ports c.loop-row.free c.loop-row.credits c.loop-row.queues (c.loop-row.row + 1)) c.args.ports (port_word c.loop-row.given (c.loop-row.row + 1)) = let i = within in let paid : Turn c.args.ports (c.loop-row.row + 1) c.loop-row.credits = record { few = i.1; port = omega (arith, i.0); long = i.2 } in let sent : Turn c.args.ports (c.loop-row.row + 1) c.loop-row.queues = record { few = i.1; port = omega (arith, i.0); long = i.3 } in first_takes _ _ _ _ sent i.4 _ paid _ (first_asks _ _ _ _ paid sent _ c.first_requests-asked.ensures.asked) _ _ c.first_turn-choice.ensures.output in
-    let taken :  Port c.args.ports c.first_turn-choice.result.output.0 = (in_turn_some _ _ _ _ found c.if-choice-gt0.true).0 in
-     omega (arith, taken)
+    let within : (c.loop-row.row < c.args.ports) × (c.args.ports ≤ 32) × (c.args.ports * c.args.ports ≤ length c.loop-row.credits) × (c.args.ports * c.args.ports ≤ length c.loop-row.queues) × (c.args.ports ≤ length c.loop-row.given) = (omega arith, omega arith, omega arith, omega arith, omega (arith, c.loop-row.invariant.3)) in
+    let found : c.first_turn-choice.result.output.0 ≡ in_turn (is_open c.args.ports c.loop-row.free c.loop-row.credits c.loop-row.queues (c.loop-row.row + 1)) c.args.ports (port_word c.loop-row.given (c.loop-row.row + 1)) = let i = within in let paid : Turn c.args.ports (c.loop-row.row + 1) c.loop-row.credits = record { few = i.1; port = omega (arith, i.0); long = i.2 } in let sent : Turn c.args.ports (c.loop-row.row + 1) c.loop-row.queues = record { few = i.1; port = omega (arith, i.0); long = i.3 } in first_takes _ _ _ _ sent i.4 _ paid _ (first_asks _ _ _ _ paid sent _ c.first_requests-asked.ensures.asked) _ _ c.first_turn-choice.ensures.output in
+    let taken : Port c.args.ports c.first_turn-choice.result.output.0 = (in_turn_some _ _ _ _ found c.if-choice-gt0.true).0 in
+    omega (arith, taken)
 
 pub loop-row-preserved : goal.loop-row-preserved
 loop-row-preserved c =
-    let within :      (c.loop-row.row < c.args.ports) × (c.args.ports ≤ 32) × (c.args.ports * c.args.ports ≤ length c.loop-row.credits) × (c.args.ports * c.args.ports ≤ length c.loop-row.queues) × (c.args.ports ≤ length c.loop-row.given) = (omega arith, omega arith, omega arith, omega arith, omega (arith, c.loop-row.invariant.3)) in
-    let found :      c.first_turn-choice.result.output.0 ≡ in_turn (is_open c.args.ports c.loop-row.free c.loop-row.credits c.loop-row.queues (c.loop-row.row + 1)) c.args.ports (port_word c.loop-row.given (c.loop-row.row + 1)) = let i = within in let paid : Turn c.args.ports (c.loop-row.row + 1) c.loop-row.credits = record { few = i.1; port = omega (arith, i.0); long = i.2 } in let sent : Turn c.args.ports (c.loop-row.row + 1) c.loop-row.queues = record { few = i.1; port = omega (arith, i.0); long = i.3 } in first_takes _ _ _ _ sent i.4 _ paid _ (first_asks _ _ _ _ paid sent _ c.first_requests-asked.ensures.asked) _ _ c.first_turn-choice.ensures.output in
-                let i = within in
-     (
+    let within : (c.loop-row.row < c.args.ports) × (c.args.ports ≤ 32) × (c.args.ports * c.args.ports ≤ length c.loop-row.credits) × (c.args.ports * c.args.ports ≤ length c.loop-row.queues) × (c.args.ports ≤ length c.loop-row.given) = (omega arith, omega arith, omega arith, omega arith, omega (arith, c.loop-row.invariant.3)) in
+    let found : c.first_turn-choice.result.output.0 ≡ in_turn (is_open c.args.ports c.loop-row.free c.loop-row.credits c.loop-row.queues (c.loop-row.row + 1)) c.args.ports (port_word c.loop-row.given (c.loop-row.row + 1)) = let i = within in let paid : Turn c.args.ports (c.loop-row.row + 1) c.loop-row.credits = record { few = i.1; port = omega (arith, i.0); long = i.2 } in let sent : Turn c.args.ports (c.loop-row.row + 1) c.loop-row.queues = record { few = i.1; port = omega (arith, i.0); long = i.3 } in first_takes _ _ _ _ sent i.4 _ paid _ (first_asks _ _ _ _ paid sent _ c.first_requests-asked.ensures.asked) _ _ c.first_turn-choice.ensures.output in
+    let i = within in (
       omega (arith, i.0),
       c.first_turn-choice.auto.credits ∙ c.loop-row.invariant.1,
       c.first_turn-choice.auto.queues ∙ c.loop-row.invariant.2,

@@ -1,21 +1,11 @@
 -- `passes::pass_one` meets its contract. The loop's invariant is `PassOneState`: the outputs that the inputs hold are the definition's for the inputs so
 -- far, and mask, list, words and mark are as these say. The measure is the inputs left. Assumes nothing.
-use Prim.Native.Nat.{◌+◌, ◌-◌, ◌*◌, ◌≤◌, ◌<◌}
-use mathlib.Core.Path.{◌≡◌, refl, ◌∙◌}
-use mathlib.Core.Logic.{inl, inr}
-use native.Mathlib.Numerals.{add-one}
-use native.Mathlib.Omega.{arith}
-use borrow.Author.Rules.{rules}
+use Prim.Native.Nat.{◌-◌, ◌≤◌}
+use mathlib.Core.Path.{◌≡◌}
 use lib.ListN.{length}
-use Rattle.wsgs.specs.Basics.{Port, in_turn}
 use Rattle.wsgs.specs.Words.{word, port_word}
 use Rattle.wsgs.specs.Steps.{pass_one}
-use Rattle.wsgs.proofs.Laws.InTurn.{in_turn_some}
-use Rattle.turns.proofs.Ready.{is_open}
-use Rattle.turns.proofs.BitLaws.{one_shl}
-use Rattle.turns.proofs.MaskLaws.{free_first}
-use Rattle.turns.proofs.TurnLaws.{Turn, first_asks, first_takes}
-use Rattle.direct.proofs.PassLaws.{PassOneState, one_start, one_none, one_some}
+use Rattle.direct.proofs.PassLaws.{PassOneState}
 use Rattle.direct.proofs.passes.pass_one.Given as goal
 
 abbrev pub invariant-loop-row : goal.invariant-loop-row

@@ -1,18 +1,15 @@
 -- `passes::pass_two` meets its contract. The loop's invariant is the contract's claim for the inputs so far. The measure is the inputs left.
 -- Assumes nothing.
-use Prim.Native.Nat.{ℕ, ◌+◌, ◌-◌, ◌*◌, ◌≤◌, ◌<◌}
+use Prim.Native.Nat.{◌+◌, ◌*◌, ◌≤◌, ◌<◌}
 use mathlib.Core.Path.{◌≡◌, refl, ◌∙◌}
-use mathlib.Core.List.{List}
-use mathlib.Core.Logic.{inl, inr}
 use native.Mathlib.Numerals.{add-one}
 use native.Mathlib.Omega.{arith}
 use borrow.Author.Rules.{rules}
 use lib.ListN.{length, get_or}
 use Rattle.wsgs.specs.Basics.{Port, in_turn}
-use Rattle.wsgs.specs.Words.{word, port_word}
+use Rattle.wsgs.specs.Words.{port_word}
 use Rattle.wsgs.specs.Steps.{pass_two}
 use Rattle.wsgs.proofs.Laws.InTurn.{in_turn_some}
-use Rattle.direct.specs.Passes.{PassState}
 use Rattle.turns.proofs.Ready.{is_open}
 use Rattle.turns.proofs.TurnLaws.{Turn, second_asks, second_takes}
 use Rattle.direct.proofs.PassLaws.{two_served, two_none, two_some}
@@ -25,29 +22,28 @@ loop-row-init c =
 
 -- pass one served the input
 pub loop-row-preserved-then-outputs-row-gt0 : goal.loop-row-preserved-then-outputs-row-gt0
-loop-row-preserved-then-outputs-row-gt0 c =
-    (
-      omega arith,
-      c.loop-row.invariant.1,
-      c.loop-row.invariant.2,
-      λ st ws one h.
-          two_served _ (omega arith) st ws one _ _ _ _ c.loop-row.row _ (add-one _) (c.loop-row.invariant.3 st ws one h) (omega arith)
-          (λ z. absurd (omega (arith, z, c.if-outputs-row-gt0.true))),
-    )
+loop-row-preserved-then-outputs-row-gt0 c = (
+  omega arith,
+  c.loop-row.invariant.1,
+  c.loop-row.invariant.2,
+  λ st ws one h.
+      two_served _ (omega arith) st ws one _ _ _ _ c.loop-row.row _ (add-one _) (c.loop-row.invariant.3 st ws one h) (omega arith)
+      (λ z. absurd (omega (arith, z, c.if-outputs-row-gt0.true))),
+)
 
 pub overflow_cast-outputs : goal.overflow_cast-outputs
 overflow_cast-outputs c =
-    let within :      (c.loop-row.row < c.args.ports) × (c.args.ports ≤ 32) × (c.args.ports * c.args.ports ≤ length c.loop-row.queues) × (c.args.ports ≤ length c.loop-row.given) = (omega arith, omega arith, omega arith, omega (arith, c.loop-row.invariant.2)) in
-    let found :      c.second_turn-choice.result.output.0 ≡ in_turn (is_open c.args.ports c.loop-row.free c.loop-row.queues c.loop-row.queues (c.loop-row.row + 1)) c.args.ports (port_word c.loop-row.given (c.loop-row.row + 1)) = let i = within in let sent : Turn c.args.ports (c.loop-row.row + 1) c.loop-row.queues = record { few = i.1; port = omega (arith, i.0); long = i.2 } in second_takes _ _ _ _ sent i.3 _ _ (second_asks _ _ _ sent _ c.second_requests-asked.ensures.asked) _ _ c.second_turn-choice.ensures.output in
-    let taken :  Port c.args.ports c.second_turn-choice.result.output.0 = (in_turn_some _ _ _ _ found c.if-choice-gt0.true).0 in
-     omega (arith, taken)
+    let within : (c.loop-row.row < c.args.ports) × (c.args.ports ≤ 32) × (c.args.ports * c.args.ports ≤ length c.loop-row.queues) × (c.args.ports ≤ length c.loop-row.given) = (omega arith, omega arith, omega arith, omega (arith, c.loop-row.invariant.2)) in
+    let found : c.second_turn-choice.result.output.0 ≡ in_turn (is_open c.args.ports c.loop-row.free c.loop-row.queues c.loop-row.queues (c.loop-row.row + 1)) c.args.ports (port_word c.loop-row.given (c.loop-row.row + 1)) = let i = within in let sent : Turn c.args.ports (c.loop-row.row + 1) c.loop-row.queues = record { few = i.1; port = omega (arith, i.0); long = i.2 } in second_takes _ _ _ _ sent i.3 _ _ (second_asks _ _ _ sent _ c.second_requests-asked.ensures.asked) _ _ c.second_turn-choice.ensures.output in
+    let taken : Port c.args.ports c.second_turn-choice.result.output.0 = (in_turn_some _ _ _ _ found c.if-choice-gt0.true).0 in
+    omega (arith, taken)
 
 pub loop-row-preserved : goal.loop-row-preserved
 loop-row-preserved c =
-    let within :      (c.loop-row.row < c.args.ports) × (c.args.ports ≤ 32) × (c.args.ports * c.args.ports ≤ length c.loop-row.queues) × (c.args.ports ≤ length c.loop-row.given) = (omega arith, omega arith, omega arith, omega (arith, c.loop-row.invariant.2)) in
-    let found :      c.second_turn-choice.result.output.0 ≡ in_turn (is_open c.args.ports c.loop-row.free c.loop-row.queues c.loop-row.queues (c.loop-row.row + 1)) c.args.ports (port_word c.loop-row.given (c.loop-row.row + 1)) = let i = within in let sent : Turn c.args.ports (c.loop-row.row + 1) c.loop-row.queues = record { few = i.1; port = omega (arith, i.0); long = i.2 } in second_takes _ _ _ _ sent i.3 _ _ (second_asks _ _ _ sent _ c.second_requests-asked.ensures.asked) _ _ c.second_turn-choice.ensures.output in
-                let i = within in
-        let none : get_or c.loop-row.outputs c.loop-row.row 0 ≡ 0 = omega (arith, c.if-outputs-row-gt0.false) in (
+    let within : (c.loop-row.row < c.args.ports) × (c.args.ports ≤ 32) × (c.args.ports * c.args.ports ≤ length c.loop-row.queues) × (c.args.ports ≤ length c.loop-row.given) = (omega arith, omega arith, omega arith, omega (arith, c.loop-row.invariant.2)) in
+    let found : c.second_turn-choice.result.output.0 ≡ in_turn (is_open c.args.ports c.loop-row.free c.loop-row.queues c.loop-row.queues (c.loop-row.row + 1)) c.args.ports (port_word c.loop-row.given (c.loop-row.row + 1)) = let i = within in let sent : Turn c.args.ports (c.loop-row.row + 1) c.loop-row.queues = record { few = i.1; port = omega (arith, i.0); long = i.2 } in second_takes _ _ _ _ sent i.3 _ _ (second_asks _ _ _ sent _ c.second_requests-asked.ensures.asked) _ _ c.second_turn-choice.ensures.output in
+    let i = within in
+    let none : get_or c.loop-row.outputs c.loop-row.row 0 ≡ 0 = omega (arith, c.if-outputs-row-gt0.false) in (
       omega (arith, i.0),
       c.second_turn-choice.auto.queues ∙ c.loop-row.invariant.1,
       c.second_turn-choice.auto.given ∙ c.loop-row.invariant.2,

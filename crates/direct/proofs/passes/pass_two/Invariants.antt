@@ -1,21 +1,12 @@
 -- `passes::pass_two` meets its contract. The loop's invariant is the contract's claim for the inputs so far. The measure is the inputs left.
 -- Assumes nothing.
-use Prim.Native.Nat.{ℕ, ◌+◌, ◌-◌, ◌*◌, ◌≤◌, ◌<◌}
-use mathlib.Core.Path.{◌≡◌, refl, ◌∙◌}
+use Prim.Native.Nat.{ℕ, ◌-◌, ◌≤◌}
+use mathlib.Core.Path.{◌≡◌}
 use mathlib.Core.List.{List}
-use mathlib.Core.Logic.{inl, inr}
-use native.Mathlib.Numerals.{add-one}
-use native.Mathlib.Omega.{arith}
-use borrow.Author.Rules.{rules}
-use lib.ListN.{length, get_or}
-use Rattle.wsgs.specs.Basics.{Port, in_turn}
+use lib.ListN.{length}
 use Rattle.wsgs.specs.Words.{word, port_word}
 use Rattle.wsgs.specs.Steps.{pass_two}
-use Rattle.wsgs.proofs.Laws.InTurn.{in_turn_some}
 use Rattle.direct.specs.Passes.{PassState}
-use Rattle.turns.proofs.Ready.{is_open}
-use Rattle.turns.proofs.TurnLaws.{Turn, second_asks, second_takes}
-use Rattle.direct.proofs.PassLaws.{two_served, two_none, two_some}
 use Rattle.direct.proofs.passes.pass_two.Given as goal
 
 abbrev pub invariant-loop-row : goal.invariant-loop-row

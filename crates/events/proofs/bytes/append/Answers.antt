@@ -1,5 +1,4 @@
 -- A byte more of the record so far.
-use borrow.Author.Rules.{rules}
 use Rattle.events.proofs.bytes.append.Goals as goal
 
 pub returns : goal.returns

@@ -2,7 +2,6 @@
 use native.Mathlib.Omega.{arith}
 use borrow.Author.Tests.{lt-ltb, le-ltb}
 use Rattle.events.specs.Feeding.{most_counted}
-use borrow.Author.Rules.{rules}
 use Rattle.events.proofs.bytes.counted.Goals as goal
 
 pub returns-then-count-lt-MAX_COUNT : goal.returns-then-count-lt-MAX_COUNT

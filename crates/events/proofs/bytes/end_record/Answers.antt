@@ -4,16 +4,15 @@ use native.Mathlib.Omega.{arith}
 use borrow.Author.Tests.{not-true, not-false}
 use lib.Seq.{length-take-le}
 use Rattle.events.proofs.StepLaws.{heading_written, record_written}
-use borrow.Author.Rules.{rules}
 use Rattle.wsgs.specs.Bookings.{book_of}
-use mathlib.Core.Path.{ap}
-use mathlib.Core.Bool.{not}
 use Rattle.events.proofs.bytes.end_record.Goals as goal
 
 pub returns-then-not-progress : goal.returns-then-not-progress
 returns-then-not-progress c =
-    record { outcome = heading_written c.args.progress c.args.buffer.now (book_of c.args.slots.now c.args.rates.now) c.args.credits.now c.args.queues.now c.args.given.now c.args.copy.now c.args.flight.now _ _
-    (not-true c.args.progress.past_heading (ap not c.if-not-progress.true)) c.ended.ensures.progress c.ended.ensures.place (omega arith) }
+    record {
+      outcome = heading_written c.args.progress c.args.buffer.now (book_of c.args.slots.now c.args.rates.now) c.args.credits.now c.args.queues.now c.args.given.now c.args.copy.now c.args.flight.now _ _
+          (not-true c.args.progress.past_heading c.if-not-progress.true) c.ended.ensures.progress c.ended.ensures.place (omega arith);
+    }
 
 pub slice_bounds-read_record-end : goal.slice_bounds-read_record-end
 slice_bounds-read_record-end c =
@@ -25,6 +24,8 @@ put_refusal-next-requires c =
 
 pub returns : goal.returns
 returns c =
-    record { outcome = record_written c.args.progress c.args.buffer.now (book_of c.args.slots.now c.args.rates.now) c.args.credits.now c.args.queues.now c.args.given.now c.args.copy.now c.args.flight.now c.obey-obeyed.result _ _ _ _ _ _ _ _ _ _ _
-    (not-false c.args.progress.past_heading (ap not c.if-not-progress.false)) c.kept_length-length.ensures.length c.read_record-reading.ensures.reading c.obey-obeyed.ensures.outcome
-    c.put_refusal-next.ensures.text c.ended-2.ensures.progress c.ended-2.ensures.place }
+    record {
+      outcome = record_written c.args.progress c.args.buffer.now (book_of c.args.slots.now c.args.rates.now) c.args.credits.now c.args.queues.now c.args.given.now c.args.copy.now c.args.flight.now c.obey-obeyed.result _ _ _ _ _ _ _ _ _ _ _
+          (not-false c.args.progress.past_heading c.if-not-progress.false) c.kept_length-length.ensures.length c.read_record-reading.ensures.reading c.obey-obeyed.ensures.outcome
+          c.put_refusal-next.ensures.text c.ended-2.ensures.progress c.ended-2.ensures.place;
+    }

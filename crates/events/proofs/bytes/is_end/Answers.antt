@@ -1,5 +1,4 @@
 -- LF after CR ends a record.
-use borrow.Author.Rules.{rules}
 use Rattle.events.proofs.bytes.is_end.Goals as goal
 
 pub returns-then-after_cr : goal.returns-then-after_cr

@@ -2,7 +2,6 @@
 use native.Mathlib.Omega.{arith}
 use borrow.Author.Tests.{lt-ltb, le-ltb}
 use Rattle.events.specs.Feeding.{kept_bytes}
-use borrow.Author.Rules.{rules}
 use Rattle.events.proofs.bytes.keep.Goals as goal
 
 pub returns-then-count-lt-KEPT_BYTES : goal.returns-then-count-lt-KEPT_BYTES

@@ -1,7 +1,6 @@
 -- A byte ends the record, or goes on with it.
 use native.Mathlib.Omega.{arith}
 use Rattle.events.proofs.StepLaws.{byte_ended, byte_kept}
-use borrow.Author.Rules.{rules}
 use Rattle.wsgs.specs.Bookings.{book_of}
 use Rattle.events.proofs.bytes.take_byte.Goals as goal
 

@@ -3,7 +3,6 @@ use native.Mathlib.Omega.{arith}
 use Rattle.lines.specs.Lines.{refusal_room}
 use Rattle.lines.proofs.Printing.{refusal_short}
 use Rattle.lines.proofs.Writing.{wrote_rest}
-use borrow.Author.Rules.{rules}
 use Rattle.events.proofs.printing.put_refusal.Goals as goal
 
 pub overflow_add-result : goal.overflow_add-result

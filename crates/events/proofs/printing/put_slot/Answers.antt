@@ -1,7 +1,6 @@
 -- A slot's lines, by its refusal.
 use borrow.Author.Tests.{eq-eqb, ne_eqb}
 use Rattle.lines.proofs.Writing.{wrote_is}
-use borrow.Author.Rules.{rules}
 use Rattle.events.proofs.printing.put_slot.Goals as goal
 
 pub returns-then-refusal-ne0 : goal.returns-then-refusal-ne0

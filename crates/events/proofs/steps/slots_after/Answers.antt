@@ -1,6 +1,5 @@
 -- The slots left after one, by its refusal.
 use borrow.Author.Tests.{eq-eqb, ne_eqb}
-use borrow.Author.Rules.{rules}
 use Rattle.events.proofs.steps.slots_after.Goals as goal
 
 pub returns-then-refusal-ne0 : goal.returns-then-refusal-ne0

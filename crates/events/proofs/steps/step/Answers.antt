@@ -2,7 +2,6 @@
 use mathlib.Core.Path.{◌∙◌}
 use native.Mathlib.Omega.{arith}
 use Rattle.events.proofs.StepLaws.{slot_taken, byte_taken, step_slot_written, step_byte_written}
-use borrow.Author.Rules.{rules}
 use Rattle.wsgs.specs.Bookings.{book_of}
 use Rattle.events.proofs.steps.step.Goals as goal
 

@@ -2,7 +2,6 @@
 use mathlib.Core.Path.{refl}
 use native.Mathlib.Omega.{arith}
 use Rattle.events.proofs.StepLaws.{slot_written}
-use borrow.Author.Rules.{rules}
 use Rattle.wsgs.specs.Bookings.{book_of}
 use Rattle.events.proofs.steps.step_slot.Goals as goal
 

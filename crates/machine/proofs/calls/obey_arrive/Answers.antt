@@ -1,5 +1,4 @@
 -- Packets arrive, by what the call gives back.
-use borrow.Author.Rules.{rules}
 use Rattle.wsgs.specs.Program.{obey}
 use Rattle.wsgs.specs.Switch.{arrive}
 use Rattle.wsgs.proofs.Calls.{arrives}

@@ -1,5 +1,4 @@
 -- Slots are booked, by what the call gives back.
-use borrow.Author.Rules.{rules}
 use Rattle.wsgs.specs.Program.{obey}
 use Rattle.wsgs.specs.Switch.{book}
 use Rattle.wsgs.proofs.Calls.{books}

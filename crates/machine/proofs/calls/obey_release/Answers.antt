@@ -1,5 +1,4 @@
 -- Slots are released, by what the call gives back.
-use borrow.Author.Rules.{rules}
 use Rattle.wsgs.specs.Program.{obey}
 use Rattle.wsgs.specs.Switch.{release}
 use Rattle.wsgs.proofs.Calls.{releases}

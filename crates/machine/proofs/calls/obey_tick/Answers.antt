@@ -1,6 +1,5 @@
 -- Slots are left to run, where they are in range.
 use mathlib.Core.Path.{◌≡◌}
-use borrow.Author.Rules.{rules}
 use Rattle.wsgs.specs.Basics.{between}
 use Rattle.wsgs.specs.Program.{obey}
 use Rattle.machine.proofs.calls.obey_tick.Goals as goal

@@ -1,5 +1,4 @@
 -- A record that cannot be read leaves its number.
-use borrow.Author.Rules.{rules}
 use Rattle.machine.proofs.refusals.unread.Goals as goal
 
 pub returns : goal.returns

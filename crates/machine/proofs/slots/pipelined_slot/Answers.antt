@@ -1,6 +1,5 @@
 -- A slot of the pipelined form.
 use Rattle.machine.proofs.SlotLaws.{pipelined_slot_is}
-use borrow.Author.Rules.{rules}
 use Rattle.wsgs.specs.Bookings.{book_of}
 use Rattle.machine.proofs.slots.pipelined_slot.Goals as goal
 

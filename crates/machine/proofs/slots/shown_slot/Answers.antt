@@ -1,6 +1,5 @@
 -- The slot that a tick hands out, by the form.
 use native.Mathlib.Omega.{arith}
-use borrow.Author.Rules.{rules}
 use Rattle.machine.proofs.slots.shown_slot.Goals as goal
 
 pub returns-then-pipelined : goal.returns-then-pipelined

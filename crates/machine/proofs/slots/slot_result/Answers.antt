@@ -1,5 +1,4 @@
 -- What a slot leaves, field by field.
-use borrow.Author.Rules.{rules}
 use Rattle.machine.proofs.slots.slot_result.Goals as goal
 
 pub returns : goal.returns

@@ -1,5 +1,5 @@
 -- `flight::column_in` meets its contract, by the laws of a word's column. Assumes nothing.
-use Rattle.std.proofs.Common.{sym, ◌∙◌, arith, rules}
+use Rattle.std.proofs.Common.{sym, ◌∙◌, arith}
 use Rattle.pipelined.proofs.FlightLaws.{first_low, first_column, second_column}
 use Rattle.pipelined.proofs.flight.column_in.Goals as goal
 
@@ -17,7 +17,7 @@ returns-then-is_by_first c =
 pub returns : goal.returns
 returns c =
     let h = second_column c.args.ports c.args.word c.wrapping_sub_u32.result (sym c.is_by_first.ensures.tested ∙ c.if-is_by_first.false) c.requires.few_ports (omega arith)
-        (omega (arith, c.wrapping_sub_u32.ensures.value)) in record {
+    (omega (arith, c.wrapping_sub_u32.ensures.value)) in record {
       some = h.0;
       none = h.1;
     }

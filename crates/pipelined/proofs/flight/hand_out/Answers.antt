@@ -1,9 +1,9 @@
 -- `flight::hand_out` meets its contract. The loop's invariant: the outputs and the pass-one word are those of the inputs so far, and their words in
 -- flight are 0. Assumes nothing.
-use Rattle.std.proofs.Common.{◌≡◌, ◌+◌, ◌-◌, ◌≤◌, length, sym, refl, ap, ◌∙◌, ⊎_elim, arith, length-set, rules}
+use Rattle.std.proofs.Common.{sym, refl, ap, ◌∙◌, arith, length-set, rules}
 use Rattle.wsgs.specs.Pipelined.{by_first, output_in}
-use Rattle.pipelined.proofs.FlightPairs.{PairsSoFar, handed_none, handed_first, handed_other, handed_all}
-use Rattle.pipelined.proofs.PipelinedRows.{ClearedSoFar, cleared_none, next_stands, cleared_more, cleared_all}
+use Rattle.pipelined.proofs.FlightPairs.{handed_none, handed_first, handed_other, handed_all}
+use Rattle.pipelined.proofs.PipelinedRows.{cleared_none, next_stands, cleared_more, cleared_all}
 use Rattle.pipelined.proofs.flight.hand_out.Goals as goal
 
 pub loop-column-init : goal.loop-column-init
@@ -16,13 +16,13 @@ loop-column-preserved c =
       omega arith,
       elim c.if-is_by_first.branch [
         | goal.then-is_by_first w ↦
-          rw w.first_pass-is
-          (handed_first _ _ _ _ _ _ _ _ (omega arith) c.row_of-row.ensures.is c.loop-column.invariant.1 (c.output_of.ensures.read ∙ ap (output_in _) e)
-          (sym (ap (by_first _) e) ∙ sym c.is_by_first.ensures.tested ∙ w.if-is_by_first.true))
+            rw w.first_pass-is
+            (handed_first _ _ _ _ _ _ _ _ (omega arith) c.row_of-row.ensures.is c.loop-column.invariant.1 (c.output_of.ensures.read ∙ ap (output_in _) e)
+            (sym (ap (by_first _) e) ∙ sym c.is_by_first.ensures.tested ∙ w.if-is_by_first.true))
         | goal.else-is_by_first w ↦
-          rw w.first_pass-is
-          (handed_other _ _ _ _ _ _ _ _ (omega arith) c.row_of-row.ensures.is c.loop-column.invariant.1 (c.output_of.ensures.read ∙ ap (output_in _) e)
-          (sym (ap (by_first _) e) ∙ sym c.is_by_first.ensures.tested ∙ w.if-is_by_first.false))
+            rw w.first_pass-is
+            (handed_other _ _ _ _ _ _ _ _ (omega arith) c.row_of-row.ensures.is c.loop-column.invariant.1 (c.output_of.ensures.read ∙ ap (output_in _) e)
+            (sym (ap (by_first _) e) ∙ sym c.is_by_first.ensures.tested ∙ w.if-is_by_first.false))
       ],
       cleared_more _ _ _ _ (omega arith) c.loop-column.invariant.2,
       simp length-set c.loop-column.invariant.3,

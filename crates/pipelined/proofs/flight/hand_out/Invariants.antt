@@ -1,9 +1,8 @@
 -- `flight::hand_out` meets its contract. The loop's invariant: the outputs and the pass-one word are those of the inputs so far, and their words in
 -- flight are 0. Assumes nothing.
-use Rattle.std.proofs.Common.{◌≡◌, ◌+◌, ◌-◌, ◌≤◌, length, sym, refl, ap, ◌∙◌, ⊎_elim, arith, length-set, rules}
-use Rattle.wsgs.specs.Pipelined.{by_first, output_in}
-use Rattle.pipelined.proofs.FlightPairs.{PairsSoFar, handed_none, handed_first, handed_other, handed_all}
-use Rattle.pipelined.proofs.PipelinedRows.{ClearedSoFar, cleared_none, next_stands, cleared_more, cleared_all}
+use Rattle.std.proofs.Common.{◌≡◌, ◌+◌, ◌-◌, ◌≤◌, length}
+use Rattle.pipelined.proofs.FlightPairs.{PairsSoFar}
+use Rattle.pipelined.proofs.PipelinedRows.{ClearedSoFar}
 use Rattle.pipelined.proofs.flight.hand_out.Given as goal
 
 abbrev pub invariant-loop-column : goal.invariant-loop-column

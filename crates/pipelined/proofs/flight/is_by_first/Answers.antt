@@ -1,5 +1,5 @@
 -- `flight::is_by_first` meets its contract, by the law of the wrapped word. Assumes nothing.
-use Rattle.std.proofs.Common.{arith, rules}
+use Rattle.std.proofs.Common.{arith}
 use Rattle.pipelined.proofs.FlightLaws.{first_wrapped}
 use Rattle.pipelined.proofs.flight.is_by_first.Goals as goal
 

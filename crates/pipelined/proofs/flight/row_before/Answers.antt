@@ -1,5 +1,5 @@
 -- `flight::row_before` meets its contract: the row stands before the other, or past the last row around. Assumes nothing.
-use Rattle.std.proofs.Common.{◌+◌, ◌-◌, ◌*◌, arith, rules}
+use Rattle.std.proofs.Common.{◌+◌, ◌-◌, ◌*◌, arith}
 use Rattle.wsgs.proofs.Laws.Words.{rows_small}
 use Rattle.pipelined.proofs.FlightLaws.{row_within}
 use Rattle.pipelined.proofs.Remainders.{row_less, row_around}

@@ -1,5 +1,5 @@
 -- `flight::row_of` meets its contract: the row lies within the 2n rows, which are few words. Assumes nothing.
-use Rattle.std.proofs.Common.{◌*◌, ◌%◌, refl, mod-lt, arith, rules}
+use Rattle.std.proofs.Common.{◌*◌, ◌%◌, refl, mod-lt, arith}
 use Rattle.wsgs.proofs.Laws.Words.{rows_small}
 use Rattle.pipelined.proofs.FlightLaws.{row_within}
 use Rattle.pipelined.proofs.flight.row_of.Goals as goal

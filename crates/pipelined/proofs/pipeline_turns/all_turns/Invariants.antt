@@ -1,9 +1,8 @@
 -- `pipeline_turns::all_turns` meets its contract. The loop's invariant: the runs are those that the turns of the inputs so far leave, and their
 -- lengths are kept. Assumes nothing.
-use Rattle.std.proofs.Common.{◌≡◌, ℕ, ◌-◌, ◌≤◌, length, refl, ap, ◌∙◌, arith, rules}
+use Rattle.std.proofs.Common.{◌≡◌, ℕ, ◌-◌, ◌≤◌, length}
 use Rattle.wsgs.specs.Pipelined.{turns}
 use Rattle.pipelined.specs.Turnings.{turn_runs_of, Lookahead}
-use Rattle.pipelined.proofs.PipelinedTurns.{turns_more}
 use Rattle.pipelined.proofs.pipeline_turns.all_turns.Given as goal
 
 abbrev pub invariant-loop-done : goal.invariant-loop-done

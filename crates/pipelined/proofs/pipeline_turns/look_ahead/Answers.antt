@@ -1,5 +1,5 @@
 -- `pipeline_turns::look_ahead` meets its contract, by the law of what a tick knows: the second row is half way around from the first. Assumes nothing.
-use Rattle.std.proofs.Common.{◌+◌, ◌*◌, ◌∙◌, mod-lt, arith, rules}
+use Rattle.std.proofs.Common.{◌+◌, ◌*◌, ◌∙◌, mod-lt, arith}
 use Rattle.pipelined.proofs.Remainders.{half_less, half_more, foreseen}
 use Rattle.pipelined.proofs.pipeline_turns.look_ahead.Goals as goal
 
@@ -9,8 +9,10 @@ overflow_add-two c =
 
 pub returns : goal.returns
 returns c =
-    record { ahead = foreseen c.args.ports c.args.time c.requires.some_port c.args.frame _ (omega arith)
-    (elim c.if-one-ports.branch [
-      | goal.then-one-ports w ↦ w.two-is ∙ half_less c.args.ports c.args.time c.requires.some_port w.if-one-ports.true
-      | goal.else-one-ports w ↦ w.two-is ∙ half_more c.args.ports c.args.time c.requires.some_port w.if-one-ports.false
-    ]) }
+    record {
+      ahead = foreseen c.args.ports c.args.time c.requires.some_port c.args.frame _ (omega arith)
+          (elim c.if-one-ports.branch [
+            | goal.then-one-ports w ↦ w.two-is ∙ half_less c.args.ports c.args.time c.requires.some_port w.if-one-ports.true
+            | goal.else-one-ports w ↦ w.two-is ∙ half_more c.args.ports c.args.time c.requires.some_port w.if-one-ports.false
+          ]);
+    }

@@ -1,5 +1,5 @@
 -- `pipeline_turns::reload_row` meets its contract: the row is the front of the part that is copied over. Assumes nothing.
-use Rattle.std.proofs.Common.{◌∙◌, arith, rules}
+use Rattle.std.proofs.Common.{◌∙◌, arith}
 use Rattle.words.proofs.PlaceLaws.{row_is}
 use Rattle.pipelined.proofs.PipelinedRows.{row_loaded}
 use Rattle.pipelined.proofs.PipelinedTurns.{reloads, keeps}
@@ -8,11 +8,15 @@ use Rattle.pipelined.proofs.pipeline_turns.reload_row.Goals as goal
 
 pub returns-then-into-input : goal.returns-then-into-input
 returns-then-into-input c =
-    record { reload = λ frame time covers place q g f.
-                reloads _ _ _ _ q g f _ _ _ (slot_first _ _ time _ _ c.requires.input covers place c.if-into-input.true)
-    (row_loaded _ _ _ _ (omega arith) _ c.args.copy.now (c.row_of-row.ensures.row ∙ row_is _ _ c.requires.few_ports c.requires.input) (omega arith) c.load_credits.ensures.credits_exit) }
+    record {
+      reload = λ frame time covers place q g f.
+          reloads _ _ _ _ q g f _ _ _ (slot_first _ _ time _ _ c.requires.input covers place c.if-into-input.true)
+          (row_loaded _ _ _ _ (omega arith) _ c.args.copy.now (c.row_of-row.ensures.row ∙ row_is _ _ c.requires.few_ports c.requires.input) (omega arith) c.load_credits.ensures.credits_exit);
+    }
 
 pub returns-else-into-input : goal.returns-else-into-input
 returns-else-into-input c =
-    record { reload = λ frame time covers place q g f.
-        keeps _ _ _ _ q g f _ _ (slot_later _ _ time _ _ c.requires.input covers place c.if-into-input.false) }
+    record {
+      reload = λ frame time covers place q g f.
+          keeps _ _ _ _ q g f _ _ (slot_later _ _ time _ _ c.requires.input covers place c.if-into-input.false);
+    }

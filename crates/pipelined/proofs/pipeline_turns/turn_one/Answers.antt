@@ -1,5 +1,5 @@
 -- `pipeline_turns::turn_one` meets its contract: the ways that its tests leave are those of the definition. Assumes nothing.
-use Rattle.std.proofs.Common.{◌≡◌, ◌-◌, ◌*◌, ◌≤◌, arith, rules}
+use Rattle.std.proofs.Common.{◌≡◌, ◌-◌, ◌*◌, ◌≤◌, arith}
 use Rattle.wsgs.specs.Basics.{in_turn}
 use Rattle.wsgs.specs.Words.{port_word}
 use Rattle.wsgs.proofs.Laws.InTurn.{in_turn_some}
@@ -11,10 +11,10 @@ use Rattle.pipelined.proofs.pipeline_turns.turn_one.Goals as goal
 
 pub returns-then-asked-eq0 : goal.returns-then-asked-eq0
 returns-then-asked-eq0 c =
-    let paid :  Turn c.args.ports c.args.input.0 c.args.credits.now = record { few = c.requires.few_ports; port = c.requires.input; long = c.requires.credits_fit } in
-    let sent :  Turn c.args.ports c.args.input.0 c.args.queues.now = record { few = c.requires.few_ports; port = c.requires.input; long = c.requires.queues_fit } in
-    let requests :     c.first_requests-asked.result ≡ ready_mask c.args.credits.now c.args.queues.now ((c.args.input.0 - 1) * c.args.ports) c.args.ports = first_asks _ _ _ _ paid sent _ c.first_requests-asked.ensures.asked in
-     record { turn = λ s e. turn_one_unasked _ s _ _ _ _ _ _ requests c.if-asked-eq0.true }
+    let paid : Turn c.args.ports c.args.input.0 c.args.credits.now = record { few = c.requires.few_ports; port = c.requires.input; long = c.requires.credits_fit } in
+    let sent : Turn c.args.ports c.args.input.0 c.args.queues.now = record { few = c.requires.few_ports; port = c.requires.input; long = c.requires.queues_fit } in
+    let requests : c.first_requests-asked.result ≡ ready_mask c.args.credits.now c.args.queues.now ((c.args.input.0 - 1) * c.args.ports) c.args.ports = first_asks _ _ _ _ paid sent _ c.first_requests-asked.ensures.asked in
+    record { turn = λ s e. turn_one_unasked _ s _ _ _ _ _ _ requests c.if-asked-eq0.true }
 
 pub returns-then-output_of-gt0 : goal.returns-then-output_of-gt0
 returns-then-output_of-gt0 c =
@@ -22,21 +22,21 @@ returns-then-output_of-gt0 c =
 
 pub overflow_cast-flight : goal.overflow_cast-flight
 overflow_cast-flight c =
-    let paid :  Turn c.args.ports c.args.input.0 c.args.credits.now = record { few = c.requires.few_ports; port = c.requires.input; long = c.requires.credits_fit } in
-    let sent :  Turn c.args.ports c.args.input.0 c.args.queues.now = record { few = c.requires.few_ports; port = c.requires.input; long = c.requires.queues_fit } in
-    let requests :     c.first_requests-asked.result ≡ ready_mask c.args.credits.now c.args.queues.now ((c.args.input.0 - 1) * c.args.ports) c.args.ports = first_asks _ _ _ _ paid sent _ c.first_requests-asked.ensures.asked in
-    let found :     c.first_turn-choice.result.output.0 ≡ in_turn (is_open c.args.ports c.free_for-free.result c.args.credits.now c.args.queues.now c.args.input.0) c.args.ports (port_word c.args.given.now c.args.input.0) = first_takes _ _ _ _ sent c.requires.given_fits _ paid _ requests _ _ c.first_turn-choice.ensures.output in
+    let paid : Turn c.args.ports c.args.input.0 c.args.credits.now = record { few = c.requires.few_ports; port = c.requires.input; long = c.requires.credits_fit } in
+    let sent : Turn c.args.ports c.args.input.0 c.args.queues.now = record { few = c.requires.few_ports; port = c.requires.input; long = c.requires.queues_fit } in
+    let requests : c.first_requests-asked.result ≡ ready_mask c.args.credits.now c.args.queues.now ((c.args.input.0 - 1) * c.args.ports) c.args.ports = first_asks _ _ _ _ paid sent _ c.first_requests-asked.ensures.asked in
+    let found : c.first_turn-choice.result.output.0 ≡ in_turn (is_open c.args.ports c.free_for-free.result c.args.credits.now c.args.queues.now c.args.input.0) c.args.ports (port_word c.args.given.now c.args.input.0) = first_takes _ _ _ _ sent c.requires.given_fits _ paid _ requests _ _ c.first_turn-choice.ensures.output in
     let small : c.first_turn-choice.result.output.0 ≤ 32 = let p = (in_turn_some _ _ _ _ found c.if-choice-gt0.true).0 in omega (arith, c.requires.few_ports) in
-     omega (arith, small)
+    omega (arith, small)
 
 pub overflow_add-flight : goal.overflow_add-flight
 overflow_add-flight c =
-    let paid :  Turn c.args.ports c.args.input.0 c.args.credits.now = record { few = c.requires.few_ports; port = c.requires.input; long = c.requires.credits_fit } in
-    let sent :  Turn c.args.ports c.args.input.0 c.args.queues.now = record { few = c.requires.few_ports; port = c.requires.input; long = c.requires.queues_fit } in
-    let requests :     c.first_requests-asked.result ≡ ready_mask c.args.credits.now c.args.queues.now ((c.args.input.0 - 1) * c.args.ports) c.args.ports = first_asks _ _ _ _ paid sent _ c.first_requests-asked.ensures.asked in
-    let found :     c.first_turn-choice.result.output.0 ≡ in_turn (is_open c.args.ports c.free_for-free.result c.args.credits.now c.args.queues.now c.args.input.0) c.args.ports (port_word c.args.given.now c.args.input.0) = first_takes _ _ _ _ sent c.requires.given_fits _ paid _ requests _ _ c.first_turn-choice.ensures.output in
+    let paid : Turn c.args.ports c.args.input.0 c.args.credits.now = record { few = c.requires.few_ports; port = c.requires.input; long = c.requires.credits_fit } in
+    let sent : Turn c.args.ports c.args.input.0 c.args.queues.now = record { few = c.requires.few_ports; port = c.requires.input; long = c.requires.queues_fit } in
+    let requests : c.first_requests-asked.result ≡ ready_mask c.args.credits.now c.args.queues.now ((c.args.input.0 - 1) * c.args.ports) c.args.ports = first_asks _ _ _ _ paid sent _ c.first_requests-asked.ensures.asked in
+    let found : c.first_turn-choice.result.output.0 ≡ in_turn (is_open c.args.ports c.free_for-free.result c.args.credits.now c.args.queues.now c.args.input.0) c.args.ports (port_word c.args.given.now c.args.input.0) = first_takes _ _ _ _ sent c.requires.given_fits _ paid _ requests _ _ c.first_turn-choice.ensures.output in
     let small : c.first_turn-choice.result.output.0 ≤ 32 = let p = (in_turn_some _ _ _ _ found c.if-choice-gt0.true).0 in omega (arith, c.requires.few_ports) in
-     omega (arith, small)
+    omega (arith, small)
 
 pub bounds-flight-at-then-choice-gt0 : goal.bounds-flight-at-then-choice-gt0
 bounds-flight-at-then-choice-gt0 c =
@@ -44,20 +44,24 @@ bounds-flight-at-then-choice-gt0 c =
 
 pub returns-then-choice-gt0 : goal.returns-then-choice-gt0
 returns-then-choice-gt0 c =
-    let paid :  Turn c.args.ports c.args.input.0 c.args.credits.now = record { few = c.requires.few_ports; port = c.requires.input; long = c.requires.credits_fit } in
-    let sent :  Turn c.args.ports c.args.input.0 c.args.queues.now = record { few = c.requires.few_ports; port = c.requires.input; long = c.requires.queues_fit } in
-    let requests :     c.first_requests-asked.result ≡ ready_mask c.args.credits.now c.args.queues.now ((c.args.input.0 - 1) * c.args.ports) c.args.ports = first_asks _ _ _ _ paid sent _ c.first_requests-asked.ensures.asked in
-    let found :     c.first_turn-choice.result.output.0 ≡ in_turn (is_open c.args.ports c.free_for-free.result c.args.credits.now c.args.queues.now c.args.input.0) c.args.ports (port_word c.args.given.now c.args.input.0) = first_takes _ _ _ _ sent c.requires.given_fits _ paid _ requests _ _ c.first_turn-choice.ensures.output in
-     record { turn = λ s e.
-                turn_one_some _ s _ _ _ _ _ _ _ e c.output_of.ensures.read c.if-output_of-gt0.false _ _ (c.free_for-free.ensures.free s e)
-    found _ _ _ c.first_turn-choice.ensures.credits_exit c.first_turn-choice.ensures.queues_exit c.first_turn-choice.ensures.given_exit c.if-choice-gt0.true }
+    let paid : Turn c.args.ports c.args.input.0 c.args.credits.now = record { few = c.requires.few_ports; port = c.requires.input; long = c.requires.credits_fit } in
+    let sent : Turn c.args.ports c.args.input.0 c.args.queues.now = record { few = c.requires.few_ports; port = c.requires.input; long = c.requires.queues_fit } in
+    let requests : c.first_requests-asked.result ≡ ready_mask c.args.credits.now c.args.queues.now ((c.args.input.0 - 1) * c.args.ports) c.args.ports = first_asks _ _ _ _ paid sent _ c.first_requests-asked.ensures.asked in
+    let found : c.first_turn-choice.result.output.0 ≡ in_turn (is_open c.args.ports c.free_for-free.result c.args.credits.now c.args.queues.now c.args.input.0) c.args.ports (port_word c.args.given.now c.args.input.0) = first_takes _ _ _ _ sent c.requires.given_fits _ paid _ requests _ _ c.first_turn-choice.ensures.output in
+    record {
+      turn = λ s e.
+          turn_one_some _ s _ _ _ _ _ _ _ e c.output_of.ensures.read c.if-output_of-gt0.false _ _ (c.free_for-free.ensures.free s e)
+          found _ _ _ c.first_turn-choice.ensures.credits_exit c.first_turn-choice.ensures.queues_exit c.first_turn-choice.ensures.given_exit c.if-choice-gt0.true;
+    }
 
 pub returns-else-choice-gt0 : goal.returns-else-choice-gt0
 returns-else-choice-gt0 c =
-    let paid :  Turn c.args.ports c.args.input.0 c.args.credits.now = record { few = c.requires.few_ports; port = c.requires.input; long = c.requires.credits_fit } in
-    let sent :  Turn c.args.ports c.args.input.0 c.args.queues.now = record { few = c.requires.few_ports; port = c.requires.input; long = c.requires.queues_fit } in
-    let requests :     c.first_requests-asked.result ≡ ready_mask c.args.credits.now c.args.queues.now ((c.args.input.0 - 1) * c.args.ports) c.args.ports = first_asks _ _ _ _ paid sent _ c.first_requests-asked.ensures.asked in
-    let found :     c.first_turn-choice.result.output.0 ≡ in_turn (is_open c.args.ports c.free_for-free.result c.args.credits.now c.args.queues.now c.args.input.0) c.args.ports (port_word c.args.given.now c.args.input.0) = first_takes _ _ _ _ sent c.requires.given_fits _ paid _ requests _ _ c.first_turn-choice.ensures.output in
-     record { turn = λ s e.
-                turn_one_none _ s _ _ _ _ _ _ _ e c.output_of.ensures.read c.if-output_of-gt0.false _ _ (c.free_for-free.ensures.free s e)
-    found _ _ _ c.first_turn-choice.ensures.credits_exit c.first_turn-choice.ensures.queues_exit c.first_turn-choice.ensures.given_exit c.if-choice-gt0.false }
+    let paid : Turn c.args.ports c.args.input.0 c.args.credits.now = record { few = c.requires.few_ports; port = c.requires.input; long = c.requires.credits_fit } in
+    let sent : Turn c.args.ports c.args.input.0 c.args.queues.now = record { few = c.requires.few_ports; port = c.requires.input; long = c.requires.queues_fit } in
+    let requests : c.first_requests-asked.result ≡ ready_mask c.args.credits.now c.args.queues.now ((c.args.input.0 - 1) * c.args.ports) c.args.ports = first_asks _ _ _ _ paid sent _ c.first_requests-asked.ensures.asked in
+    let found : c.first_turn-choice.result.output.0 ≡ in_turn (is_open c.args.ports c.free_for-free.result c.args.credits.now c.args.queues.now c.args.input.0) c.args.ports (port_word c.args.given.now c.args.input.0) = first_takes _ _ _ _ sent c.requires.given_fits _ paid _ requests _ _ c.first_turn-choice.ensures.output in
+    record {
+      turn = λ s e.
+          turn_one_none _ s _ _ _ _ _ _ _ e c.output_of.ensures.read c.if-output_of-gt0.false _ _ (c.free_for-free.ensures.free s e)
+          found _ _ _ c.first_turn-choice.ensures.credits_exit c.first_turn-choice.ensures.queues_exit c.first_turn-choice.ensures.given_exit c.if-choice-gt0.false;
+    }

@@ -1,5 +1,5 @@
 -- `pipeline_turns::turn_two` meets its contract: the ways that its tests leave are those of the definition. Assumes nothing.
-use Rattle.std.proofs.Common.{◌≡◌, ◌-◌, ◌*◌, ◌≤◌, arith, rules}
+use Rattle.std.proofs.Common.{◌≡◌, ◌-◌, ◌*◌, ◌≤◌, arith}
 use Rattle.wsgs.specs.Basics.{in_turn}
 use Rattle.wsgs.specs.Words.{port_word}
 use Rattle.wsgs.proofs.Laws.InTurn.{in_turn_some}
@@ -15,17 +15,17 @@ returns-then-output_of-gt0 c =
 
 pub returns-then-asked-eq0 : goal.returns-then-asked-eq0
 returns-then-asked-eq0 c =
-    let sent :  Turn c.args.ports c.args.input.0 c.args.queues.now = record { few = c.requires.few_ports; port = c.requires.input; long = c.requires.queues_fit } in
-    let requests :     c.second_requests-asked.result ≡ ready_mask c.args.queues.now c.args.queues.now ((c.args.input.0 - 1) * c.args.ports) c.args.ports = second_asks _ _ _ sent _ c.second_requests-asked.ensures.asked in
-     record { turn = λ s e cr. turn_two_unasked _ s _ cr _ _ _ _ requests c.if-asked-eq0.true }
+    let sent : Turn c.args.ports c.args.input.0 c.args.queues.now = record { few = c.requires.few_ports; port = c.requires.input; long = c.requires.queues_fit } in
+    let requests : c.second_requests-asked.result ≡ ready_mask c.args.queues.now c.args.queues.now ((c.args.input.0 - 1) * c.args.ports) c.args.ports = second_asks _ _ _ sent _ c.second_requests-asked.ensures.asked in
+    record { turn = λ s e cr. turn_two_unasked _ s _ cr _ _ _ _ requests c.if-asked-eq0.true }
 
 pub overflow_cast-flight : goal.overflow_cast-flight
 overflow_cast-flight c =
-    let sent :  Turn c.args.ports c.args.input.0 c.args.queues.now = record { few = c.requires.few_ports; port = c.requires.input; long = c.requires.queues_fit } in
-    let requests :     c.second_requests-asked.result ≡ ready_mask c.args.queues.now c.args.queues.now ((c.args.input.0 - 1) * c.args.ports) c.args.ports = second_asks _ _ _ sent _ c.second_requests-asked.ensures.asked in
-    let found :     c.second_turn-choice.result.output.0 ≡ in_turn (is_open c.args.ports c.free_for-free.result c.args.queues.now c.args.queues.now c.args.input.0) c.args.ports (port_word c.args.given.now c.args.input.0) = second_takes _ _ _ _ sent c.requires.given_fits _ _ requests _ _ c.second_turn-choice.ensures.output in
+    let sent : Turn c.args.ports c.args.input.0 c.args.queues.now = record { few = c.requires.few_ports; port = c.requires.input; long = c.requires.queues_fit } in
+    let requests : c.second_requests-asked.result ≡ ready_mask c.args.queues.now c.args.queues.now ((c.args.input.0 - 1) * c.args.ports) c.args.ports = second_asks _ _ _ sent _ c.second_requests-asked.ensures.asked in
+    let found : c.second_turn-choice.result.output.0 ≡ in_turn (is_open c.args.ports c.free_for-free.result c.args.queues.now c.args.queues.now c.args.input.0) c.args.ports (port_word c.args.given.now c.args.input.0) = second_takes _ _ _ _ sent c.requires.given_fits _ _ requests _ _ c.second_turn-choice.ensures.output in
     let small : c.second_turn-choice.result.output.0 ≤ 32 = let p = (in_turn_some _ _ _ _ found c.if-choice-gt0.true).0 in omega (arith, c.requires.few_ports) in
-     omega (arith, small)
+    omega (arith, small)
 
 pub bounds-flight-at-then-choice-gt0 : goal.bounds-flight-at-then-choice-gt0
 bounds-flight-at-then-choice-gt0 c =
@@ -33,18 +33,22 @@ bounds-flight-at-then-choice-gt0 c =
 
 pub returns-then-choice-gt0 : goal.returns-then-choice-gt0
 returns-then-choice-gt0 c =
-    let sent :  Turn c.args.ports c.args.input.0 c.args.queues.now = record { few = c.requires.few_ports; port = c.requires.input; long = c.requires.queues_fit } in
-    let requests :     c.second_requests-asked.result ≡ ready_mask c.args.queues.now c.args.queues.now ((c.args.input.0 - 1) * c.args.ports) c.args.ports = second_asks _ _ _ sent _ c.second_requests-asked.ensures.asked in
-    let found :     c.second_turn-choice.result.output.0 ≡ in_turn (is_open c.args.ports c.free_for-free.result c.args.queues.now c.args.queues.now c.args.input.0) c.args.ports (port_word c.args.given.now c.args.input.0) = second_takes _ _ _ _ sent c.requires.given_fits _ _ requests _ _ c.second_turn-choice.ensures.output in
-     record { turn = λ s e cr.
-                    turn_two_some _ s _ cr _ _ _ _ _ e c.output_of.ensures.read c.if-output_of-gt0.false _ _ (c.free_for-free.ensures.free s e)
-    found _ _ c.second_turn-choice.ensures.queues_exit c.second_turn-choice.ensures.given_exit c.if-choice-gt0.true }
+    let sent : Turn c.args.ports c.args.input.0 c.args.queues.now = record { few = c.requires.few_ports; port = c.requires.input; long = c.requires.queues_fit } in
+    let requests : c.second_requests-asked.result ≡ ready_mask c.args.queues.now c.args.queues.now ((c.args.input.0 - 1) * c.args.ports) c.args.ports = second_asks _ _ _ sent _ c.second_requests-asked.ensures.asked in
+    let found : c.second_turn-choice.result.output.0 ≡ in_turn (is_open c.args.ports c.free_for-free.result c.args.queues.now c.args.queues.now c.args.input.0) c.args.ports (port_word c.args.given.now c.args.input.0) = second_takes _ _ _ _ sent c.requires.given_fits _ _ requests _ _ c.second_turn-choice.ensures.output in
+    record {
+      turn = λ s e cr.
+          turn_two_some _ s _ cr _ _ _ _ _ e c.output_of.ensures.read c.if-output_of-gt0.false _ _ (c.free_for-free.ensures.free s e)
+          found _ _ c.second_turn-choice.ensures.queues_exit c.second_turn-choice.ensures.given_exit c.if-choice-gt0.true;
+    }
 
 pub returns-else-choice-gt0 : goal.returns-else-choice-gt0
 returns-else-choice-gt0 c =
-    let sent :  Turn c.args.ports c.args.input.0 c.args.queues.now = record { few = c.requires.few_ports; port = c.requires.input; long = c.requires.queues_fit } in
-    let requests :     c.second_requests-asked.result ≡ ready_mask c.args.queues.now c.args.queues.now ((c.args.input.0 - 1) * c.args.ports) c.args.ports = second_asks _ _ _ sent _ c.second_requests-asked.ensures.asked in
-    let found :     c.second_turn-choice.result.output.0 ≡ in_turn (is_open c.args.ports c.free_for-free.result c.args.queues.now c.args.queues.now c.args.input.0) c.args.ports (port_word c.args.given.now c.args.input.0) = second_takes _ _ _ _ sent c.requires.given_fits _ _ requests _ _ c.second_turn-choice.ensures.output in
-     record { turn = λ s e cr.
-                    turn_two_none _ s _ cr _ _ _ _ _ e c.output_of.ensures.read c.if-output_of-gt0.false _ _ (c.free_for-free.ensures.free s e)
-    found _ _ c.second_turn-choice.ensures.queues_exit c.second_turn-choice.ensures.given_exit c.if-choice-gt0.false }
+    let sent : Turn c.args.ports c.args.input.0 c.args.queues.now = record { few = c.requires.few_ports; port = c.requires.input; long = c.requires.queues_fit } in
+    let requests : c.second_requests-asked.result ≡ ready_mask c.args.queues.now c.args.queues.now ((c.args.input.0 - 1) * c.args.ports) c.args.ports = second_asks _ _ _ sent _ c.second_requests-asked.ensures.asked in
+    let found : c.second_turn-choice.result.output.0 ≡ in_turn (is_open c.args.ports c.free_for-free.result c.args.queues.now c.args.queues.now c.args.input.0) c.args.ports (port_word c.args.given.now c.args.input.0) = second_takes _ _ _ _ sent c.requires.given_fits _ _ requests _ _ c.second_turn-choice.ensures.output in
+    record {
+      turn = λ s e cr.
+          turn_two_none _ s _ cr _ _ _ _ _ e c.output_of.ensures.read c.if-output_of-gt0.false _ _ (c.free_for-free.ensures.free s e)
+          found _ _ c.second_turn-choice.ensures.queues_exit c.second_turn-choice.ensures.given_exit c.if-choice-gt0.false;
+    }

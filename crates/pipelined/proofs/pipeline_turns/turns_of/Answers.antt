@@ -1,5 +1,5 @@
 -- `pipeline_turns::turns_of` meets its contract: the input's turns are due or not, and its rows are those of its slots. Assumes nothing.
-use Rattle.std.proofs.Common.{arith, rules}
+use Rattle.std.proofs.Common.{arith}
 use Rattle.pipelined.proofs.PipelinedTurns.{turns_due, turns_early}
 use Rattle.pipelined.proofs.pipeline_turns.turns_of.Goals as goal
 
@@ -15,10 +15,12 @@ turn_two-requires c =
 
 pub returns-then-input-time : goal.returns-then-input-time
 returns-then-input-time c =
-    record { turns = λ frame a.
-                            turns_due _ frame _ _ _ _ _ _ _ (omega (arith, c.if-input-time.true)) (c.reload_row.ensures.reload frame _ a.covers a.place _ _ _)
-    (c.turn_one.ensures.turn _ (c.row_before-one.ensures.is _ a.row_one (omega (arith, c.if-input-time.true))))
-    (c.turn_two.ensures.turn _ (c.row_before-two.ensures.is _ a.row_two (omega (arith, c.if-input-time.true))) _) }
+    record {
+      turns = λ frame a.
+          turns_due _ frame _ _ _ _ _ _ _ (omega (arith, c.if-input-time.true)) (c.reload_row.ensures.reload frame _ a.covers a.place _ _ _)
+          (c.turn_one.ensures.turn _ (c.row_before-one.ensures.is _ a.row_one (omega (arith, c.if-input-time.true))))
+          (c.turn_two.ensures.turn _ (c.row_before-two.ensures.is _ a.row_two (omega (arith, c.if-input-time.true))) _);
+    }
 
 pub returns-else-input-time : goal.returns-else-input-time
 returns-else-input-time c =

@@ -1,0 +1,9 @@
+-- What is read stands within the buffer, and less of it is left.
+use Rattle.std.proofs.Common.{◌≤◌, length, ◌-◌}
+use Rattle.trace_test.proofs.read_full.Given as goal
+
+abbrev pub invariant-loop-done : goal.invariant-loop-done
+invariant-loop-done g l = l.done ≤ length l.buf
+
+abbrev pub decreases-loop-done : goal.decreases-loop-done
+decreases-loop-done g l = length l.buf - l.done
