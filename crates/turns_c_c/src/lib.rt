@@ -1,5 +1,5 @@
-// The archive for the comparison with the second program: each export is the function of its name in crates/turns_c, with the same promises.
-// It is no part of the library for C.
+// The archive for the comparison with the second program: each export is the function of its name in crates/turns_c, with its promises written
+// again. It is no part of the library for C.
 #![tactic(auto)]
 
 ghost use Rattle.std.specs.Prelude.{◌≡◌};

@@ -1,5 +1,4 @@
--- `bookings::copy_first` meets its contract. The loop's invariant: the words so far are the bookings. The measure is the words left.
--- Assumes nothing.
+-- `bookings::copy_first` meets its contract. Assumes nothing.
 use Prim.Native.Nat.{ℕ}
 use mathlib.Core.Path.{◌≡◌, refl, ap, ◌∙◌}
 use native.Mathlib.Numerals.{add-one}

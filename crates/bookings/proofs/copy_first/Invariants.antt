@@ -1,5 +1,4 @@
--- `bookings::copy_first` meets its contract. The loop's invariant: the words so far are the bookings. The measure is the words left.
--- Assumes nothing.
+-- The loop's invariant: the words so far are the bookings. The measure is the words left.
 use Prim.Native.Nat.{◌≤◌, ◌-◌}
 use mathlib.Core.Path.{◌≡◌}
 use lib.ListN.{length}

@@ -1,4 +1,4 @@
--- `bookings::union_of` meets its contract. The loop's invariant: the union is that of the words so far. Assumes nothing.
+-- `bookings::union_of` meets its contract. Assumes nothing.
 use Prim.Native.Nat.{◌-◌}
 use mathlib.Core.Path.{◌≡◌, refl, ap, ◌∙◌}
 use native.Mathlib.Numerals.{add-one}

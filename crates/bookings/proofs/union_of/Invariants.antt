@@ -1,4 +1,4 @@
--- `bookings::union_of` meets its contract. The loop's invariant: the union is that of the words so far. Assumes nothing.
+-- The loop's invariant: the union is that of the words so far.
 use Prim.Native.Nat.{◌-◌, ◌≤◌}
 use mathlib.Core.Path.{◌≡◌}
 use lib.Dec.{ltb}

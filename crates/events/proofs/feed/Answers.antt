@@ -1,4 +1,4 @@
--- Feeding a block. The loop's invariant: what is written so far, and the rest of the steps from here, are those of the definition.
+-- Feeding a block.
 use mathlib.Core.Path.{refl, sym, ◌∙◌}
 use native.Mathlib.Omega.{arith}
 use Rattle.events.proofs.Rounds.{so_far_none, so_far_room, so_far_ready, so_far_less, so_far_more, so_far_all}

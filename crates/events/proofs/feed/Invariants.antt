@@ -1,4 +1,4 @@
--- Feeding a block. The loop's invariant: what is written so far, and the rest of the steps from here, are those of the definition.
+-- The loop's invariant: what is written so far, and the rest of the steps from here, are those of the definition.
 use mathlib.Core.Path.{◌≡◌}
 use Prim.Native.Nat.{◌-◌}
 use lib.ListN.{length}

@@ -1,4 +1,4 @@
--- A text is fed to its end. The loop's invariant: some calls have been made. The measure: the slots to run and the bytes to take.
+-- The loop's invariant: some calls have been made. The measure: the slots to run and the bytes to take.
 use Rattle.std.proofs.Common.{◌-◌, length}
 use Rattle.events.specs.Feeding.{most_steps}
 use Rattle.feeding.specs.Texts.{text_begun, text_state_of}

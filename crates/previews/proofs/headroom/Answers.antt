@@ -11,22 +11,30 @@ use Rattle.book.proofs.Laws.PairSums.{refusal_told}
 use Rattle.previews.proofs.Laws.Headrooms.{headroom_left, headroom_refused, headroom_given}
 use Rattle.previews.proofs.Laws.Previews.{pair_held, own_in_both}
 use Rattle.previews.proofs.headroom.Goals as goal
+use Rattle.previews.proofs.headroom.Goals.{After-pair_sums-present, Else-present-ne0}
+
+-- the refusal is that of the questions on the pair
+told : (c : After-pair_sums-present) → c.pair_sums-present.result.refusal ≡ pair_refusal c.args.clock (holds_book c.args.clock.ports (book_of c.args.slots.now c.args.rates.now)) c.args.input.0 c.args.output.0
+told c =
+    ap (λ p. p.refusal) c.pair_sums-present.ensures.result ∙ refusal_told _ _ _ _
+
+passed : (c : Else-present-ne0) → 0 ≡ pair_refusal c.args.clock (holds_book c.args.clock.ports (book_of c.args.slots.now c.args.rates.now)) c.args.input.0 c.args.output.0
+passed c =
+    sym c.if-present-ne0.false ∙ (told (goal.at-Else-present-ne0 c).After-pair_sums-present)
 
 pub returns-then-present-ne0 : goal.returns-then-present-ne0
 returns-then-present-ne0 c =
-    let told : c.pair_sums-present.result.refusal ≡ pair_refusal c.args.clock (holds_book c.args.clock.ports (book_of c.args.slots.now c.args.rates.now)) c.args.input.0 c.args.output.0 = ap (λ p. p.refusal) c.pair_sums-present.ensures.result ∙ refusal_told _ _ _ _ in
+    let told = told (goal.at.returns-then-present-ne0 c).After-pair_sums-present in
     record { result = headroom_refused _ _ _ _ _ told c.if-present-ne0.true }
 
 pub overflow_sub-taken : goal.overflow_sub-taken
 overflow_sub-taken c =
-    let told : c.pair_sums-present.result.refusal ≡ pair_refusal c.args.clock (holds_book c.args.clock.ports (book_of c.args.slots.now c.args.rates.now)) c.args.input.0 c.args.output.0 = ap (λ p. p.refusal) c.pair_sums-present.ensures.result ∙ refusal_told _ _ _ _ in
-    let passed : 0 ≡ pair_refusal c.args.clock (holds_book c.args.clock.ports (book_of c.args.slots.now c.args.rates.now)) c.args.input.0 c.args.output.0 = sym c.if-present-ne0.false ∙ told in
+    let passed = passed (goal.at.overflow_sub-taken c).Else-present-ne0 in
     omega (arith, (own_in_both _ _ _ _ (pair_asked _ _ _ _ passed) _ c.pair_sums-present.ensures.result).0)
 
 pub returns : goal.returns
 returns c =
-    let told : c.pair_sums-present.result.refusal ≡ pair_refusal c.args.clock (holds_book c.args.clock.ports (book_of c.args.slots.now c.args.rates.now)) c.args.input.0 c.args.output.0 = ap (λ p. p.refusal) c.pair_sums-present.ensures.result ∙ refusal_told _ _ _ _ in
-    let passed : 0 ≡ pair_refusal c.args.clock (holds_book c.args.clock.ports (book_of c.args.slots.now c.args.rates.now)) c.args.input.0 c.args.output.0 = sym c.if-present-ne0.false ∙ told in
+    let passed = passed (goal.at.returns c).Else-present-ne0 in
     let m = book_of c.args.slots.now c.args.rates.now in
     let r = pair_asked _ _ _ _ passed in
     let p = pair_held c.args.clock m c.args.input.0 c.args.output.0 r _ c.pair_sums-present.ensures.result in record {

@@ -12,6 +12,17 @@ use Rattle.book.specs.PairSums.{present_sums}
 use Rattle.previews.proofs.Laws.Previews.{Shown, sums_shown, sums_hidden, book_reached, pair_held, own_in_both, sums_with}
 use mathlib.Core.Bool.{not}
 use Rattle.previews.proofs.preview_book.Goals as goal
+use Rattle.previews.proofs.preview_book.Goals.{Else-not-shows_sums}
+
+-- the sums are shown
+sums : (c : Else-not-shows_sums) → Shown c.book_refusal-number.result
+sums c =
+    sums_shown _ (said_yes c.shows_sums.ensures.result (ap not c.if-not-shows_sums.false))
+
+-- so pair and amount have been asked about
+reached : (c : Else-not-shows_sums) → Reached c.args.clock (holds_book c.args.clock.ports (book_of c.args.slots.now c.args.rates.now)) c.args.input.0 c.args.output.0 × (c.args.amount.0 ≤ c.args.clock.frame)
+reached c =
+    book_reached c.args.clock (book_of c.args.slots.now c.args.rates.now) c.args.input.0 c.args.output.0 c.args.amount.0 _ c.book_refusal-number.ensures.result (sums c)
 
 pub returns-then-not-shows_sums : goal.returns-then-not-shows_sums
 unfolding operation_effect
@@ -20,15 +31,13 @@ returns-then-not-shows_sums c =
 
 pub overflow_add-raised : goal.overflow_add-raised
 overflow_add-raised c =
-    let sums : Shown c.book_refusal-number.result = sums_shown _ (said_yes c.shows_sums.ensures.result (ap not c.if-not-shows_sums.false)) in
-    let reached : Reached c.args.clock (holds_book c.args.clock.ports (book_of c.args.slots.now c.args.rates.now)) c.args.input.0 c.args.output.0 × (c.args.amount.0 ≤ c.args.clock.frame) = book_reached c.args.clock (book_of c.args.slots.now c.args.rates.now) c.args.input.0 c.args.output.0 c.args.amount.0 _ c.book_refusal-number.ensures.result sums in
+    let reached = reached (goal.at.overflow_add-raised c).Else-not-shows_sums in
     let r = reached in
     omega (arith, r.1, r.0.frame, (own_in_both _ _ _ _ r.0 _ c.pair_sums-present.ensures.result).0, c.pair_sums-present.ensures.row_fits)
 
 pub with_booking-requires : goal.with_booking-requires
 with_booking-requires c =
-    let sums : Shown c.book_refusal-number.result = sums_shown _ (said_yes c.shows_sums.ensures.result (ap not c.if-not-shows_sums.false)) in
-    let reached : Reached c.args.clock (holds_book c.args.clock.ports (book_of c.args.slots.now c.args.rates.now)) c.args.input.0 c.args.output.0 × (c.args.amount.0 ≤ c.args.clock.frame) = book_reached c.args.clock (book_of c.args.slots.now c.args.rates.now) c.args.input.0 c.args.output.0 c.args.amount.0 _ c.book_refusal-number.ensures.result sums in
+    let reached = reached (goal.at.with_booking-requires c).Else-not-shows_sums in
     let r = reached in
     let o = own_in_both _ _ _ _ r.0 _ c.pair_sums-present.ensures.result in record {
       own_in_row = o.0;
@@ -40,8 +49,8 @@ with_booking-requires c =
 
 pub returns : goal.returns
 returns c =
-    let sums : Shown c.book_refusal-number.result = sums_shown _ (said_yes c.shows_sums.ensures.result (ap not c.if-not-shows_sums.false)) in
-    let reached : Reached c.args.clock (holds_book c.args.clock.ports (book_of c.args.slots.now c.args.rates.now)) c.args.input.0 c.args.output.0 × (c.args.amount.0 ≤ c.args.clock.frame) = book_reached c.args.clock (book_of c.args.slots.now c.args.rates.now) c.args.input.0 c.args.output.0 c.args.amount.0 _ c.book_refusal-number.ensures.result sums in
+    let sums = sums (goal.at.returns c).Else-not-shows_sums in
+    let reached = reached (goal.at.returns c).Else-not-shows_sums in
     let held : c.pair_sums-present.result ≡ present_sums c.args.clock (book_of c.args.slots.now c.args.rates.now) c.args.input.0 c.args.output.0 = pair_held _ _ _ _ reached.0 _ c.pair_sums-present.ensures.result in
     let m = book_of c.args.slots.now c.args.rates.now in
     let r = reached.0 in record {

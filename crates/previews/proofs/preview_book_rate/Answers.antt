@@ -13,6 +13,17 @@ use Rattle.book.proofs.Laws.Amounts.{rises_by}
 use Rattle.previews.proofs.Laws.Previews.{Shown, sums_shown, sums_hidden, rate_reached, pair_held, own_in_both, sums_with}
 use mathlib.Core.Bool.{not}
 use Rattle.previews.proofs.preview_book_rate.Goals as goal
+use Rattle.previews.proofs.preview_book_rate.Goals.{Else-not-shows_sums}
+
+-- the sums are shown
+sums : (c : Else-not-shows_sums) → Shown c.rate_refusal-number.result
+sums c =
+    sums_shown _ (said_yes c.shows_sums.ensures.result (ap not c.if-not-shows_sums.false))
+
+-- so pair and amount have been asked about
+reached : (c : Else-not-shows_sums) → Reached c.args.clock (holds_book c.args.clock.ports (book_of c.args.slots.now c.args.rates.now)) c.args.input.0 c.args.output.0 × (c.args.rate ≤ 100000000)
+reached c =
+    rate_reached c.args.clock (book_of c.args.slots.now c.args.rates.now) c.args.input.0 c.args.output.0 c.args.rate _ c.rate_refusal-number.ensures.result (sums c)
 
 pub returns-then-not-shows_sums : goal.returns-then-not-shows_sums
 unfolding operation_effect
@@ -21,20 +32,17 @@ returns-then-not-shows_sums c =
 
 pub overflow_cast-rate : goal.overflow_cast-rate
 overflow_cast-rate c =
-    let sums : Shown c.rate_refusal-number.result = sums_shown _ (said_yes c.shows_sums.ensures.result (ap not c.if-not-shows_sums.false)) in
-    let reached : Reached c.args.clock (holds_book c.args.clock.ports (book_of c.args.slots.now c.args.rates.now)) c.args.input.0 c.args.output.0 × (c.args.rate ≤ 100000000) = rate_reached c.args.clock (book_of c.args.slots.now c.args.rates.now) c.args.input.0 c.args.output.0 c.args.rate _ c.rate_refusal-number.ensures.result sums in
+    let reached = reached (goal.at.overflow_cast-rate c).Else-not-shows_sums in
     omega (arith, reached.1)
 
 pub overflow_add-risen : goal.overflow_add-risen
 overflow_add-risen c =
-    let sums : Shown c.rate_refusal-number.result = sums_shown _ (said_yes c.shows_sums.ensures.result (ap not c.if-not-shows_sums.false)) in
-    let reached : Reached c.args.clock (holds_book c.args.clock.ports (book_of c.args.slots.now c.args.rates.now)) c.args.input.0 c.args.output.0 × (c.args.rate ≤ 100000000) = rate_reached c.args.clock (book_of c.args.slots.now c.args.rates.now) c.args.input.0 c.args.output.0 c.args.rate _ c.rate_refusal-number.ensures.result sums in
+    let reached = reached (goal.at.overflow_add-risen c).Else-not-shows_sums in
     omega (arith, (own_in_both _ _ _ _ reached.0 _ c.pair_sums-present.ensures.result).0, c.pair_sums-present.ensures.row_fits, c.rise-more.ensures.fits)
 
 pub with_booking-requires : goal.with_booking-requires
 with_booking-requires c =
-    let sums : Shown c.rate_refusal-number.result = sums_shown _ (said_yes c.shows_sums.ensures.result (ap not c.if-not-shows_sums.false)) in
-    let reached : Reached c.args.clock (holds_book c.args.clock.ports (book_of c.args.slots.now c.args.rates.now)) c.args.input.0 c.args.output.0 × (c.args.rate ≤ 100000000) = rate_reached c.args.clock (book_of c.args.slots.now c.args.rates.now) c.args.input.0 c.args.output.0 c.args.rate _ c.rate_refusal-number.ensures.result sums in
+    let reached = reached (goal.at.with_booking-requires c).Else-not-shows_sums in
     let o = own_in_both _ _ _ _ reached.0 _ c.pair_sums-present.ensures.result in record {
       own_in_row = o.0;
       own_in_column = o.1;
@@ -45,8 +53,8 @@ with_booking-requires c =
 
 pub returns : goal.returns
 returns c =
-    let sums : Shown c.rate_refusal-number.result = sums_shown _ (said_yes c.shows_sums.ensures.result (ap not c.if-not-shows_sums.false)) in
-    let reached : Reached c.args.clock (holds_book c.args.clock.ports (book_of c.args.slots.now c.args.rates.now)) c.args.input.0 c.args.output.0 × (c.args.rate ≤ 100000000) = rate_reached c.args.clock (book_of c.args.slots.now c.args.rates.now) c.args.input.0 c.args.output.0 c.args.rate _ c.rate_refusal-number.ensures.result sums in
+    let sums = sums (goal.at.returns c).Else-not-shows_sums in
+    let reached = reached (goal.at.returns c).Else-not-shows_sums in
     let held : c.pair_sums-present.result ≡ present_sums c.args.clock (book_of c.args.slots.now c.args.rates.now) c.args.input.0 c.args.output.0 = pair_held _ _ _ _ reached.0 _ c.pair_sums-present.ensures.result in
     let m = book_of c.args.slots.now c.args.rates.now in
     let r = reached.0 in

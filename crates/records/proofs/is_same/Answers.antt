@@ -1,4 +1,4 @@
--- Two texts compared. The loop's invariant: they are of one length, and the bytes passed agree.
+-- Two texts compared.
 use mathlib.Core.Path.{sym}
 use native.Mathlib.Omega.{arith}
 use Rattle.records.proofs.Texts.{lengths_differ, agree_none, agree_more, agree_not, agree_all}

@@ -1,4 +1,4 @@
--- Two texts compared. The loop's invariant: they are of one length, and the bytes passed agree.
+-- The loop's invariant: they are of one length, and the bytes passed agree.
 use Prim.Native.Nat.{◌-◌}
 use lib.ListN.{length}
 use Rattle.records.proofs.Texts.{Agree}

@@ -9,7 +9,15 @@ use Rattle.turns.proofs.TurnLaws.{Turn, due, is_due, not_due, row_there, with_tu
 use mathlib.Core.Path.{ap}
 use mathlib.Core.Bool.{not}
 use Rattle.turns.proofs.first_requests.Goals as goal
-use Rattle.turns.proofs.first_requests.Goals.{then-not-has_turn-via-then-not-has_turn, then-not-has_turn-via-else-not-has_turn+then-not-has_turn-2}
+use Rattle.turns.proofs.first_requests.Goals.{then-not-has_turn-via-then-not-has_turn, then-not-has_turn-via-else-not-has_turn+then-not-has_turn-2, Else-not-has_turn, Else-not-has_turn-2}
+
+by-credits : (c : Else-not-has_turn) → Turn c.args.ports c.args.input.0 c.args.credits.now
+by-credits c =
+    due _ _ _ c.has_turn.ensures.tested (ap not c.if-not-has_turn.false)
+
+by-queues : (c : Else-not-has_turn-2) → Turn c.args.ports c.args.input.0 c.args.queues.now
+by-queues c =
+    due _ _ _ c.has_turn-else-not-has_turn.ensures.tested (ap not c.if-not-has_turn-2.false)
 
 pub returns-then-not-has_turn : goal.returns-then-not-has_turn
 returns-then-not-has_turn c =
@@ -25,14 +33,14 @@ returns-then-not-has_turn c =
 
 pub has_credit-requires : goal.has_credit-requires
 has_credit-requires c =
-    let by-credits : Turn c.args.ports c.args.input.0 c.args.credits.now = due _ _ _ c.has_turn.ensures.tested (ap not c.if-not-has_turn.false) in
+    let by-credits = by-credits (goal.at.has_credit-requires c).Else-not-has_turn in
     record { credits_fit = omega (arith, c.row_of-row.ensures.within, by-credits.long) }
 
 -- it has no credit
 pub returns-then-not-has_credit : goal.returns-then-not-has_credit
 returns-then-not-has_credit c =
-    let by-queues : Turn c.args.ports c.args.input.0 c.args.queues.now = due _ _ _ c.has_turn-else-not-has_turn.ensures.tested (ap not c.if-not-has_turn-2.false) in
-    let by-credits : Turn c.args.ports c.args.input.0 c.args.credits.now = due _ _ _ c.has_turn.ensures.tested (ap not c.if-not-has_turn.false) in
+    let by-queues = by-queues (goal.at.returns-then-not-has_credit c).Else-not-has_turn-2 in
+    let by-credits = by-credits (goal.at.returns-then-not-has_credit c).Else-not-has_turn in
     record {
       asked = with_turn (both_yes (is_due _ _ _ by-credits) (is_due _ _ _ by-queues))
           (ready_at _ _ _ _ _ (row_there _ _ _ by-queues _ c.row_of-row.ensures.row) (nothing_ready _ _ _ _ (sym c.has_credit.ensures.tested ∙ c.if-not-has_credit.true)) ∙ ready_pairs _ _ _ _);
@@ -40,8 +48,8 @@ returns-then-not-has_credit c =
 
 pub ready_in-requires : goal.ready_in-requires
 ready_in-requires c =
-    let by-credits : Turn c.args.ports c.args.input.0 c.args.credits.now = due _ _ _ c.has_turn.ensures.tested (ap not c.if-not-has_turn.false) in
-    let by-queues : Turn c.args.ports c.args.input.0 c.args.queues.now = due _ _ _ c.has_turn-else-not-has_turn.ensures.tested (ap not c.if-not-has_turn-2.false) in
+    let by-credits = by-credits (goal.at.ready_in-requires c).Else-not-has_turn in
+    let by-queues = by-queues (goal.at.ready_in-requires c).Else-not-has_turn-2 in
     let d = by-queues in record {
       ports = d.few;
       credits_fit = omega (arith, c.row_of-row.ensures.within, by-credits.long);
@@ -50,8 +58,8 @@ ready_in-requires c =
 
 pub returns : goal.returns
 returns c =
-    let by-queues : Turn c.args.ports c.args.input.0 c.args.queues.now = due _ _ _ c.has_turn-else-not-has_turn.ensures.tested (ap not c.if-not-has_turn-2.false) in
-    let by-credits : Turn c.args.ports c.args.input.0 c.args.credits.now = due _ _ _ c.has_turn.ensures.tested (ap not c.if-not-has_turn.false) in
+    let by-queues = by-queues (goal.at.returns c).Else-not-has_turn-2 in
+    let by-credits = by-credits (goal.at.returns c).Else-not-has_turn in
     record {
       asked = with_turn (both_yes (is_due _ _ _ by-credits) (is_due _ _ _ by-queues))
           (ready_at _ _ _ _ _ (row_there _ _ _ by-queues _ c.row_of-row.ensures.row) c.ready_in.ensures.ready ∙ ready_pairs _ _ _ _);

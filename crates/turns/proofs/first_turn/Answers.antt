@@ -7,6 +7,20 @@ use Rattle.turns.proofs.TurnLaws.{Turn, due, is_due, not_due, with_turn, without
 use mathlib.Core.Path.{ap}
 use mathlib.Core.Bool.{not}
 use Rattle.turns.proofs.first_turn.Goals as goal
+use Rattle.turns.proofs.first_turn.Goals.{Else-not-has_turn, After-second_turn-choice}
+
+allowed : (c : Else-not-has_turn) → Turn c.args.ports c.args.input.0 c.args.credits.now
+allowed c =
+    due _ _ _ c.has_turn.ensures.tested (ap not c.if-not-has_turn.false)
+
+-- what is found, and at how many outputs it has looked
+found : (c : After-second_turn-choice) → c.second_turn-choice.result.output.0 ≡ first_output c.args.free c.args.asked c.args.ports c.args.input.0 c.args.credits.now c.args.queues.now c.args.given.now
+found c =
+    with_turn (is_due _ _ _ (allowed (goal.at-After-second_turn-choice c).Else-not-has_turn)) c.second_turn-choice.ensures.output
+
+counted : (c : After-second_turn-choice) → c.second_turn-choice.result.looks ≡ first_looks c.args.free c.args.asked c.args.ports c.args.input.0 c.args.credits.now c.args.queues.now c.args.given.now
+counted c =
+    with_turn (is_due _ _ _ (allowed (goal.at-After-second_turn-choice c).Else-not-has_turn)) c.second_turn-choice.ensures.looks
 
 pub returns-then-not-has_turn : goal.returns-then-not-has_turn
 returns-then-not-has_turn c =
@@ -20,7 +34,7 @@ returns-then-not-has_turn c =
 
 pub spend_credit-requires : goal.spend_credit-requires
 spend_credit-requires c =
-    let allowed : Turn c.args.ports c.args.input.0 c.args.credits.now = due _ _ _ c.has_turn.ensures.tested (ap not c.if-not-has_turn.false) in
+    let allowed = allowed (goal.at.spend_credit-requires c).Else-not-has_turn in
     let d = allowed in
     let p = second_port c.args.free c.args.asked c.args.ports c.args.input.0 c.args.queues.now c.args.given.now _ c.second_turn-choice.ensures.output c.if-choice-gt0.true in record {
       ports = d.few;
@@ -31,9 +45,8 @@ spend_credit-requires c =
 
 pub returns-then-choice-gt0 : goal.returns-then-choice-gt0
 returns-then-choice-gt0 c =
-    let allowed : Turn c.args.ports c.args.input.0 c.args.credits.now = due _ _ _ c.has_turn.ensures.tested (ap not c.if-not-has_turn.false) in
-    let found : c.second_turn-choice.result.output.0 ≡ first_output c.args.free c.args.asked c.args.ports c.args.input.0 c.args.credits.now c.args.queues.now c.args.given.now = with_turn (is_due _ _ _ allowed) c.second_turn-choice.ensures.output in
-    let counted : c.second_turn-choice.result.looks ≡ first_looks c.args.free c.args.asked c.args.ports c.args.input.0 c.args.credits.now c.args.queues.now c.args.given.now = with_turn (is_due _ _ _ allowed) c.second_turn-choice.ensures.looks in
+    let found = found (goal.at.returns-then-choice-gt0 c).After-second_turn-choice in
+    let counted = counted (goal.at.returns-then-choice-gt0 c).After-second_turn-choice in
     record {
       output = found;
       looks = counted;
@@ -44,9 +57,8 @@ returns-then-choice-gt0 c =
 
 pub returns-else-choice-gt0 : goal.returns-else-choice-gt0
 returns-else-choice-gt0 c =
-    let allowed : Turn c.args.ports c.args.input.0 c.args.credits.now = due _ _ _ c.has_turn.ensures.tested (ap not c.if-not-has_turn.false) in
-    let found : c.second_turn-choice.result.output.0 ≡ first_output c.args.free c.args.asked c.args.ports c.args.input.0 c.args.credits.now c.args.queues.now c.args.given.now = with_turn (is_due _ _ _ allowed) c.second_turn-choice.ensures.output in
-    let counted : c.second_turn-choice.result.looks ≡ first_looks c.args.free c.args.asked c.args.ports c.args.input.0 c.args.credits.now c.args.queues.now c.args.given.now = with_turn (is_due _ _ _ allowed) c.second_turn-choice.ensures.looks in
+    let found = found (goal.at.returns-else-choice-gt0 c).After-second_turn-choice in
+    let counted = counted (goal.at.returns-else-choice-gt0 c).After-second_turn-choice in
     record {
       output = found;
       looks = counted;

@@ -12,7 +12,33 @@ use Rattle.turns.specs.Requests.{has_turn, common_in_turn, second_output, second
 use Rattle.turns.proofs.Costs.{charged_some, charged_none, noted_some, noted_none}
 use Rattle.turns.proofs.TurnLaws.{Turn, due, is_due, not_due, with_turn, without_turn, both_yes, first_no, second_no, second_port}
 use Rattle.turns.proofs.second_turn.Goals as goal
-use Rattle.turns.proofs.second_turn.Goals.{then-not-has_turn-via-then-not-has_turn, then-not-has_turn-via-else-not-has_turn+then-given-ports}
+use Rattle.turns.proofs.second_turn.Goals.{then-not-has_turn-via-then-not-has_turn, then-not-has_turn-via-else-not-has_turn+then-given-ports, Else-not-has_turn, Else-given-ports, After-choose-choice, Then-choice-gt0}
+
+allowed : (c : Else-not-has_turn) → Turn c.args.ports c.args.input.0 c.args.queues.now
+allowed c =
+    due _ _ _ c.has_turn.ensures.tested (ap not c.if-not-has_turn.false)
+
+long : (c : Else-given-ports) → c.args.ports ≤ length c.args.given.now
+long c =
+    c.if-given-ports.false
+
+there : (c : Else-given-ports) → (has_turn c.args.ports c.args.input.0 (length c.args.queues.now) && leb c.args.ports (length c.args.given.now)) ≡ true
+there c =
+    both_yes (is_due _ _ _ (allowed (goal.at-Else-given-ports c).Else-not-has_turn)) (le-leb c.args.ports (length c.args.given.now) (long c))
+
+-- it gives what the definitions say
+found : (c : After-choose-choice) → c.choose-choice.result.output.0 ≡ second_output c.args.free c.args.asked c.args.ports c.args.input.0 c.args.queues.now c.args.given.now
+found c =
+    with_turn (there (goal.at-After-choose-choice c).Else-given-ports) (c.choose-choice.ensures.output ∙ ap (common_in_turn c.args.free c.args.asked c.args.ports) c.last_given-last.ensures.read)
+
+-- the output that it pays for is a port
+taken : (c : Then-choice-gt0) → Port c.args.ports c.choose-choice.result.output.0
+taken c =
+    second_port c.args.free c.args.asked c.args.ports c.args.input.0 c.args.queues.now c.args.given.now _ (found (goal.at-Then-choice-gt0 c).After-choose-choice) c.if-choice-gt0.true
+
+counted : (c : After-choose-choice) → c.choose-choice.result.looks ≡ second_looks c.args.free c.args.asked c.args.ports c.args.input.0 c.args.queues.now c.args.given.now
+counted c =
+    with_turn (there (goal.at-After-choose-choice c).Else-given-ports) (c.choose-choice.ensures.looks ∙ ap (looks (in_mask c.args.free) (in_mask c.args.asked) c.args.ports) c.last_given-last.ensures.read)
 
 pub returns-then-not-has_turn : goal.returns-then-not-has_turn
 returns-then-not-has_turn c =
@@ -33,8 +59,8 @@ returns-then-not-has_turn c =
 
 pub last_given-last-requires : goal.last_given-last-requires
 last_given-last-requires c =
-    let allowed : Turn c.args.ports c.args.input.0 c.args.queues.now = due _ _ _ c.has_turn.ensures.tested (ap not c.if-not-has_turn.false) in
-    let long : c.args.ports ≤ length c.args.given.now = c.if-given-ports.false in
+    let allowed = allowed (goal.at.last_given-last-requires c).Else-not-has_turn in
+    let long = long (goal.at.last_given-last-requires c).Else-given-ports in
     let d = allowed in record {
       some_input = d.port.low;
       inside = omega (arith, d.port.high, long);
@@ -42,16 +68,13 @@ last_given-last-requires c =
 
 pub choose-choice-requires : goal.choose-choice-requires
 choose-choice-requires c =
-    let allowed : Turn c.args.ports c.args.input.0 c.args.queues.now = due _ _ _ c.has_turn.ensures.tested (ap not c.if-not-has_turn.false) in
+    let allowed = allowed (goal.at.choose-choice-requires c).Else-not-has_turn in
     record { ports = allowed.few }
 
 pub take_packet-requires : goal.take_packet-requires
 take_packet-requires c =
-    let allowed : Turn c.args.ports c.args.input.0 c.args.queues.now = due _ _ _ c.has_turn.ensures.tested (ap not c.if-not-has_turn.false) in
-    let long : c.args.ports ≤ length c.args.given.now = c.if-given-ports.false in
-    let there : (has_turn c.args.ports c.args.input.0 (length c.args.queues.now) && leb c.args.ports (length c.args.given.now)) ≡ true = both_yes (is_due _ _ _ allowed) (le-leb c.args.ports (length c.args.given.now) long) in
-    let found : c.choose-choice.result.output.0 ≡ second_output c.args.free c.args.asked c.args.ports c.args.input.0 c.args.queues.now c.args.given.now = with_turn there (c.choose-choice.ensures.output ∙ ap (common_in_turn c.args.free c.args.asked c.args.ports) c.last_given-last.ensures.read) in
-    let taken : Port c.args.ports c.choose-choice.result.output.0 = second_port c.args.free c.args.asked c.args.ports c.args.input.0 c.args.queues.now c.args.given.now _ found c.if-choice-gt0.true in
+    let allowed = allowed (goal.at.take_packet-requires c).Else-not-has_turn in
+    let taken = taken (goal.at.take_packet-requires c).Then-choice-gt0 in
     let d = allowed in record {
       ports = d.few;
       input = d.port;
@@ -61,11 +84,9 @@ take_packet-requires c =
 
 pub note_given-requires : goal.note_given-requires
 note_given-requires c =
-    let allowed : Turn c.args.ports c.args.input.0 c.args.queues.now = due _ _ _ c.has_turn.ensures.tested (ap not c.if-not-has_turn.false) in
-    let long : c.args.ports ≤ length c.args.given.now = c.if-given-ports.false in
-    let there : (has_turn c.args.ports c.args.input.0 (length c.args.queues.now) && leb c.args.ports (length c.args.given.now)) ≡ true = both_yes (is_due _ _ _ allowed) (le-leb c.args.ports (length c.args.given.now) long) in
-    let found : c.choose-choice.result.output.0 ≡ second_output c.args.free c.args.asked c.args.ports c.args.input.0 c.args.queues.now c.args.given.now = with_turn there (c.choose-choice.ensures.output ∙ ap (common_in_turn c.args.free c.args.asked c.args.ports) c.last_given-last.ensures.read) in
-    let taken : Port c.args.ports c.choose-choice.result.output.0 = second_port c.args.free c.args.asked c.args.ports c.args.input.0 c.args.queues.now c.args.given.now _ found c.if-choice-gt0.true in
+    let allowed = allowed (goal.at.note_given-requires c).Else-not-has_turn in
+    let long = long (goal.at.note_given-requires c).Else-given-ports in
+    let taken = taken (goal.at.note_given-requires c).Then-choice-gt0 in
     let d = allowed in record {
       some_input = omega (arith, d.port);
       inside = omega (arith, d.port, long);
@@ -74,12 +95,9 @@ note_given-requires c =
 
 pub returns-then-choice-gt0 : goal.returns-then-choice-gt0
 returns-then-choice-gt0 c =
-    let allowed : Turn c.args.ports c.args.input.0 c.args.queues.now = due _ _ _ c.has_turn.ensures.tested (ap not c.if-not-has_turn.false) in
-    let long : c.args.ports ≤ length c.args.given.now = c.if-given-ports.false in
-    let there : (has_turn c.args.ports c.args.input.0 (length c.args.queues.now) && leb c.args.ports (length c.args.given.now)) ≡ true = both_yes (is_due _ _ _ allowed) (le-leb c.args.ports (length c.args.given.now) long) in
-    let found : c.choose-choice.result.output.0 ≡ second_output c.args.free c.args.asked c.args.ports c.args.input.0 c.args.queues.now c.args.given.now = with_turn there (c.choose-choice.ensures.output ∙ ap (common_in_turn c.args.free c.args.asked c.args.ports) c.last_given-last.ensures.read) in
-    let counted : c.choose-choice.result.looks ≡ second_looks c.args.free c.args.asked c.args.ports c.args.input.0 c.args.queues.now c.args.given.now = with_turn there (c.choose-choice.ensures.looks ∙ ap (looks (in_mask c.args.free) (in_mask c.args.asked) c.args.ports) c.last_given-last.ensures.read) in
-    let taken : Port c.args.ports c.choose-choice.result.output.0 = second_port c.args.free c.args.asked c.args.ports c.args.input.0 c.args.queues.now c.args.given.now _ found c.if-choice-gt0.true in
+    let found = found (goal.at.returns-then-choice-gt0 c).After-choose-choice in
+    let counted = counted (goal.at.returns-then-choice-gt0 c).After-choose-choice in
+    let taken = taken (goal.at.returns-then-choice-gt0 c).Then-choice-gt0 in
     record {
       output = found;
       looks = counted;
@@ -89,11 +107,8 @@ returns-then-choice-gt0 c =
 
 pub returns-else-choice-gt0 : goal.returns-else-choice-gt0
 returns-else-choice-gt0 c =
-    let allowed : Turn c.args.ports c.args.input.0 c.args.queues.now = due _ _ _ c.has_turn.ensures.tested (ap not c.if-not-has_turn.false) in
-    let long : c.args.ports ≤ length c.args.given.now = c.if-given-ports.false in
-    let there : (has_turn c.args.ports c.args.input.0 (length c.args.queues.now) && leb c.args.ports (length c.args.given.now)) ≡ true = both_yes (is_due _ _ _ allowed) (le-leb c.args.ports (length c.args.given.now) long) in
-    let found : c.choose-choice.result.output.0 ≡ second_output c.args.free c.args.asked c.args.ports c.args.input.0 c.args.queues.now c.args.given.now = with_turn there (c.choose-choice.ensures.output ∙ ap (common_in_turn c.args.free c.args.asked c.args.ports) c.last_given-last.ensures.read) in
-    let counted : c.choose-choice.result.looks ≡ second_looks c.args.free c.args.asked c.args.ports c.args.input.0 c.args.queues.now c.args.given.now = with_turn there (c.choose-choice.ensures.looks ∙ ap (looks (in_mask c.args.free) (in_mask c.args.asked) c.args.ports) c.last_given-last.ensures.read) in
+    let found = found (goal.at.returns-else-choice-gt0 c).After-choose-choice in
+    let counted = counted (goal.at.returns-else-choice-gt0 c).After-choose-choice in
     record {
       output = found;
       looks = counted;

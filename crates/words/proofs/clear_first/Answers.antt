@@ -1,4 +1,4 @@
--- `words::clear_first` meets its contract. The loop's invariant: the first words, up to at, are cleared. Assumes nothing.
+-- `words::clear_first` meets its contract. Assumes nothing.
 use Prim.Native.Nat.{ℕ}
 use mathlib.Core.Path.{◌≡◌, refl, ap, ◌∙◌}
 use native.Mathlib.Numerals.{add-one}

@@ -1,4 +1,4 @@
--- `words::clear_first` meets its contract. The loop's invariant: the first words, up to at, are cleared. Assumes nothing.
+-- The loop's invariant: the first words, up to at, are cleared.
 use Prim.Native.Nat.{◌≤◌, ◌-◌}
 use mathlib.Core.Path.{◌≡◌}
 use lib.ListN.{length}

@@ -1,4 +1,4 @@
--- `words::copy_first` meets its contract. The loop's invariant: the first i words are copied. Assumes nothing.
+-- `words::copy_first` meets its contract. Assumes nothing.
 use Prim.Native.Nat.{ℕ}
 use mathlib.Core.Path.{◌≡◌, refl, ap, ◌∙◌}
 use native.Mathlib.Numerals.{add-one}

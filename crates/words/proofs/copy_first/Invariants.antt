@@ -1,4 +1,4 @@
--- `words::copy_first` meets its contract. The loop's invariant: the first i words are copied. Assumes nothing.
+-- The loop's invariant: the first i words are copied.
 use Prim.Native.Nat.{◌≤◌, ◌-◌}
 use mathlib.Core.Path.{◌≡◌}
 use lib.ListN.{length}

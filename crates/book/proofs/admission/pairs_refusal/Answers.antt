@@ -8,6 +8,12 @@ use Rattle.book.proofs.Laws.Sharing.{row_unfit, column_unfit, both_fit}
 use mathlib.Core.Path.{ap}
 use mathlib.Core.Bool.{not}
 use Rattle.book.proofs.admission.pairs_refusal.Goals as goal
+use Rattle.book.proofs.admission.pairs_refusal.Goals.{Start}
+
+-- the booking that is asked for
+abbrev request : (c : Start) → BookingRequest
+request c =
+    record { input = c.args.input; output = c.args.output; more = c.args.more }
 
 pub all_sums-totals-requires : goal.all_sums-totals-requires
 all_sums-totals-requires c =
@@ -18,12 +24,12 @@ all_sums-totals-requires c =
 
 pub returns-then-not-row_fits : goal.returns-then-not-row_fits
 returns-then-not-row_fits c =
-    let request : BookingRequest = record { input = c.args.input; output = c.args.output; more = c.args.more } in
+    let request = request (goal.at.returns-then-not-row_fits c).Start in
     record { result = row_unfit c.args.clock (book_of c.args.slots.now c.args.rates.now) request (said_no c.row_fits.ensures.result (ap not c.if-not-row_fits.true)) }
 
 pub returns-then-column_fits : goal.returns-then-column_fits
 returns-then-column_fits c =
-    let request : BookingRequest = record { input = c.args.input; output = c.args.output; more = c.args.more } in
+    let request = request (goal.at.returns-then-column_fits c).Start in
     record {
       result = both_fit c.args.clock (book_of c.args.slots.now c.args.rates.now) request (said_yes c.row_fits.ensures.result (ap not c.if-not-row_fits.false))
           (sym c.column_fits.ensures.result ∙ c.if-column_fits.true);
@@ -31,7 +37,7 @@ returns-then-column_fits c =
 
 pub returns : goal.returns
 returns c =
-    let request : BookingRequest = record { input = c.args.input; output = c.args.output; more = c.args.more } in
+    let request = request (goal.at.returns c).Start in
     record {
       result = column_unfit c.args.clock (book_of c.args.slots.now c.args.rates.now) request (said_yes c.row_fits.ensures.result (ap not c.if-not-row_fits.false))
           (sym c.column_fits.ensures.result ∙ c.if-column_fits.false);

@@ -1,5 +1,4 @@
--- `book::all_sums::add_row` meets its contract. The loop's invariant: the sum is that of the first j bookings of the row, and the columns before j have its
--- booking. Assumes nothing.
+-- `book::all_sums::add_row` meets its contract. Assumes nothing.
 use mathlib.Core.Path.{◌≡◌, refl, ◌∙◌, ap}
 use Prim.Native.Nat.{◌+◌, ◌-◌, ◌^◌, ◌<◌}
 use native.Mathlib.Omega.{arith}

@@ -1,5 +1,4 @@
--- `book::all_sums::add_row` meets its contract. The loop's invariant: the sum is that of the first j bookings of the row, and the columns before j have its
--- booking. Assumes nothing.
+-- The loop's invariant: the sum is that of the first j bookings of the row, and the columns before j have its booking.
 use mathlib.Core.Path.{◌≡◌}
 use Prim.Native.Nat.{◌-◌, ◌*◌, ◌≤◌}
 use Rattle.wsgs.specs.Basics.{sum}

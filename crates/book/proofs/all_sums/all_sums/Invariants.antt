@@ -1,5 +1,4 @@
--- `book::all_sums::all_sums` meets its contract. The loop's invariant: the sums of the first i rows are written down, and those of the columns are over these
--- rows. Assumes nothing.
+-- The loop's invariant: the sums of the first i rows are written down, and those of the columns are over these rows.
 use mathlib.Core.Path.{◌≡◌}
 use Prim.Native.Nat.{◌-◌, ◌≤◌}
 use Rattle.wsgs.specs.Bookings.{book_of}

@@ -9,6 +9,16 @@ use Rattle.questions.proofs.Laws.Pairs.{pair_asked}
 use Rattle.book.proofs.Laws.Reach.{book_fits, slots_pair, rates_pair}
 use Rattle.book.proofs.Laws.PairSums.{sums_refused, sums_found}
 use Rattle.book.proofs.pair_sums.pair_sums.Goals as goal
+use Rattle.book.proofs.pair_sums.pair_sums.Goals.{Else-refusal-ne0}
+
+-- the pair has passed
+passed : (c : Else-refusal-ne0) → 0 ≡ pair_refusal c.args.clock (holds_book c.args.clock.ports (book_of c.args.slots.now c.args.rates.now)) c.args.input.0 c.args.output.0
+passed c =
+    sym c.if-refusal-ne0.false ∙ c.book_pair_refusal-refusal.ensures.result
+
+reached : (c : Else-refusal-ne0) → Reached c.args.clock (holds_book c.args.clock.ports (book_of c.args.slots.now c.args.rates.now)) c.args.input.0 c.args.output.0
+reached c =
+    pair_asked _ _ _ _ (passed c)
 
 pub returns-then-refusal-ne0 : goal.returns-then-refusal-ne0
 returns-then-refusal-ne0 c =
@@ -20,20 +30,17 @@ returns-then-refusal-ne0 c =
 
 pub word_of-held-requires : goal.word_of-held-requires
 word_of-held-requires c =
-    let passed : 0 ≡ pair_refusal c.args.clock (holds_book c.args.clock.ports (book_of c.args.slots.now c.args.rates.now)) c.args.input.0 c.args.output.0 = sym c.if-refusal-ne0.false ∙ c.book_pair_refusal-refusal.ensures.result in
-    let reached : Reached c.args.clock (holds_book c.args.clock.ports (book_of c.args.slots.now c.args.rates.now)) c.args.input.0 c.args.output.0 = pair_asked _ _ _ _ passed in
+    let reached = reached (goal.at.word_of-held-requires c).Else-refusal-ne0 in
     record { pair_fits = slots_pair c.args.clock (book_of c.args.slots.now c.args.rates.now) c.args.input.0 c.args.output.0 reached }
 
 pub word_of-rate-requires : goal.word_of-rate-requires
 word_of-rate-requires c =
-    let passed : 0 ≡ pair_refusal c.args.clock (holds_book c.args.clock.ports (book_of c.args.slots.now c.args.rates.now)) c.args.input.0 c.args.output.0 = sym c.if-refusal-ne0.false ∙ c.book_pair_refusal-refusal.ensures.result in
-    let reached : Reached c.args.clock (holds_book c.args.clock.ports (book_of c.args.slots.now c.args.rates.now)) c.args.input.0 c.args.output.0 = pair_asked _ _ _ _ passed in
+    let reached = reached (goal.at.word_of-rate-requires c).Else-refusal-ne0 in
     record { pair_fits = rates_pair c.args.clock (book_of c.args.slots.now c.args.rates.now) c.args.input.0 c.args.output.0 reached }
 
 pub booked-own-requires : goal.booked-own-requires
 booked-own-requires c =
-    let passed : 0 ≡ pair_refusal c.args.clock (holds_book c.args.clock.ports (book_of c.args.slots.now c.args.rates.now)) c.args.input.0 c.args.output.0 = sym c.if-refusal-ne0.false ∙ c.book_pair_refusal-refusal.ensures.result in
-    let reached : Reached c.args.clock (holds_book c.args.clock.ports (book_of c.args.slots.now c.args.rates.now)) c.args.input.0 c.args.output.0 = pair_asked _ _ _ _ passed in
+    let reached = reached (goal.at.booked-own-requires c).Else-refusal-ne0 in
     let r = reached in record {
       book_fits = book_fits _ _ _ _ r;
       input_in_range = r.input;
@@ -42,8 +49,7 @@ booked-own-requires c =
 
 pub row_sum-row-requires : goal.row_sum-row-requires
 row_sum-row-requires c =
-    let passed : 0 ≡ pair_refusal c.args.clock (holds_book c.args.clock.ports (book_of c.args.slots.now c.args.rates.now)) c.args.input.0 c.args.output.0 = sym c.if-refusal-ne0.false ∙ c.book_pair_refusal-refusal.ensures.result in
-    let reached : Reached c.args.clock (holds_book c.args.clock.ports (book_of c.args.slots.now c.args.rates.now)) c.args.input.0 c.args.output.0 = pair_asked _ _ _ _ passed in
+    let reached = reached (goal.at.row_sum-row-requires c).Else-refusal-ne0 in
     let r = reached in record {
       book_fits = book_fits _ _ _ _ r;
       input_in_range = r.input;
@@ -51,8 +57,7 @@ row_sum-row-requires c =
 
 pub column_sum-column-requires : goal.column_sum-column-requires
 column_sum-column-requires c =
-    let passed : 0 ≡ pair_refusal c.args.clock (holds_book c.args.clock.ports (book_of c.args.slots.now c.args.rates.now)) c.args.input.0 c.args.output.0 = sym c.if-refusal-ne0.false ∙ c.book_pair_refusal-refusal.ensures.result in
-    let reached : Reached c.args.clock (holds_book c.args.clock.ports (book_of c.args.slots.now c.args.rates.now)) c.args.input.0 c.args.output.0 = pair_asked _ _ _ _ passed in
+    let reached = reached (goal.at.column_sum-column-requires c).Else-refusal-ne0 in
     let r = reached in record {
       book_fits = book_fits _ _ _ _ r;
       output_in_range = r.output;
@@ -60,7 +65,7 @@ column_sum-column-requires c =
 
 pub returns : goal.returns
 returns c =
-    let passed : 0 ≡ pair_refusal c.args.clock (holds_book c.args.clock.ports (book_of c.args.slots.now c.args.rates.now)) c.args.input.0 c.args.output.0 = sym c.if-refusal-ne0.false ∙ c.book_pair_refusal-refusal.ensures.result in
+    let passed = passed (goal.at.returns c).Else-refusal-ne0 in
     record {
       result = sums_found c.args.clock (book_of c.args.slots.now c.args.rates.now) c.args.input.0 c.args.output.0 _ _ _ _ _ passed
           c.word_of-held.ensures.result c.word_of-rate.ensures.result c.booked-own.ensures.result c.row_sum-row.ensures.result c.column_sum-column.ensures.result;

@@ -12,6 +12,17 @@ use Rattle.book.proofs.Laws.Calls.{book_decides}
 use mathlib.Core.Path.{ap}
 use mathlib.Core.Bool.{not}
 use Rattle.book.proofs.refusals.book_refusal.Goals as goal
+use Rattle.book.proofs.refusals.book_refusal.Goals.{Else-refusal-ne0, Else-not-is_between}
+
+-- the pair has passed
+passed : (c : Else-refusal-ne0) → 0 ≡ pair_refusal c.args.clock (holds_book c.args.clock.ports (book_of c.args.slots.now c.args.rates.now)) c.args.input.0 c.args.output.0
+passed c =
+    sym c.if-refusal-ne0.false ∙ c.book_pair_refusal-refusal.ensures.result
+
+-- and the amount is in range
+in_range : (c : Else-not-is_between) → (slots_in_range c.args.clock.frame c.args.amount.0).yes ≡ true
+in_range c =
+    said_yes c.is_between.ensures.result (ap not c.if-not-is_between.false)
 
 pub returns-then-refusal-ne0 : goal.returns-then-refusal-ne0
 returns-then-refusal-ne0 c =
@@ -19,13 +30,13 @@ returns-then-refusal-ne0 c =
 
 pub returns-then-not-is_between : goal.returns-then-not-is_between
 returns-then-not-is_between c =
-    let passed : 0 ≡ pair_refusal c.args.clock (holds_book c.args.clock.ports (book_of c.args.slots.now c.args.rates.now)) c.args.input.0 c.args.output.0 = sym c.if-refusal-ne0.false ∙ c.book_pair_refusal-refusal.ensures.result in
+    let passed = passed (goal.at.returns-then-not-is_between c).Else-refusal-ne0 in
     record { result = (book_decides _ _ _ _ _).at_amount passed (said_no c.is_between.ensures.result (ap not c.if-not-is_between.true)) }
 
 pub rule_refusal-requires : goal.rule_refusal-requires
 rule_refusal-requires c =
-    let passed : 0 ≡ pair_refusal c.args.clock (holds_book c.args.clock.ports (book_of c.args.slots.now c.args.rates.now)) c.args.input.0 c.args.output.0 = sym c.if-refusal-ne0.false ∙ c.book_pair_refusal-refusal.ensures.result in
-    let in_range : (slots_in_range c.args.clock.frame c.args.amount.0).yes ≡ true = said_yes c.is_between.ensures.result (ap not c.if-not-is_between.false) in
+    let passed = passed (goal.at.rule_refusal-requires c).Else-refusal-ne0 in
+    let in_range = in_range (goal.at.rule_refusal-requires c).Else-not-is_between in
     let r = pair_asked _ _ _ _ passed in record {
       pair_in_range = r;
       more_fits = omega (arith, amount_few c.args.clock.frame c.args.amount.0 in_range, r.frame);
@@ -33,6 +44,6 @@ rule_refusal-requires c =
 
 pub returns : goal.returns
 returns c =
-    let passed : 0 ≡ pair_refusal c.args.clock (holds_book c.args.clock.ports (book_of c.args.slots.now c.args.rates.now)) c.args.input.0 c.args.output.0 = sym c.if-refusal-ne0.false ∙ c.book_pair_refusal-refusal.ensures.result in
-    let in_range : (slots_in_range c.args.clock.frame c.args.amount.0).yes ≡ true = said_yes c.is_between.ensures.result (ap not c.if-not-is_between.false) in
+    let passed = passed (goal.at.returns c).Else-refusal-ne0 in
+    let in_range = in_range (goal.at.returns c).Else-not-is_between in
     record { result = c.rule_refusal.ensures.result ∙ (book_decides _ _ _ _ _).at_rest passed in_range }

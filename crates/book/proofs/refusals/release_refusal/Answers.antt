@@ -11,6 +11,12 @@ use Rattle.book.proofs.Laws.Calls.{release_decides}
 use mathlib.Core.Path.{ap}
 use mathlib.Core.Bool.{not}
 use Rattle.book.proofs.refusals.release_refusal.Goals as goal
+use Rattle.book.proofs.refusals.release_refusal.Goals.{Else-refusal-ne0}
+
+-- the pair has passed
+passed : (c : Else-refusal-ne0) → 0 ≡ pair_refusal c.args.clock (holds_book c.args.clock.ports (book_of c.args.slots.now c.args.rates.now)) c.args.input.0 c.args.output.0
+passed c =
+    sym c.if-refusal-ne0.false ∙ c.book_pair_refusal-refusal.ensures.result
 
 pub returns-then-refusal-ne0 : goal.returns-then-refusal-ne0
 returns-then-refusal-ne0 c =
@@ -18,16 +24,16 @@ returns-then-refusal-ne0 c =
 
 pub returns-then-not-is_between : goal.returns-then-not-is_between
 returns-then-not-is_between c =
-    let passed : 0 ≡ pair_refusal c.args.clock (holds_book c.args.clock.ports (book_of c.args.slots.now c.args.rates.now)) c.args.input.0 c.args.output.0 = sym c.if-refusal-ne0.false ∙ c.book_pair_refusal-refusal.ensures.result in
+    let passed = passed (goal.at.returns-then-not-is_between c).Else-refusal-ne0 in
     record { result = (release_decides _ _ _ _ _).at_amount passed (said_no c.is_between.ensures.result (ap not c.if-not-is_between.true)) }
 
 pub held_refusal-requires : goal.held_refusal-requires
 held_refusal-requires c =
-    let passed : 0 ≡ pair_refusal c.args.clock (holds_book c.args.clock.ports (book_of c.args.slots.now c.args.rates.now)) c.args.input.0 c.args.output.0 = sym c.if-refusal-ne0.false ∙ c.book_pair_refusal-refusal.ensures.result in
+    let passed = passed (goal.at.held_refusal-requires c).Else-refusal-ne0 in
     record { pair_fits = slots_pair c.args.clock (book_of c.args.slots.now c.args.rates.now) c.args.input.0 c.args.output.0 (pair_asked _ _ _ _ passed) }
 
 pub returns : goal.returns
 returns c =
-    let passed : 0 ≡ pair_refusal c.args.clock (holds_book c.args.clock.ports (book_of c.args.slots.now c.args.rates.now)) c.args.input.0 c.args.output.0 = sym c.if-refusal-ne0.false ∙ c.book_pair_refusal-refusal.ensures.result in
+    let passed = passed (goal.at.returns c).Else-refusal-ne0 in
     let in_range : (slots_in_range c.args.clock.frame c.args.amount.0).yes ≡ true = said_yes c.is_between.ensures.result (ap not c.if-not-is_between.false) in
     record { result = c.held_refusal.ensures.result ∙ (release_decides _ _ _ _ _).at_rest passed in_range }

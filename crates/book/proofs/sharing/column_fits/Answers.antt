@@ -1,4 +1,4 @@
--- `book::sharing::column_fits` meets its contract. The loop's invariant: the first i pairs of the column fit. Assumes nothing.
+-- `book::sharing::column_fits` meets its contract. Assumes nothing.
 use mathlib.Core.Path.{◌≡◌, refl, ◌∙◌, ap}
 use Prim.Native.Nat.{◌+◌}
 use native.Mathlib.Omega.{arith}
@@ -12,6 +12,12 @@ use Rattle.book.proofs.Laws.Afterwards.{column_at, row_few, column_few}
 use Rattle.book.proofs.Laws.Sharing.{fits_from, all_none, all_more, one_not}
 use mathlib.Core.Bool.{not}
 use Rattle.book.proofs.sharing.column_fits.Goals as goal
+use Rattle.book.proofs.sharing.column_fits.Goals.{After-pair_fits}
+
+-- the pair's test is the definition's
+tested : (c : After-pair_fits) → c.pair_fits.result ≡ booked_fits c.args.clock.ports c.args.clock.frame (afterwards c.args.clock (book_of c.args.slots.now c.args.rates.now) c.args.request) (c.loop-i.i + 1) c.args.request.output.0
+tested c =
+    let b = afterwards c.args.clock (book_of c.args.slots.now c.args.rates.now) c.args.request in c.pair_fits.ensures.result ∙ fits_from c.args.clock.ports c.args.clock.frame b (c.loop-i.i + 1) c.args.request.output.0 _ _ _ c.booked_afterwards-own.ensures.result (c.requires.totals.rows.at c.loop-i.i (omega arith)) (column_at _ _ _ _ c.requires.pair_in_range.output c.requires.totals.columns)
 
 pub overflow_sub-at : goal.overflow_sub-at
 overflow_sub-at c =
@@ -49,12 +55,12 @@ pair_fits-requires c =
 
 pub returns-then-not-pair_fits : goal.returns-then-not-pair_fits
 returns-then-not-pair_fits c =
-    let tested : c.pair_fits.result ≡ booked_fits c.args.clock.ports c.args.clock.frame (afterwards c.args.clock (book_of c.args.slots.now c.args.rates.now) c.args.request) (c.loop-i.i + 1) c.args.request.output.0 = let b = afterwards c.args.clock (book_of c.args.slots.now c.args.rates.now) c.args.request in c.pair_fits.ensures.result ∙ fits_from c.args.clock.ports c.args.clock.frame b (c.loop-i.i + 1) c.args.request.output.0 _ _ _ c.booked_afterwards-own.ensures.result (c.requires.totals.rows.at c.loop-i.i (omega arith)) (column_at _ _ _ _ c.requires.pair_in_range.output c.requires.totals.columns) in
+    let tested = tested (goal.at.returns-then-not-pair_fits c).After-pair_fits in
     record { result = one_not _ _ _ (record { low = omega arith; high = omega arith }) (said_no tested (ap not c.if-not-pair_fits.true)) }
 
 pub loop-i-preserved : goal.loop-i-preserved
 loop-i-preserved c =
-    let tested : c.pair_fits.result ≡ booked_fits c.args.clock.ports c.args.clock.frame (afterwards c.args.clock (book_of c.args.slots.now c.args.rates.now) c.args.request) (c.loop-i.i + 1) c.args.request.output.0 = let b = afterwards c.args.clock (book_of c.args.slots.now c.args.rates.now) c.args.request in c.pair_fits.ensures.result ∙ fits_from c.args.clock.ports c.args.clock.frame b (c.loop-i.i + 1) c.args.request.output.0 _ _ _ c.booked_afterwards-own.ensures.result (c.requires.totals.rows.at c.loop-i.i (omega arith)) (column_at _ _ _ _ c.requires.pair_in_range.output c.requires.totals.columns) in
+    let tested = tested (goal.at.loop-i-preserved c).After-pair_fits in
     (omega arith, refl, all_more _ _ c.loop-i.invariant.2 (said_yes tested (ap not c.if-not-pair_fits.false)))
 
 pub returns : goal.returns

@@ -1,4 +1,4 @@
--- `book::sharing::column_fits` meets its contract. The loop's invariant: the first i pairs of the column fit. Assumes nothing.
+-- The loop's invariant: the first i pairs of the column fit.
 use mathlib.Core.Path.{◌≡◌}
 use mathlib.Core.Bool.{true}
 use Prim.Native.Nat.{◌-◌, ◌≤◌}

@@ -1,4 +1,4 @@
--- `book::sharing::row_fits` meets its contract. The loop's invariant: the first j pairs of the row fit. Assumes nothing.
+-- `book::sharing::row_fits` meets its contract. Assumes nothing.
 use mathlib.Core.Path.{◌≡◌, refl, ◌∙◌, ap}
 use Prim.Native.Nat.{◌+◌}
 use native.Mathlib.Omega.{arith}
@@ -12,6 +12,12 @@ use Rattle.book.proofs.Laws.Afterwards.{row_at, row_few, column_few}
 use Rattle.book.proofs.Laws.Sharing.{fits_from, all_none, all_more, one_not}
 use mathlib.Core.Bool.{not}
 use Rattle.book.proofs.sharing.row_fits.Goals as goal
+use Rattle.book.proofs.sharing.row_fits.Goals.{After-pair_fits}
+
+-- the pair's test is the definition's
+tested : (c : After-pair_fits) → c.pair_fits.result ≡ booked_fits c.args.clock.ports c.args.clock.frame (afterwards c.args.clock (book_of c.args.slots.now c.args.rates.now) c.args.request) c.args.request.input.0 (c.loop-j.j + 1)
+tested c =
+    let b = afterwards c.args.clock (book_of c.args.slots.now c.args.rates.now) c.args.request in c.pair_fits.ensures.result ∙ fits_from c.args.clock.ports c.args.clock.frame b c.args.request.input.0 (c.loop-j.j + 1) _ _ _ c.booked_afterwards-own.ensures.result (row_at _ _ _ _ c.requires.pair_in_range.input c.requires.totals.rows) (c.requires.totals.columns.at c.loop-j.j (omega arith))
 
 pub overflow_sub-at : goal.overflow_sub-at
 overflow_sub-at c =
@@ -49,12 +55,12 @@ pair_fits-requires c =
 
 pub returns-then-not-pair_fits : goal.returns-then-not-pair_fits
 returns-then-not-pair_fits c =
-    let tested : c.pair_fits.result ≡ booked_fits c.args.clock.ports c.args.clock.frame (afterwards c.args.clock (book_of c.args.slots.now c.args.rates.now) c.args.request) c.args.request.input.0 (c.loop-j.j + 1) = let b = afterwards c.args.clock (book_of c.args.slots.now c.args.rates.now) c.args.request in c.pair_fits.ensures.result ∙ fits_from c.args.clock.ports c.args.clock.frame b c.args.request.input.0 (c.loop-j.j + 1) _ _ _ c.booked_afterwards-own.ensures.result (row_at _ _ _ _ c.requires.pair_in_range.input c.requires.totals.rows) (c.requires.totals.columns.at c.loop-j.j (omega arith)) in
+    let tested = tested (goal.at.returns-then-not-pair_fits c).After-pair_fits in
     record { result = one_not _ _ _ (record { low = omega arith; high = omega arith }) (said_no tested (ap not c.if-not-pair_fits.true)) }
 
 pub loop-j-preserved : goal.loop-j-preserved
 loop-j-preserved c =
-    let tested : c.pair_fits.result ≡ booked_fits c.args.clock.ports c.args.clock.frame (afterwards c.args.clock (book_of c.args.slots.now c.args.rates.now) c.args.request) c.args.request.input.0 (c.loop-j.j + 1) = let b = afterwards c.args.clock (book_of c.args.slots.now c.args.rates.now) c.args.request in c.pair_fits.ensures.result ∙ fits_from c.args.clock.ports c.args.clock.frame b c.args.request.input.0 (c.loop-j.j + 1) _ _ _ c.booked_afterwards-own.ensures.result (row_at _ _ _ _ c.requires.pair_in_range.input c.requires.totals.rows) (c.requires.totals.columns.at c.loop-j.j (omega arith)) in
+    let tested = tested (goal.at.loop-j-preserved c).After-pair_fits in
     (omega arith, refl, all_more _ _ c.loop-j.invariant.2 (said_yes tested (ap not c.if-not-pair_fits.false)))
 
 pub returns : goal.returns

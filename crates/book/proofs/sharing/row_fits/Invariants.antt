@@ -1,4 +1,4 @@
--- `book::sharing::row_fits` meets its contract. The loop's invariant: the first j pairs of the row fit. Assumes nothing.
+-- The loop's invariant: the first j pairs of the row fit.
 use mathlib.Core.Path.{◌≡◌}
 use mathlib.Core.Bool.{true}
 use Prim.Native.Nat.{◌-◌, ◌≤◌}

@@ -1,5 +1,4 @@
--- `book::sums::column_sum` meets its contract. The loop's invariant: the sum is that of the first i bookings of the column, each below 2 ^ 32.
--- Assumes nothing.
+-- The loop's invariant: the sum is that of the first i bookings of the column, each below 2 ^ 32.
 use mathlib.Core.Path.{◌≡◌}
 use Prim.Native.Nat.{◌-◌, ◌*◌, ◌≤◌}
 use Rattle.wsgs.specs.Basics.{sum}

@@ -1,5 +1,4 @@
--- `book::sums::row_sum` meets its contract. The loop's invariant: the sum is that of the first j bookings of the row, each below 2 ^ 32.
--- Assumes nothing.
+-- `book::sums::row_sum` meets its contract. Assumes nothing.
 use mathlib.Core.Path.{◌≡◌, refl, ◌∙◌, ap}
 use native.Mathlib.Omega.{arith}
 use Rattle.wsgs.specs.Basics.{sum}

@@ -1,5 +1,5 @@
--- `passes::pass_one` meets its contract. The loop's invariant is `PassOneState`: the outputs that the inputs hold are the definition's for the inputs so
--- far, and mask, list, words and mark are as these say. The measure is the inputs left. Assumes nothing.
+-- The loop's invariant is `PassOneState`: the outputs that the inputs hold are the definition's for the inputs so far, and mask, list, words and mark
+-- are as these say. The measure is the inputs left.
 use Prim.Native.Nat.{◌-◌, ◌≤◌}
 use mathlib.Core.Path.{◌≡◌}
 use lib.ListN.{length}

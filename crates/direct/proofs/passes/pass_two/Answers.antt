@@ -1,5 +1,4 @@
--- `passes::pass_two` meets its contract. The loop's invariant is the contract's claim for the inputs so far. The measure is the inputs left.
--- Assumes nothing.
+-- `passes::pass_two` meets its contract. Assumes nothing.
 use Prim.Native.Nat.{◌+◌, ◌*◌, ◌≤◌, ◌<◌}
 use mathlib.Core.Path.{◌≡◌, refl, ◌∙◌}
 use native.Mathlib.Numerals.{add-one}
@@ -14,6 +13,17 @@ use Rattle.turns.proofs.Ready.{is_open}
 use Rattle.turns.proofs.TurnLaws.{Turn, second_asks, second_takes}
 use Rattle.direct.proofs.PassLaws.{two_served, two_none, two_some}
 use Rattle.direct.proofs.passes.pass_two.Goals as goal
+use Rattle.direct.proofs.passes.pass_two.Goals.{In-loop-row, After-second_turn-choice}
+
+-- the input is one of the ports, which are few, and its runs are long enough
+within : (c : In-loop-row) → (c.loop-row.row < c.args.ports) × (c.args.ports ≤ 32) × (c.args.ports * c.args.ports ≤ length c.loop-row.queues) × (c.args.ports ≤ length c.loop-row.given)
+within c =
+    (omega arith, omega arith, omega arith, omega (arith, c.loop-row.invariant.2))
+
+-- the output that a turn finds
+found : (c : After-second_turn-choice) → c.second_turn-choice.result.output.0 ≡ in_turn (is_open c.args.ports c.loop-row.free c.loop-row.queues c.loop-row.queues (c.loop-row.row + 1)) c.args.ports (port_word c.loop-row.given (c.loop-row.row + 1))
+found c =
+    let i = (within (goal.at-After-second_turn-choice c).In-loop-row) in let sent : Turn c.args.ports (c.loop-row.row + 1) c.loop-row.queues = record { few = i.1; port = omega (arith, i.0); long = i.2 } in second_takes _ _ _ _ sent i.3 _ _ (second_asks _ _ _ sent _ c.second_requests-asked.ensures.asked) _ _ c.second_turn-choice.ensures.output
 
 pub loop-row-init : goal.loop-row-init
 unfolding pass_two
@@ -33,15 +43,14 @@ loop-row-preserved-then-outputs-row-gt0 c = (
 
 pub overflow_cast-outputs : goal.overflow_cast-outputs
 overflow_cast-outputs c =
-    let within : (c.loop-row.row < c.args.ports) × (c.args.ports ≤ 32) × (c.args.ports * c.args.ports ≤ length c.loop-row.queues) × (c.args.ports ≤ length c.loop-row.given) = (omega arith, omega arith, omega arith, omega (arith, c.loop-row.invariant.2)) in
-    let found : c.second_turn-choice.result.output.0 ≡ in_turn (is_open c.args.ports c.loop-row.free c.loop-row.queues c.loop-row.queues (c.loop-row.row + 1)) c.args.ports (port_word c.loop-row.given (c.loop-row.row + 1)) = let i = within in let sent : Turn c.args.ports (c.loop-row.row + 1) c.loop-row.queues = record { few = i.1; port = omega (arith, i.0); long = i.2 } in second_takes _ _ _ _ sent i.3 _ _ (second_asks _ _ _ sent _ c.second_requests-asked.ensures.asked) _ _ c.second_turn-choice.ensures.output in
+    let found = found (goal.at.overflow_cast-outputs c).After-second_turn-choice in
     let taken : Port c.args.ports c.second_turn-choice.result.output.0 = (in_turn_some _ _ _ _ found c.if-choice-gt0.true).0 in
     omega (arith, taken)
 
 pub loop-row-preserved : goal.loop-row-preserved
 loop-row-preserved c =
-    let within : (c.loop-row.row < c.args.ports) × (c.args.ports ≤ 32) × (c.args.ports * c.args.ports ≤ length c.loop-row.queues) × (c.args.ports ≤ length c.loop-row.given) = (omega arith, omega arith, omega arith, omega (arith, c.loop-row.invariant.2)) in
-    let found : c.second_turn-choice.result.output.0 ≡ in_turn (is_open c.args.ports c.loop-row.free c.loop-row.queues c.loop-row.queues (c.loop-row.row + 1)) c.args.ports (port_word c.loop-row.given (c.loop-row.row + 1)) = let i = within in let sent : Turn c.args.ports (c.loop-row.row + 1) c.loop-row.queues = record { few = i.1; port = omega (arith, i.0); long = i.2 } in second_takes _ _ _ _ sent i.3 _ _ (second_asks _ _ _ sent _ c.second_requests-asked.ensures.asked) _ _ c.second_turn-choice.ensures.output in
+    let within = within (goal.at.loop-row-preserved c).In-loop-row in
+    let found = found (goal.at.loop-row-preserved c).After-second_turn-choice in
     let i = within in
     let none : get_or c.loop-row.outputs c.loop-row.row 0 ≡ 0 = omega (arith, c.if-outputs-row-gt0.false) in (
       omega (arith, i.0),

@@ -1,5 +1,4 @@
--- `passes::pass_two` meets its contract. The loop's invariant is the contract's claim for the inputs so far. The measure is the inputs left.
--- Assumes nothing.
+-- The loop's invariant is the contract's claim for the inputs so far. The measure is the inputs left.
 use Prim.Native.Nat.{ℕ, ◌-◌, ◌≤◌}
 use mathlib.Core.Path.{◌≡◌}
 use mathlib.Core.List.{List}

@@ -1,4 +1,4 @@
--- A text is put byte by byte. The loop's invariant: the bytes passed stand in the buffer.
+-- A text is put byte by byte.
 use native.Mathlib.Omega.{arith}
 use Rattle.lines.proofs.Writing.{copied_none, copied_more, copied_all}
 use Rattle.lines.proofs.printer.put.Goals as goal

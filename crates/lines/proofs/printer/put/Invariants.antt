@@ -1,4 +1,4 @@
--- A text is put byte by byte. The loop's invariant: the bytes passed stand in the buffer.
+-- The loop's invariant: the bytes passed stand in the buffer.
 use Prim.Native.Nat.{◌+◌, ◌-◌, ◌≤◌}
 use lib.ListN.{length}
 use Rattle.lines.proofs.Writing.{Copied}

@@ -1,4 +1,4 @@
--- A slot's lines. The loop's invariant: those of the inputs passed stand in the buffer.
+-- A slot's lines.
 use mathlib.Core.Path.{◌≡◌}
 use native.Mathlib.Omega.{arith}
 use Rattle.lines.proofs.Printing.{matches_none, matches_more, matches_short}

@@ -1,4 +1,4 @@
--- A slot's lines. The loop's invariant: those of the inputs passed stand in the buffer.
+-- The loop's invariant: those of the inputs passed stand in the buffer.
 use Prim.Native.Nat.{◌≤◌, ◌-◌}
 use Rattle.wsgs.specs.Answers.{matching_of}
 use Rattle.wsgs.specs.Program.{match_lines}

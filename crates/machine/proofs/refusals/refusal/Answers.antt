@@ -4,6 +4,11 @@ use mathlib.Core.Bool.{true, false}
 use native.Mathlib.Omega.{arith}
 use borrow.Author.Tests.{not-true, not-false, lt-ltb, le-ltb}
 use Rattle.machine.proofs.refusals.refusal.Goals as goal
+use Rattle.machine.proofs.refusals.refusal.Goals.{Else-not-machine}
+
+running : (c : Else-not-machine) → c.args.machine.running ≡ true
+running c =
+    not-false _ c.if-not-machine.false
 
 pub returns-then-not-machine : goal.returns-then-not-machine
 returns-then-not-machine c =
@@ -12,10 +17,10 @@ returns-then-not-machine c =
 
 pub returns-then-number-eq0 : goal.returns-then-number-eq0
 returns-then-number-eq0 c =
-    let running : c.args.machine.running ≡ true = not-false _ c.if-not-machine.false in
+    let running = running (goal.at.returns-then-number-eq0 c).Else-not-machine in
     record { refusal = c.number_alone-then-number-eq0.ensures.refusal ∙ rw (running, le-ltb 0 c.args.number (omega arith)) }
 
 pub returns : goal.returns
 returns c =
-    let running : c.args.machine.running ≡ true = not-false _ c.if-not-machine.false in
+    let running = running (goal.at.returns c).Else-not-machine in
     record { refusal = rw (running, lt-ltb 0 c.args.number (omega arith)) }

@@ -1,5 +1,4 @@
--- `flight::free_for` meets its contract. The loop's invariant: the outputs that the inputs so far have by the row are taken. The measure is the
--- words left. Assumes nothing.
+-- `flight::free_for` meets its contract. Assumes nothing.
 use Rattle.std.proofs.Common.{arith, rules}
 use Rattle.pipelined.proofs.FlightMasks.{free_start, free_more, free_all}
 use Rattle.pipelined.proofs.flight.free_for.Goals as goal

@@ -1,5 +1,4 @@
--- `flight::free_for` meets its contract. The loop's invariant: the outputs that the inputs so far have by the row are taken. The measure is the
--- words left. Assumes nothing.
+-- The loop's invariant: the outputs that the inputs so far have by the row are taken. The measure is the words left.
 use Rattle.std.proofs.Common.{◌-◌, ◌≤◌}
 use Rattle.pipelined.proofs.FlightMasks.{FreeIn}
 use Rattle.pipelined.proofs.flight.free_for.Given as goal

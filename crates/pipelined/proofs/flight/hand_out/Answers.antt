@@ -1,5 +1,4 @@
--- `flight::hand_out` meets its contract. The loop's invariant: the outputs and the pass-one word are those of the inputs so far, and their words in
--- flight are 0. Assumes nothing.
+-- `flight::hand_out` meets its contract. Assumes nothing.
 use Rattle.std.proofs.Common.{sym, refl, ap, ◌∙◌, arith, length-set, rules}
 use Rattle.wsgs.specs.Pipelined.{by_first, output_in}
 use Rattle.pipelined.proofs.FlightPairs.{handed_none, handed_first, handed_other, handed_all}

@@ -1,5 +1,4 @@
--- `flight::hand_out` meets its contract. The loop's invariant: the outputs and the pass-one word are those of the inputs so far, and their words in
--- flight are 0. Assumes nothing.
+-- The loop's invariant: the outputs and the pass-one word are those of the inputs so far, and their words in flight are 0.
 use Rattle.std.proofs.Common.{◌≡◌, ◌+◌, ◌-◌, ◌≤◌, length}
 use Rattle.pipelined.proofs.FlightPairs.{PairsSoFar}
 use Rattle.pipelined.proofs.PipelinedRows.{ClearedSoFar}

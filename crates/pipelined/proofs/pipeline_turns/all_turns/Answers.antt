@@ -1,5 +1,4 @@
--- `pipeline_turns::all_turns` meets its contract. The loop's invariant: the runs are those that the turns of the inputs so far leave, and their
--- lengths are kept. Assumes nothing.
+-- `pipeline_turns::all_turns` meets its contract. Assumes nothing.
 use Rattle.std.proofs.Common.{refl, ap, ◌∙◌, arith, rules}
 use Rattle.wsgs.specs.Pipelined.{turns}
 use Rattle.pipelined.proofs.PipelinedTurns.{turns_more}

@@ -1,5 +1,4 @@
--- `pipeline_turns::all_turns` meets its contract. The loop's invariant: the runs are those that the turns of the inputs so far leave, and their
--- lengths are kept. Assumes nothing.
+-- The loop's invariant: the runs are those that the turns of the inputs so far leave, and their lengths are kept.
 use Rattle.std.proofs.Common.{◌≡◌, ℕ, ◌-◌, ◌≤◌, length}
 use Rattle.wsgs.specs.Pipelined.{turns}
 use Rattle.pipelined.specs.Turnings.{turn_runs_of, Lookahead}

@@ -1,4 +1,4 @@
--- A count of fields. The loop's invariant: those that begin in the bytes passed are counted.
+-- A count of fields.
 use native.Mathlib.Omega.{arith}
 use Rattle.records.proofs.Cuts.{counted_one, counted_comma, counted_other, counted_all}
 use Rattle.records.proofs.fields.field_count.Goals as goal

@@ -1,4 +1,4 @@
--- A count of fields. The loop's invariant: those that begin in the bytes passed are counted.
+-- The loop's invariant: those that begin in the bytes passed are counted.
 use Prim.Native.Nat.{◌-◌}
 use lib.ListN.{length}
 use Rattle.records.proofs.Cuts.{Counted}

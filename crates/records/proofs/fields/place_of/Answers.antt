@@ -1,4 +1,4 @@
--- The first place of a byte. The loop's invariant: the bytes passed are others.
+-- The first place of a byte.
 use native.Mathlib.Omega.{arith}
 use Rattle.records.proofs.Texts.{without_none, without_more, place_here, place_nowhere}
 use Rattle.records.proofs.fields.place_of.Goals as goal

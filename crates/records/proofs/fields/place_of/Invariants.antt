@@ -1,4 +1,4 @@
--- The first place of a byte. The loop's invariant: the bytes passed are others.
+-- The loop's invariant: the bytes passed are others.
 use Prim.Native.Nat.{◌-◌}
 use lib.ListN.{length}
 use Rattle.records.proofs.Texts.{Without}

@@ -1,4 +1,4 @@
--- A field reads as the definition says. The loop's invariant: the bytes passed are digits, and `value` is their value.
+-- A field reads as the definition says.
 use native.Mathlib.Omega.{arith}
 use Rattle.records.proofs.Digits.{no_digits, too_short, too_long, next_fits, next_digit, below_digits, above_digits, all_read}
 use Rattle.records.proofs.fields.read_field.Goals as goal

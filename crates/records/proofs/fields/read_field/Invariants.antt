@@ -1,4 +1,4 @@
--- A field reads as the definition says. The loop's invariant: the bytes passed are digits, and `value` is their value.
+-- The loop's invariant: the bytes passed are digits, and `value` is their value.
 use Prim.Native.Nat.{◌-◌}
 use lib.ListN.{length}
 use Rattle.records.proofs.Digits.{Digits}

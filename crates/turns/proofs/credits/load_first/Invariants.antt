@@ -1,5 +1,4 @@
--- `credits::load_first` meets its contract. The loop's invariant: the credits at the places so far are the booked slots. The measure is the
--- places left. Assumes nothing.
+-- The loop's invariant: the credits at the places so far are the booked slots. The measure is the places left.
 use Prim.Native.Nat.{◌≤◌, ◌-◌}
 use mathlib.Core.Path.{◌≡◌}
 use lib.ListN.{length}

@@ -1,5 +1,4 @@
--- `credits::load_first_bookings` meets its contract. The loop's invariant: the credits at the places so far are the bookings. The measure is the
--- places left. Assumes nothing.
+-- `credits::load_first_bookings` meets its contract. Assumes nothing.
 use Prim.Native.Nat.{ℕ}
 use mathlib.Core.Path.{◌≡◌, refl, ap, ◌∙◌}
 use native.Mathlib.Numerals.{add-one}

@@ -1,5 +1,4 @@
--- `sweep::has_credit` meets its contract. The loop's invariant: the or of the credits so far is above 0 where one of them is. The measure is the columns
--- left. Assumes nothing.
+-- `sweep::has_credit` meets its contract. Assumes nothing.
 use Prim.Native.Nat.{◌+◌, ◌-◌}
 use mathlib.Core.Path.{◌≡◌, ap, ◌∙◌}
 use borrow.Author.Rules.{rules}

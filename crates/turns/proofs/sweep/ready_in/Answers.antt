@@ -1,4 +1,4 @@
--- `sweep::ready_in` meets its contract. The loop's invariant: the ready columns so far are marked. The measure is the columns left. Assumes nothing.
+-- `sweep::ready_in` meets its contract. Assumes nothing.
 use Prim.Native.Nat.{◌+◌, ◌^◌}
 use mathlib.Core.Path.{◌≡◌, ap, ◌∙◌}
 use mathlib.Core.Bool.{Bool}

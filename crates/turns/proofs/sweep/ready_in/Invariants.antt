@@ -1,4 +1,4 @@
--- `sweep::ready_in` meets its contract. The loop's invariant: the ready columns so far are marked. The measure is the columns left. Assumes nothing.
+-- The loop's invariant: the ready columns so far are marked. The measure is the columns left.
 use Prim.Native.Nat.{◌-◌, ◌≤◌}
 use mathlib.Core.Path.{◌≡◌}
 use Rattle.turns.specs.Masks.{ready_mask}

@@ -1,5 +1,4 @@
--- `sweep::waiting_in` meets its contract. The loop's invariant: the columns so far that have packets are marked. The measure is the columns left. Assumes
--- nothing.
+-- `sweep::waiting_in` meets its contract. Assumes nothing.
 use Prim.Native.Nat.{◌+◌}
 use mathlib.Core.Path.{◌≡◌, ap, ◌∙◌}
 use borrow.Author.Rules.{rules}

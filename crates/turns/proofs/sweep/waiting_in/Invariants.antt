@@ -1,5 +1,4 @@
--- `sweep::waiting_in` meets its contract. The loop's invariant: the columns so far that have packets are marked. The measure is the columns left. Assumes
--- nothing.
+-- The loop's invariant: the columns so far that have packets are marked. The measure is the columns left.
 use Prim.Native.Nat.{◌-◌, ◌≤◌}
 use mathlib.Core.Path.{◌≡◌}
 use Rattle.turns.specs.Masks.{ready_mask}
