@@ -1,4 +1,4 @@
-//! An input's turn alone: by the library for tests alone (crates/turns_c), and by the second program.
+//! An input's turn alone: by the library for tests alone (crates/turns_c_c), and by the second program.
 
 use compare::rules;
 use second::switch::MAX_PORTS;
