@@ -13,22 +13,18 @@ use lib.Dec.{T, eqb, ltb}
 use lib.ListN.{get_or, get_or-eq_default}
 use lib.Pow.{pow_mono}
 use Rattle.wsgs.specs.declared.Clock.{Clock}
-use Rattle.wsgs.specs.declared.StartResult.{StartResult}
-use Rattle.wsgs.specs.declared.HeadroomResult.{HeadroomResult}
-use Rattle.wsgs.specs.declared.PreviewResult.{PreviewResult}
-use Rattle.wsgs.specs.declared.TickResult.{TickResult}
 use Rattle.wsgs.specs.Basics.{pick, bit, between, Port}
 use Rattle.wsgs.specs.Steps.{Matching, empty_matching, View, nine_steps, listed, outputs_of, pass_word_of}
 use Rattle.wsgs.specs.Words.{word}
 use Rattle.wsgs.specs.Questions.{Outcome, Effect, refused, clock_can_advance}
 use Rattle.wsgs.specs.Bookings.{Book}
 use Rattle.wsgs.specs.Book.{book_effect, rate_effect, release_effect, release_rate_effect, arrive_effect}
-use Rattle.wsgs.specs.Headroom.{headroom_result}
+use Rattle.wsgs.specs.Headroom.{HeadroomResult, headroom_result}
 use Rattle.wsgs.specs.Preview
-use Rattle.wsgs.specs.Preview.{BookOperation}
+use Rattle.wsgs.specs.Preview.{BookOperation, PreviewResult}
 use Rattle.wsgs.specs.Direct
 use Rattle.wsgs.specs.Pipelined
-use Rattle.wsgs.specs.Answers.{start_effect, tick_effect, start_outcome, tick_outcome, matching_of}
+use Rattle.wsgs.specs.Answers.{StartResult, TickResult, start_effect, tick_effect, start_outcome, tick_outcome, matching_of}
 use Rattle.wsgs.specs.Switch.{Switch, direct, pipelined, start, book, book_rate, release, release_rate, headroom, preview, arrive, tick, apply, direct_runs, pipelined_runs, of_direct, of_pipelined, of_asking, of_book, of_queues}
 use Rattle.wsgs.proofs.Laws.Tests.{between_port}
 use Rattle.wsgs.proofs.Laws.Listed.{listed_length, listed_at}

@@ -9,13 +9,12 @@ use native.Mathlib.Omega.{arith}
 use native.Mathlib.Decide.{ℕ_discrete}
 use borrow.Author.Tests.{ne_eqb}
 use Rattle.wsgs.specs.declared.Clock.{Clock}
-use Rattle.wsgs.specs.declared.PreviewResult.{PreviewResult}
 use Rattle.wsgs.specs.Basics.{pick, Port, updated₂}
 use Rattle.wsgs.specs.Words.{word}
 use Rattle.wsgs.specs.Bookings.{Book, booking, bookings, row_sum, column_sum}
 use Rattle.wsgs.specs.Questions.{Effect}
 use Rattle.wsgs.specs.Book.{book_refusal, rise, rate_refusal, release_refusal, release_rate_refusal}
-use Rattle.wsgs.specs.Preview.{BookOperation, slots_booking, rate_booking, slots_release, rate_release, operation_effect, counts_as, refused_by_rule, shown, preview_of}
+use Rattle.wsgs.specs.Preview.{BookOperation, PreviewResult, slots_booking, rate_booking, slots_release, rate_release, operation_effect, counts_as, refused_by_rule, shown, preview_of}
 use Rattle.wsgs.specs.Preview as Previews
 use Rattle.wsgs.specs.Switch.{Switch, call_of, apply, of_book}
 use Rattle.wsgs.specs.Claims.{RefusedByRule, PreviewIsOnCopy, PreviewHolds}

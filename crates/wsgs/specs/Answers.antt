@@ -1,9 +1,6 @@
--- The outcome of a start or a tick in the types that the code answers with, beside the lent runs. Assumes nothing.
+-- The outcome of a start or a tick as its caller is told it, beside the lent runs. Assumes nothing.
 use Rattle.std.specs.Prelude.{◌&&◌, List, ℕ, ◌-◌, ◌/◌, ◌%◌, ◌^◌, eqb, ltb, get_or}
 use Rattle.wsgs.specs.declared.Clock.{Clock}
-use Rattle.wsgs.specs.declared.StartResult.{StartResult}
-use Rattle.wsgs.specs.declared.Answer.{Answer}
-use Rattle.wsgs.specs.declared.TickResult.{TickResult}
 use Rattle.wsgs.specs.Basics.{pick}
 use Rattle.wsgs.specs.Steps.{Matching, empty_matching, outputs_of, pass_word_of}
 use Rattle.wsgs.specs.Bookings.{book_of}
@@ -18,14 +15,25 @@ direct_runs_of s r c q g = record { book = book_of s r; credits = c; queues = q;
 abbrev pub pipelined_runs_of : (slots rates credits queues given copy flight : List ℕ) → Pipelined.Runs
 pipelined_runs_of s r c q g p f = record { book = book_of s r; credits = c; queues = q; given = g; copy = p; flight = f }
 
--- what a start gives back, and with it the runs
+-- what a start gives back: the refusal, 0 for none, and the clock afterwards; and with it the runs
+pub record StartResult : Type 0 where
+  pub refusal : ℕ
+  pub clock : Clock
+
 abbrev pub start_result_of : {Runs : Type 0} → Outcome Runs → StartResult
 start_result_of o = record { refusal = o.refusal; clock = o.clock }
 
 abbrev pub start_effect : {Runs : Type 0} → Outcome Runs → Effect StartResult Runs
 start_effect o = effect (start_result_of o) o.runs
 
--- what a tick gives back, and with it the runs
+-- what a tick gives back: the refusal, 0 for none; the clock afterwards; the output of each of 32 inputs, 0 for none; and the word of the inputs served by
+-- pass one; and with it the runs
+pub record TickResult : Type 0 where
+  pub refusal : ℕ
+  pub clock : Clock
+  pub outputs : List ℕ
+  pub first_pass : ℕ
+
 abbrev pub tick_result_of : {Runs : Type 0} → Outcome Runs → TickResult
 tick_result_of o =
     record { refusal = o.refusal; clock = o.clock; outputs = outputs_of o.matching; first_pass = pass_word_of o.matching }
@@ -34,6 +42,11 @@ abbrev pub tick_effect : {Runs : Type 0} → Outcome Runs → Effect TickResult 
 tick_effect o = effect (tick_result_of o) o.runs
 
 -- a tick that advances its caller's clock: its result without the clock, and with it the clock and the runs
+pub record Answer : Type 0 where
+  pub refusal : ℕ
+  pub outputs : List ℕ
+  pub first_pass : ℕ
+
 abbrev pub answer_of : TickResult → Answer
 answer_of r = record { refusal = r.refusal; outputs = r.outputs; first_pass = r.first_pass }
 

@@ -6,10 +6,9 @@
 use Rattle.std.specs.Prelude.{Bool, true, false, ◌&&◌, List, [], ◌∷◌, ◌++◌, ℕ, suc, replicate}
 use Prim.Native.String.{String}
 use Rattle.wsgs.specs.declared.Operation.TheVariants.{Start, Tick}
-use Rattle.wsgs.specs.declared.Reading.TheVariants.{Request}
 use Rattle.wsgs.specs.Basics.{same}
 use Rattle.wsgs.specs.Text.{bytes}
-use Rattle.wsgs.specs.Records.{read_record}
+use Rattle.wsgs.specs.Records.{Request, read_record}
 use Rattle.wsgs.specs.Program.{Machine, fresh, run_record, refused_line, refusal_text, number_alone}
 
 -- a record with its numbers before and after, 0 where it is accepted

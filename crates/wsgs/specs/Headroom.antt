@@ -2,7 +2,6 @@
 -- `negsuc n` is -(n + 1). Assumes nothing.
 use Rattle.std.specs.Prelude.{[], ℕ, ℤ, pos, ◌+ℤ◌, ◌-ℤ◌}
 use Rattle.wsgs.specs.declared.Clock.{Clock}
-use Rattle.wsgs.specs.declared.HeadroomResult.{HeadroomResult}
 use Rattle.wsgs.specs.Bookings.{Book, bookings, row_sum, column_sum}
 use Rattle.wsgs.specs.Questions.{first_no, holds_book, on_pair, accepted}
 
@@ -21,6 +20,11 @@ pair_headroom c m i j = headroom_over c.ports c.frame (bookings c.ports c.frame 
 unfoldable pub headroom_refusal : Clock → Book → ℕ → ℕ → ℕ
 unfolding first_no
 headroom_refusal c m i j = first_no (on_pair c (holds_book c.ports m) i j [])
+
+-- what the call tells: the refusal, 0 for none, and the number
+pub record HeadroomResult : Type 0 where
+  pub refusal : ℕ
+  pub headroom : ℤ
 
 unfoldable pub headroom_result : Clock → Book → ℕ → ℕ → HeadroomResult
 unfolding headroom_refusal pair_headroom

@@ -25,3 +25,4 @@ pub mod Text
 pub mod Records
 pub mod Program
 pub mod BadRecords
+pub mod Told

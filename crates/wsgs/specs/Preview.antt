@@ -2,7 +2,6 @@
 -- is said once for the four operations. Assumes nothing.
 use Rattle.std.specs.Prelude.{Bool, ◌||◌, ℕ, ◌+◌, eqb}
 use Rattle.wsgs.specs.declared.Clock.{Clock}
-use Rattle.wsgs.specs.declared.PreviewResult.{PreviewResult}
 use Rattle.wsgs.specs.Basics.{pick, between}
 use Rattle.wsgs.specs.Bookings.{Book, bookings, row_sum, column_sum}
 use Rattle.wsgs.specs.Questions.{Effect}
@@ -34,6 +33,12 @@ refused_by_rule r = between 8 9 r || eqb r 15
 -- the sum that is shown: the one afterwards where the operation is accepted; where the rule refuses, the present one with what the operation counts as; else 0
 unfoldable pub shown : (refusal afterwards asked_about : ℕ) → ℕ
 shown r afterwards asked_about = pick (eqb r 0) afterwards (pick (refused_by_rule r) asked_about 0)
+
+-- what the call tells: the refusal that the operation would get, 0 for none, and the two sums
+pub record PreviewResult : Type 0 where
+  pub refusal : ℕ
+  pub row : ℕ
+  pub column : ℕ
 
 abbrev pub preview_of : (refusal row column : ℕ) → PreviewResult
 preview_of r row column = record { refusal = r; row = row; column = column }

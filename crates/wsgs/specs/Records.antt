@@ -1,14 +1,8 @@
 -- What a record of the event program reads as: the questions to it, in their order, and the request that it makes. Assumes nothing.
-use Rattle.std.specs.Prelude.{Bool, true, false, not, ◌&&◌, ◌||◌, List, [], ◌∷◌, ℕ, ◌-◌, eqb, leb, length, get_or}
+use Rattle.std.specs.Prelude.{Bool, true, false, not, ◌&&◌, ◌||◌, List, [], ◌∷◌, ℕ, ◌-◌, eqb, leb, length, get_or, Option, Some, None}
 use Prim.Native.String.{String}
-use Rattle.wsgs.specs.declared.Field.{Field}
-use Rattle.wsgs.specs.declared.Field.TheVariants.{Number, Bad}
 use Rattle.wsgs.specs.declared.Operation.{Operation}
 use Rattle.wsgs.specs.declared.Operation.TheVariants.{Start, Pipe, Book, Release, Arrive, Tick}
-use Rattle.wsgs.specs.declared.OperationField.{OperationField}
-use Rattle.wsgs.specs.declared.OperationField.TheVariants.{Known, Unknown}
-use Rattle.wsgs.specs.declared.Reading.{Reading}
-use Rattle.wsgs.specs.declared.Reading.TheVariants.{Request, Refused}
 use Rattle.wsgs.specs.Basics.{pick, same}
 use Rattle.wsgs.specs.Questions.{Question, first_no}
 use Rattle.wsgs.specs.Text.{bytes, quote, has, fields, read_field}
@@ -28,43 +22,43 @@ names =
     ∷ record { name = "tick"; operation = Tick }
     ∷ []
 
-unfoldable pub look_up : List Name → List ℕ → OperationField
+unfoldable pub look_up : List Name → List ℕ → Option Operation
 unfolding bytes same
-look_up [] t = Unknown
-look_up (r ∷ rs) t = elim (same t (bytes r.name)) [ true ↦ Known r.operation | false ↦ look_up rs t ]
+look_up [] t = None
+look_up (r ∷ rs) t = elim (same t (bytes r.name)) [ true ↦ Some r.operation | false ↦ look_up rs t ]
 
 -- an operation is a start or pipe. What is said of an unknown one, here and below, does not matter: its record is refused before it is asked.
-abbrev pub is_start : OperationField → Bool
-is_start (Known Start) = true
-is_start (Known Pipe) = true
-is_start (Known Book) = false
-is_start (Known Release) = false
-is_start (Known Arrive) = false
-is_start (Known Tick) = false
-is_start Unknown = false
+abbrev pub is_start : Option Operation → Bool
+is_start (Some Start) = true
+is_start (Some Pipe) = true
+is_start (Some Book) = false
+is_start (Some Release) = false
+is_start (Some Arrive) = false
+is_start (Some Tick) = false
+is_start None = false
 
 -- the number fields that an operation does not use are 0
-abbrev pub unused_are_0 : OperationField → ℕ → ℕ → ℕ → Bool
-unused_are_0 (Known Start) x y z = eqb z 0
-unused_are_0 (Known Pipe) x y z = eqb z 0
-unused_are_0 (Known Book) x y z = true
-unused_are_0 (Known Release) x y z = true
-unused_are_0 (Known Arrive) x y z = true
-unused_are_0 (Known Tick) x y z = eqb x 0 && eqb y 0
-unused_are_0 Unknown x y z = true
+abbrev pub unused_are_0 : Option Operation → ℕ → ℕ → ℕ → Bool
+unused_are_0 (Some Start) x y z = eqb z 0
+unused_are_0 (Some Pipe) x y z = eqb z 0
+unused_are_0 (Some Book) x y z = true
+unused_are_0 (Some Release) x y z = true
+unused_are_0 (Some Arrive) x y z = true
+unused_are_0 (Some Tick) x y z = eqb x 0 && eqb y 0
+unused_are_0 None x y z = true
 
-abbrev pub is_known : OperationField → Bool
-is_known (Known o) = true
-is_known Unknown = false
+abbrev pub is_known : Option Operation → Bool
+is_known (Some o) = true
+is_known None = false
 
 -- NUMBER FIELDS: a field has a number, and which, 0 for none
-abbrev pub has_number : Field → Bool
-has_number (Number x) = true
-has_number Bad = false
+abbrev pub has_number : Option ℕ → Bool
+has_number (Some x) = true
+has_number None = false
 
-abbrev pub number_of : Field → ℕ
-number_of (Number x) = x
-number_of Bad = 0
+abbrev pub number_of : Option ℕ → ℕ
+number_of (Some x) = x
+number_of None = 0
 
 -- QUESTIONS to a record, in the order in which they are asked: has it at most 64 bytes?
 abbrev pub short_enough : List ℕ → Question
@@ -75,11 +69,11 @@ abbrev pub unquoted : List ℕ → Question
 unquoted t = record { yes = not (has quote t); number = 12 }
 
 -- is its operation one of the six?
-abbrev pub operation_known : OperationField → Question
+abbrev pub operation_known : Option Operation → Question
 operation_known o = record { yes = is_known o; number = 12 }
 
 -- is it a start or pipe, or has one been accepted before it?
-abbrev pub in_time : (running : Bool) → OperationField → Question
+abbrev pub in_time : (running : Bool) → Option Operation → Question
 in_time running o = record { yes = running || is_start o; number = 12 }
 
 -- has it four fields?
@@ -87,17 +81,22 @@ abbrev pub four_fields : List (List ℕ) → Question
 four_fields fs = record { yes = eqb (length fs) 4; number = 13 }
 
 -- is each of its number fields one to ten digits, used or not?
-abbrev pub all_numbers : Field → Field → Field → Question
+abbrev pub all_numbers : Option ℕ → Option ℕ → Option ℕ → Question
 all_numbers x y z = record { yes = has_number x && (has_number y && has_number z); number = 14 }
 
 -- are those that its operation does not use 0?
-abbrev pub unused_zero : OperationField → Field → Field → Field → Question
+abbrev pub unused_zero : Option Operation → Option ℕ → Option ℕ → Option ℕ → Question
 unused_zero o x y z = record { yes = unused_are_0 o (number_of x) (number_of y) (number_of z); number = 12 }
 
+-- what a record reads as: a request, which is an operation with the numbers of the three other fields, or the number that refuses it
+pub data Reading : Type 0 where
+  Request : Operation → ℕ → ℕ → ℕ → Reading
+  Refused : ℕ → Reading
+
 -- what is asked for where all are answered yes: the operation with its numbers
-abbrev pub request : OperationField → Field → Field → Field → Reading
-request (Known o) x y z = Request o (number_of x) (number_of y) (number_of z)
-request Unknown x y z = Refused 12
+abbrev pub request : Option Operation → Option ℕ → Option ℕ → Option ℕ → Reading
+request (Some o) x y z = Request o (number_of x) (number_of y) (number_of z)
+request None x y z = Refused 12
 
 -- a reading, or the number of the first question that is answered no
 abbrev pub unless_refused : List Question → Reading → Reading

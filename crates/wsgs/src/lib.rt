@@ -1,6 +1,8 @@
 // The WSGS slot scheduler: the types that its definitions and its code share. The definitions stand in specs/, the theorems in proofs/.
 #![tactic(auto)]
 
+ghost use Rattle.wsgs.specs.Told.{HasNumber};
+
 // The limits that calls are held to: ports of a switch; slots of a frame; packets that arrive by one call; packets in a queue; the rate of a
 // line, in kbit/s; and the slots that a clock can run.
 pub const MAX_PORTS: u64 = 32;
@@ -40,56 +42,98 @@ pub struct BookedSlots(pub u64);
 #[derive(Clone, Copy)]
 pub struct Credits(pub u32);
 
-// What a start gives back: the refusal, 0 for none, and the clock afterwards.
+// The two ports of a call on a pair.
 #[derive(Clone, Copy)]
-pub struct StartResult {
-    pub refusal: u32,
+pub struct Pair {
+    pub input: Input,
+    pub output: Output,
+}
+
+// The forms of a switch, and the kinds of book that a start gives it.
+#[derive(Clone, Copy, Debug, PartialEq, Eq)]
+pub enum Form {
+    Direct,
+    Pipelined,
+}
+
+#[derive(Clone, Copy, Debug, PartialEq, Eq)]
+pub enum BookKind {
+    Plain,
+    Fine,
+}
+
+// Why a call or a record is refused. A caller is told the number (docs/RULES.md, The questions).
+#[derive(Clone, Copy, Debug, PartialEq, Eq)]
+pub enum Refused {
+    Ports = 1,
+    Frame = 2,
+    ShortFrame = 3,
+    Runs = 4,
+    Pair = 5,
+    Amount = 6,
+    Clock = 7,
+    Row = 8,
+    Column = 9,
+    Held = 10,
+    Queue = 11,
+    Record = 12,
+    Fields = 13,
+    Number = 14,
+    Sharing = 15,
+}
+
+impl From<Refused> for u32 {
+    ghost from_gives = { HasNumber };
+
+    fn from(refused: Refused) -> u32 {
+        refused as u32
+    }
+}
+
+// The lent runs of a book, for reading; those that turns go by and change; and those that a pipelined switch has besides.
+#[derive(Clone, Copy)]
+pub struct BookRuns<'a> {
+    pub slots: &'a [u32],
+    pub rates: &'a [u32],
+}
+
+#[derive(Drop)]
+pub struct TurnRuns<'a> {
+    pub credits: &'a mut [u32],
+    pub queues: &'a mut [u32],
+    pub given: &'a mut [u32],
+}
+
+#[derive(Drop)]
+pub struct PipelineRuns<'a> {
+    pub copy: &'a mut [u32],
+    pub flight: &'a mut [u32],
+}
+
+// The pairs of a slot: the output of each input from 1 on, 0 for none; and a word whose bit i - 1 tells that input i was served by pass one.
+#[derive(Clone, Copy)]
+pub struct Served {
+    pub outputs: [u8; 32],
+    pub first_pass: u32,
+}
+
+// An accepted tick: the clock afterwards, and the pairs that it hands out.
+#[derive(Clone, Copy)]
+pub struct Ticked {
     pub clock: Clock,
+    pub served: Served,
 }
 
-// What headroom gives back: the refusal, 0 for none, and the number, 0 beside a refusal.
+// What a preview tells: what the operation would give, and the sums of bookings that would follow, of the input's row and of the output's column.
 #[derive(Clone, Copy)]
-pub struct HeadroomResult {
-    pub refusal: u32,
-    pub headroom: i64,
-}
-
-// What a preview gives back: the refusal that the operation would get, 0 for none, and the sums of bookings that would follow, of the input's row
-// and of the output's column.
-#[derive(Clone, Copy)]
-pub struct PreviewResult {
-    pub refusal: u32,
+pub struct Previewed {
+    pub outcome: Result<(), Refused>,
     pub row: u64,
     pub column: u64,
 }
 
-// What a tick gives back: the refusal, 0 for none; the clock afterwards; the output of each input from 1 on, 0 for none; and a word whose bit
-// i - 1 tells that input i was served by pass one.
-#[derive(Clone, Copy)]
-pub struct TickResult {
-    pub refusal: u32,
-    pub clock: Clock,
-    pub outputs: [u8; 32],
-    pub first_pass: u32,
-}
-
-// The same without the clock, where the tick has advanced the caller's own.
-#[derive(Clone, Copy)]
-pub struct Answer {
-    pub refusal: u32,
-    pub outputs: [u8; 32],
-    pub first_pass: u32,
-}
-
-// What a number field of an event record reads as: one to ten decimal digits, or nothing.
-#[derive(Clone, Copy)]
-pub enum Field {
-    Number(u64),
-    Bad,
-}
-
 // The operations of the event program.
-#[derive(Clone, Copy)]
+#[derive(Clone, Copy, Debug, PartialEq, Eq)]
 pub enum Operation {
     Start,
     Pipe,
@@ -99,26 +143,20 @@ pub enum Operation {
     Tick,
 }
 
-// What the first field of an event record reads as.
+// What an event record asks for: an operation with the numbers of the three other fields.
 #[derive(Clone, Copy)]
-pub enum OperationField {
-    Known(Operation),
-    Unknown,
+pub struct Request {
+    pub operation: Operation,
+    pub input: u64,
+    pub output: u64,
+    pub amount: u64,
 }
 
-// What an event record reads as: a request, which is an operation with the numbers of the three other fields, or the number that refuses it.
+// A refusal as its line of the event program has it: the last slot run, the record's second and third field, and why.
 #[derive(Clone, Copy)]
-pub enum Reading {
-    Request(Operation, u64, u64, u64),
-    Refused(u32),
-}
-
-// A refusal as its line of the event program has it: the last slot run, the record's second and third field, and the number. All are 0 where
-// there is none.
-#[derive(Clone, Copy)]
-pub struct Refusal {
+pub struct RefusalLine {
     pub slot: u64,
     pub input: u64,
     pub output: u64,
-    pub number: u32,
+    pub refused: Refused,
 }
