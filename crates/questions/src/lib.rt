@@ -93,11 +93,11 @@ fn check_clock(clock: Clock) -> Result<(), Refused>
 pub fn check_pair(clock: Clock, enough: bool, pair: Pair) -> Result<(), Refused>
     ensures result { refusal_number result ≡ pair_refusal clock enough pair.input.0 pair.output.0 }
 {
-    check_sizes(u64::from(clock.ports), u64::from(clock.frame))?;
+    check_sizes(clock.ports as u64, clock.frame as u64)?;
     if !enough {
         return Err(Refused::Runs);
     }
-    if !pair_in_range(u64::from(clock.ports), pair) {
+    if !pair_in_range(clock.ports as u64, pair) {
         return Err(Refused::Pair);
     }
     Ok(())
@@ -141,7 +141,7 @@ pub fn check_direct_tick(
 ) -> Result<(), Refused>
     ensures result { refusal_number result ≡ Direct.tick_refusal clock (direct_lent book.entry runs.now) }
 {
-    check_direct_runs(u64::from(clock.ports), u64::from(clock.frame), book, runs)?;
+    check_direct_runs(clock.ports as u64, clock.frame as u64, book, runs)?;
     check_clock(clock)
 }
 
@@ -192,6 +192,6 @@ pub fn check_pipelined_tick(
     ensures result { refusal_number result
         ≡ Pipelined.tick_refusal clock (pipelined_lent book.entry runs.now pipeline.now) }
 {
-    check_pipelined_runs(u64::from(clock.ports), u64::from(clock.frame), book, runs, pipeline)?;
+    check_pipelined_runs(clock.ports as u64, clock.frame as u64, book, runs, pipeline)?;
     check_clock(clock)
 }
