@@ -25,7 +25,7 @@ const MAX_ROOT: u64 = 4_294_967_295;
 pub fn is_between(low: u64, high: u64, number: u64) -> bool
     ensures result { result ≡ between low high number }
 {
-    low <= number && number <= high
+    (low..=high).contains(&number)
 }
 
 // Whether a run holds the words of all pairs.
