@@ -48,11 +48,7 @@ fn run_slot(clock: Clock, book: BookRuns<'_>, runs: &mut TurnRuns<'_>) -> Served
 }
 
 // A tick: the questions, then the slot. The clock goes in and comes back whole.
-pub fn tick(
-    clock: Clock,
-    book: BookRuns<'_>,
-    runs: &mut TurnRuns<'_>,
-) -> Result<Ticked, Refused>
+pub fn tick(clock: Clock, book: BookRuns<'_>, runs: &mut TurnRuns<'_>) -> Result<Ticked, Refused>
     ensures loans { SameTurnRuns runs.old runs.new }
     ensures outcome { effect (tick_told clock result) (direct_lent book.entry runs.new)
         ≡ tick_effect (Direct.tick clock (direct_lent book.entry runs.old)) }

@@ -21,6 +21,7 @@ pub fn pass_one(ports: usize, runs: &mut TurnRuns<'_>) -> PassResult
     requires credits_fit { ports * ports ≤ length runs.old.credits.now }
     requires queues_fit { QueuesFit ports runs.old.queues.now runs.old.given.now }
     ensures loans { SameTurnRuns runs.old runs.new }
+    ensures queues_fit { QueuesFit ports runs.new.queues.now runs.new.given.now }
     ensures state { PassState ports runs.old.queues.now runs.old.given.now
         (ones ports runs.old.credits.now runs.old.queues.now runs.old.given.now)
         result.free result.served.outputs runs.new.queues.now runs.new.given.now }

@@ -83,6 +83,11 @@ returns c =
     let e : c.loop-row.row ≡ c.args.ports = omega arith in
     let o = rw e at c.loop-row.invariant.state in record {
       loans = c.loop-row.invariant.loans;
+      queues_fit = record {
+        few = c.requires.queues_fit.few;
+        queues = omega (arith, c.requires.queues_fit.queues, c.loop-row.invariant.queues);
+        given = omega (arith, c.requires.queues_fit.given, c.loop-row.invariant.given);
+      };
       state = o.held;
       first_pass = o.mark;
       credits_exit = o.cost;
