@@ -5,5 +5,3 @@ pub mod Reach
 pub mod Amounts
 pub mod Afterwards
 pub mod Sharing
-pub mod Calls
-pub mod PairSums

@@ -1,3 +1,4 @@
 pub mod Refusals
-pub mod PairSums
+pub mod Lines
+pub mod Asked
 pub mod Afterwards
