@@ -6,7 +6,7 @@ ghost use Rattle.wsgs.specs.Told.{book_lent};
 
 use crate::asked::AskedPair;
 use crate::pairs::word_of;
-use bookings::{rise, slots_of};
+use bookings::rise;
 use questions::is_between;
 use wsgs::{BookedSlots, MAX_LINE_RATE};
 
@@ -25,7 +25,7 @@ impl AskedPair<'_> {
         ensures fits { result.0 < 2 ^ 32 }
     {
         let ports = self.clock.ports as usize;
-        let booked = slots_of(word_of(ports, self.runs.slots, self.pair));
+        let booked = BookedSlots::from(word_of(ports, self.runs.slots, self.pair));
         let held = word_of(ports, self.runs.rates, self.pair);
         rise(self.clock, booked, held, rate)
     }

@@ -6,7 +6,7 @@ ghost use Rattle.book.specs.Asked.{present};
 
 use crate::asked::AskedPair;
 use crate::pairs::word_of;
-use bookings::{booking, slots_of};
+use bookings::booking;
 use wsgs::{BookedSlots, Input, Output, Pair};
 
 // The pairs that share a pair's input, and those that share its output.
@@ -43,7 +43,7 @@ impl AskedPair<'_> {
         ensures fits { result.0 < 2 ^ 32 }
     {
         let ports = self.clock.ports as usize;
-        let held = slots_of(word_of(ports, self.runs.slots, other));
+        let held = BookedSlots::from(word_of(ports, self.runs.slots, other));
         let rate = word_of(ports, self.runs.rates, other);
         booking(self.clock, held, rate)
     }
