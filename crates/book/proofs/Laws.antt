@@ -5,3 +5,4 @@ pub mod Reach
 pub mod Amounts
 pub mod Afterwards
 pub mod Sharing
+pub mod Calls

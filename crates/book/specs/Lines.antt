@@ -1,9 +1,6 @@
 -- The two lines of a pair, and sums and tests over one. Assumes nothing.
-use Rattle.std.specs.Prelude.{Bool, ℕ}
-use Rattle.wsgs.specs.declared.Input.{Input}
-use Rattle.wsgs.specs.declared.Output.{Output}
+use Rattle.std.specs.Prelude.{ℕ}
 use Rattle.wsgs.specs.declared.Pair.{Pair}
-use Rattle.wsgs.specs.Basics.{all_of}
 use Rattle.wsgs.specs.Bookings.{row_sum, column_sum}
 use Rattle.book.specs.declared.sums.Line.{Line}
 use Rattle.book.specs.declared.sums.Line.TheVariants.{Row, Column}

@@ -19,7 +19,7 @@ impl BookingRequest<'_> {
     pub fn booked(self, other: Pair) -> BookedSlots
         requires input_in_range { Port self.asked.clock.ports other.input.0 }
         requires output_in_range { Port self.asked.clock.ports other.output.0 }
-        ensures result { result.0 ≡ afterwards self.entry other.input.0 other.output.0 }
+        ensures result { result.0 ≡ afterwards self.entry.asked self.entry.more.0 other.input.0 other.output.0 }
         ensures fits { result.0 < 2 ^ 33 }
     {
         let present = self.asked.booked(other);
@@ -32,7 +32,7 @@ impl BookingRequest<'_> {
 
     // All sums.
     pub fn all_sums(self) -> AllSums
-        ensures totals { Totals self.entry result }
+        ensures totals { Totals self.entry.asked self.entry.more.0 result }
     {
         let mut rows = [0u64; 32];
         let mut columns = [0u64; 32];
@@ -45,9 +45,9 @@ impl BookingRequest<'_> {
     // The bookings of an input, summed; each is added to its column's sum over the inputs before.
     fn add_row(self, input: Input, columns: &mut [u64; 32]) -> u64
         requires input_in_range { Port self.asked.clock.ports input.0 }
-        requires columns_before { ColumnSums self.asked.clock.ports (input.0 - 1) (afterwards self) columns.old }
-        ensures row { result ≡ row_sum self.entry.asked.clock.ports (afterwards self.entry) input.0 }
-        ensures columns_exit { ColumnSums self.entry.asked.clock.ports input.0 (afterwards self.entry) columns.new }
+        requires columns_before { ColumnSums self.asked.clock.ports (input.0 - 1) (afterwards self.asked self.more.0) columns.old }
+        ensures row { result ≡ row_sum self.entry.asked.clock.ports (afterwards self.entry.asked self.entry.more.0) input.0 }
+        ensures columns_exit { ColumnSums self.entry.asked.clock.ports input.0 (afterwards self.entry.asked self.entry.more.0) columns.new }
     {
         let mut sum = 0u64;
         for j in 0..self.asked.clock.ports as usize {

@@ -24,21 +24,26 @@ fn pair_fits(frame: u64, own: BookedSlots, row: u64, column: u64) -> bool
 impl BookingRequest<'_> {
     // Whether the line's pair at a port does.
     fn fits_at(self, totals: &AllSums, line: Line, port: u64) -> bool
-        requires totals { Totals self totals.now }
+        requires totals { Totals self.asked self.more.0 totals.now }
         requires port_in_range { Port self.asked.clock.ports port }
-        ensures result { result ≡ fits_along line self.entry port }
+        ensures result { result ≡ fits_along line self.entry.asked self.entry.more.0 port }
     {
         let other = line.pair_at(self.asked.pair, port);
         let row = totals.rows[other.input.0 as usize - 1];
         let column = totals.columns[other.output.0 as usize - 1];
-        pair_fits(self.asked.clock.frame as u64, self.booked(other), row, column)
+        pair_fits(
+            self.asked.clock.frame as u64,
+            self.booked(other),
+            row,
+            column,
+        )
     }
 
     // Whether each pair of the line does.
     pub fn line_fits(self, totals: &AllSums, line: Line) -> bool
-        requires totals { Totals self totals.now }
+        requires totals { Totals self.asked self.more.0 totals.now }
         ensures result { result
-            ≡ list_all (fits_along line self.entry) (range_with_len 1 self.entry.asked.clock.ports) }
+            ≡ list_all (fits_along line self.entry.asked self.entry.more.0) (range_with_len 1 self.entry.asked.clock.ports) }
     {
         (1..self.asked.clock.ports as u64 + 1).all(|port| self.fits_at(totals, line, port))
     }

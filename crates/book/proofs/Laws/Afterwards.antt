@@ -25,7 +25,7 @@ module _ (q : BookingRequest) where
   now = present q.asked
 
   abbrev a : ℕ → ℕ → ℕ
-  a = afterwards q
+  a = afterwards q.asked q.more.0
 
   abbrev own : Pair
   own = q.asked.pair
@@ -134,9 +134,9 @@ module _ (n : ℕ) (a : ℕ → ℕ → ℕ) where
       h.at (y - 1) (omega arith) ∙ ap (column_sum n a) e
 
 -- the sums of a port's row and column as the sweep has them are small
-module _ (q : BookingRequest) (t : AllSums) (h : Totals q t) where
+module _ (q : BookingRequest) (t : AllSums) (h : Totals q.asked q.more.0 t) where
   pub row_small : (x : ℕ) → Port q.asked.clock.ports x → get_or t.rows (x - 1) 0 < 2 ^ 38
-  row_small x p = omega (arith, row_at q.asked.clock.ports (afterwards q) x t.rows p h.rows, row_few q q.asked.clock.ports x, q.asked.reached.ports)
+  row_small x p = omega (arith, row_at q.asked.clock.ports (afterwards q.asked q.more.0) x t.rows p h.rows, row_few q q.asked.clock.ports x, q.asked.reached.ports)
 
   pub column_small : (y : ℕ) → Port q.asked.clock.ports y → get_or t.columns (y - 1) 0 < 2 ^ 38
-  column_small y p = omega (arith, column_at q.asked.clock.ports (afterwards q) y t.columns p h.columns, column_few q q.asked.clock.ports y, q.asked.reached.ports)
+  column_small y p = omega (arith, column_at q.asked.clock.ports (afterwards q.asked q.more.0) y t.columns p h.columns, column_few q q.asked.clock.ports y, q.asked.reached.ports)

@@ -5,16 +5,14 @@ use mathlib.Core.Bool.{Bool, true, false, ◌&&◌}
 use mathlib.Core.List.{[], ◌∷◌}
 use mathlib.Core.Path.{ap}
 use Prim.Native.Nat.{ℕ, zero, suc, ◌+◌, ◌-◌, ◌≤◌}
-use native.Mathlib.Numerals.{add-one}
 use native.Mathlib.Omega.{arith}
 use native.Mathlib.Decide.{dec_le}
-use lib.Dec.{T, leb}
+use lib.Dec.{leb}
 use borrow.Author.Tests.{eq-eqb, ne_eqb, le-leb, lt-leb}
 use Rattle.wsgs.specs.declared.Clock.{Clock}
-use Rattle.wsgs.specs.Basics.{pick, Port, all_of}
+use Rattle.wsgs.specs.Basics.{pick, all_of}
 use Rattle.wsgs.specs.Bookings.{Book, row_sum, column_sum}
 use Rattle.wsgs.specs.Rule.{pair_fits, booked_fits, sharing_fit}
-use Rattle.wsgs.proofs.Laws.Rule.{every_at}
 use Rattle.std.specs.List.{list_all, range_with_len}
 use Rattle.std.proofs.Common.{map}
 use Rattle.std.proofs.lemmas.List.Folds.{list_all-map, list_all-append}
@@ -22,7 +20,7 @@ use Rattle.std.proofs.lemmas.List.FromFn.{map-range_with_len_more}
 use Rattle.wsgs.specs.Told.{book_lent}
 use Rattle.book.specs.declared.sums.Line.{Line}
 use Rattle.book.specs.declared.sums.Line.TheVariants.{Row, Column}
-use Rattle.book.specs.declared.afterwards.BookingRequest.{BookingRequest}
+use Rattle.book.specs.declared.asked.AskedPair.{AskedPair}
 use Rattle.book.specs.Afterwards.{afterwards, fits_along}
 use Rattle.book.specs.Refusals.{sums_refusal, pairs_refusal, rule_refusal}
 
@@ -64,25 +62,25 @@ all_by_ports p (suc n) =
     turned false false = refl
 
 -- QUESTION 15
-module _ (q : BookingRequest) where
-  abbrev n : ℕ
-  n = q.asked.clock.ports
-
-  abbrev asked : Line → Bool
-  asked l = list_all (fits_along l q) (range_with_len 1 n)
+module _ (p : AskedPair) (more : ℕ) where
+  abbrev fit : Line → Bool
+  fit l = list_all (fits_along l p more) (range_with_len 1 p.clock.ports)
 
   abbrev refusal : ℕ
-  refusal = pairs_refusal q.asked.clock (book_lent q.asked.runs) q.asked.pair.input.0 q.asked.pair.output.0 q.more.0
+  refusal = pairs_refusal p.clock (book_lent p.runs) p.pair.input.0 p.pair.output.0 more
 
-  both_asked : pick (asked Row && asked Column) 0 15 ≡ refusal
+  both_asked : pick (fit Row && fit Column) 0 15 ≡ refusal
   unfolding pairs_refusal sharing_fit afterwards fits_along
-  both_asked = rw (all_by_ports (fits_along Row q) n, all_by_ports (fits_along Column q) n) refl
+  both_asked = rw (all_by_ports (fits_along Row p more) p.clock.ports, all_by_ports (fits_along Column p more) p.clock.ports) refl
 
-  pub line_unfit : (asked Row && asked Column) ≡ false → 15 ≡ refusal
-  line_unfit e = (rw e refl) ∙ both_asked
+  pub row_unfit : fit Row ≡ false → 15 ≡ refusal
+  row_unfit e = rw e at both_asked
 
-  pub both_fit : (asked Row && asked Column) ≡ true → 0 ≡ refusal
-  both_fit e = (rw e refl) ∙ both_asked
+  pub column_unfit : fit Row ≡ true → fit Column ≡ false → 15 ≡ refusal
+  column_unfit e d = rw (e, d) at both_asked
+
+  pub both_fit : fit Row ≡ true → fit Column ≡ true → 0 ≡ refusal
+  both_fit e d = rw (e, d) at both_asked
 
 -- THE RULE as the clock tells the kind of the book
 module _ (c : Clock) (m : Book) (i j d : ℕ) where

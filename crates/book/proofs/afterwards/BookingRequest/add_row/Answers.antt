@@ -27,7 +27,7 @@ pub loop-j-preserved : goal.loop-j-preserved
 loop-j-preserved c = (
   omega arith,
   refl,
-  sum_more (λ y. afterwards c.args.self c.args.input.0 y) _ _ _ c.loop-j.invariant.2 c.booked-own.ensures.result,
+  sum_more (λ y. afterwards c.args.self.asked c.args.self.more.0 c.args.input.0 y) _ _ _ c.loop-j.invariant.2 c.booked-own.ensures.result,
   omega (arith, c.booked-own.ensures.fits),
   column_added _ _ _ _ _ _ c.requires.input_in_range.low (omega (arith, c.loop-j-test.true)) c.loop-j.invariant.4 c.booked-own.ensures.result,
 )
@@ -36,6 +36,6 @@ pub returns : goal.returns
 unfolding row_sum
 returns c =
     let e : c.loop-j.j ≡ c.args.self.asked.clock.ports = omega arith in record {
-      row = c.loop-j.invariant.2 ∙ ap (sum (λ y. afterwards c.args.self c.args.input.0 y)) e;
+      row = c.loop-j.invariant.2 ∙ ap (sum (λ y. afterwards c.args.self.asked c.args.self.more.0 c.args.input.0 y)) e;
       columns_exit = row_ends _ _ _ _ (rw e at c.loop-j.invariant.4);
     }

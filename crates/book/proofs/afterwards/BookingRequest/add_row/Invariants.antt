@@ -8,9 +8,9 @@ use Rattle.book.proofs.afterwards.BookingRequest.add_row.Given as goal
 
 abbrev pub invariant-loop-j : goal.invariant-loop-j
 invariant-loop-j l = (l.j ≤ l.self.asked.clock.ports) × (l.j-end ≡ l.self.asked.clock.ports)
-    × (l.sum ≡ sum (λ y. afterwards l.self l.input.0 y) l.j)
+    × (l.sum ≡ sum (λ y. afterwards l.self.asked l.self.more.0 l.input.0 y) l.j)
     × (l.sum ≤ 8589934592 * l.j)
-    × InRow l.self.asked.clock.ports (afterwards l.self) l.input.0 l.j l.columns
+    × InRow l.self.asked.clock.ports (afterwards l.self.asked l.self.more.0) l.input.0 l.j l.columns
 
 abbrev pub decreases-loop-j : goal.decreases-loop-j
 decreases-loop-j l = l.self.asked.clock.ports - l.j

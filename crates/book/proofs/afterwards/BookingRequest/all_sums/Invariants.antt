@@ -6,8 +6,8 @@ use Rattle.book.proofs.afterwards.BookingRequest.all_sums.Given as goal
 
 abbrev pub invariant-loop-i : goal.invariant-loop-i
 invariant-loop-i l = (l.i ≤ l.self.asked.clock.ports) × (l.i-end ≡ l.self.asked.clock.ports)
-    × RowSums l.self.asked.clock.ports l.i (afterwards l.self) l.rows
-    × ColumnSums l.self.asked.clock.ports l.i (afterwards l.self) l.columns
+    × RowSums l.self.asked.clock.ports l.i (afterwards l.self.asked l.self.more.0) l.rows
+    × ColumnSums l.self.asked.clock.ports l.i (afterwards l.self.asked l.self.more.0) l.columns
 
 abbrev pub decreases-loop-i : goal.decreases-loop-i
 decreases-loop-i l = l.self.asked.clock.ports - l.i

@@ -1,9 +1,8 @@
 -- `BookingRequest::fits_at` meets its contract. Assumes nothing.
-use mathlib.Core.Path.{◌≡◌, ◌∙◌, ap}
+use mathlib.Core.Path.{◌∙◌, ap}
 use Rattle.wsgs.specs.Basics.{Port}
 use Rattle.wsgs.specs.Rule.{booked_fits}
 use Rattle.book.specs.Afterwards.{afterwards, fits_along}
-use Rattle.book.specs.Lines.{pair_at}
 use Rattle.book.proofs.Laws.Sums.{ports_at}
 use Rattle.book.proofs.Laws.Afterwards.{row_at, column_at, row_small, column_small}
 use Rattle.book.proofs.Laws.Sharing.{fits_from}
@@ -30,6 +29,6 @@ returns c =
     let q = c.args.self in
     let n = q.asked.clock.ports in
     let inside = inside (goal.at.returns c).After-booked in
-    let e = fits_from n q.asked.clock.frame (afterwards q) _ _ _ _ _ c.booked.ensures.result (row_at n (afterwards q) _ _ inside.0 c.requires.totals.rows)
-        (column_at n (afterwards q) _ _ inside.1 c.requires.totals.columns) in
-    record { result = c.pair_fits.ensures.result ∙ e ∙ ap (λ o. booked_fits n q.asked.clock.frame (afterwards q) o.input.0 o.output.0) c.pair_at-other.ensures.result }
+    let e = fits_from n q.asked.clock.frame (afterwards q.asked q.more.0) _ _ _ _ _ c.booked.ensures.result (row_at n (afterwards q.asked q.more.0) _ _ inside.0 c.requires.totals.rows)
+    (column_at n (afterwards q.asked q.more.0) _ _ inside.1 c.requires.totals.columns) in
+    record { result = c.pair_fits.ensures.result ∙ e ∙ ap (λ o. booked_fits n q.asked.clock.frame (afterwards q.asked q.more.0) o.input.0 o.output.0) c.pair_at-other.ensures.result }

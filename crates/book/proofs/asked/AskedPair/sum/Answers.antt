@@ -1,5 +1,5 @@
 -- `AskedPair::sum` meets its contract. Assumes nothing.
-use Rattle.std.proofs.Common.{◌≡◌, ◌∙◌, ◌+◌, arith, rules, sum_by, ℕ}
+use Rattle.std.proofs.Common.{◌∙◌, ◌+◌, arith, rules}
 use Rattle.std.specs.List.{range_with_len}
 use Rattle.std.proofs.lemmas.Iterator.{YieldsList-from_range, YieldsList-from_map}
 use Rattle.std.proofs.lemmas.Iterator.Consumers.{sum_by_from_yields_List}
@@ -24,5 +24,5 @@ returns c =
     let n = a.clock.ports in
     let booked = bookings n a.clock.frame a.clock.line (book_lent a.runs) in
     let e = sum_by_from_yields_List (along c.args.line booked a.pair) (range_with_len 1 n) c.map.result c.sum.result c.sum.ensures.ran
-        (YieldsList-from_map _ (along c.args.line booked a.pair) (YieldsList-from_range 1 (n + 1) n (cc) (omega arith)) c.map.ensures.closure (λ x r q k. search (rules, tests))) in
+    (YieldsList-from_map _ (along c.args.line booked a.pair) (YieldsList-from_range 1 (n + 1) n (cc) (omega arith)) c.map.ensures.closure (λ x r q k. search (rules, tests))) in
     record { result = e ∙ line_by_ports n booked a.pair c.args.line }

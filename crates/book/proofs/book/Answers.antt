@@ -1,0 +1,31 @@
+-- `book::book` meets its contract: the call is refused, or one word changes. Assumes nothing.
+use mathlib.Core.Path.{sym}
+use native.Mathlib.Omega.{arith}
+use Rattle.wsgs.specs.Bookings.{book_of}
+use Rattle.wsgs.specs.Book.{book_words}
+use Rattle.wsgs.proofs.Refusals.{book_asks}
+use Rattle.wsgs.proofs.Rises.{slots_word_fits}
+use Rattle.book.proofs.Laws.Reach.{slots_pair}
+use Rattle.book.proofs.Laws.Calls.{kept, done}
+use Rattle.book.proofs.book.Goals as goal
+
+pub returns-in_err-check_operation : goal.returns-in_err-check_operation
+unfolding book_words
+returns-in_err-check_operation c =
+    record { outcome = kept _ _ _ _ _ c.from_residual.ensures.1 c.in_err-check_operation.ensures.refusal }
+
+pub add_to_word-requires : goal.add_to_word-requires
+add_to_word-requires c =
+    let m = book_of c.args.slots.now c.args.rates.now in
+    let i = c.args.pair.input.0 in
+    let j = c.args.pair.output.0 in
+    let accepted = sym c.in_ok-check_operation.ensures.refusal in
+    record {
+      pair_fits = slots_pair c.args.clock m i j ((book_asks c.args.clock m i j c.args.amount.0).0 accepted).1.reach;
+      sum_fits = omega (arith, slots_word_fits c.args.clock m i j c.args.amount.0 accepted);
+    }
+
+pub returns : goal.returns
+unfolding book_words
+returns c =
+    record { outcome = rw c.add_to_word.ensures.run_exit (done _ _ _ c.in_ok-check_operation.ensures.refusal) }

@@ -1,0 +1,71 @@
+// Admission: whether the book's rule admits a booking, and whether a pair holds what a release takes off.
+ghost use Rattle.std.specs.Prelude.{◌≡◌, ◌^◌, ◌<◌};
+ghost use Rattle.wsgs.specs.Told.{refusal_number, book_lent};
+ghost use Rattle.book.specs.Refusals.{sums_refusal, pairs_refusal, rule_refusal, held_refusal, PairFits};
+
+use crate::afterwards::BookingRequest;
+use crate::asked::AskedPair;
+use crate::pairs::word_of;
+use crate::sums::Line;
+use wsgs::{BookedSlots, Pair, Refused};
+
+impl AskedPair<'_> {
+    // Whether a booking that counts as so many slots is admitted: what the book asks, which is plain or fine.
+    pub fn check_rule(self, more: BookedSlots) -> Result<(), Refused>
+        requires more_fits { more.0 < 2 ^ 32 }
+        ensures refusal { refusal_number result
+            ≡ rule_refusal self.entry.clock (book_lent self.entry.runs) self.entry.pair.input.0
+            self.entry.pair.output.0 more.0 }
+    {
+        if self.clock.fine == 0 {
+            self.check_sums(more)
+        } else {
+            self.check_sharing(more)
+        }
+    }
+
+    // On a plain book: whether the sums leave room, questions 8 and 9.
+    fn check_sums(self, more: BookedSlots) -> Result<(), Refused>
+        requires more_fits { more.0 < 2 ^ 32 }
+        ensures refusal { refusal_number result
+            ≡ sums_refusal self.entry.clock (book_lent self.entry.runs) self.entry.pair.input.0
+            self.entry.pair.output.0 more.0 }
+    {
+        let limit = self.clock.frame as u64 + 1;
+        if 2 * (self.sum(Line::Row) + more.0) > limit {
+            return Err(Refused::Row);
+        }
+        if 2 * (self.sum(Line::Column) + more.0) > limit {
+            return Err(Refused::Column);
+        }
+        Ok(())
+    }
+
+    // On a fine book: whether each booked pair that shares the input or the output would fit the frame, question 15. One sweep over the pairs takes all sums,
+    // then the pairs of the row and those of the column are gone over once.
+    fn check_sharing(self, more: BookedSlots) -> Result<(), Refused>
+        requires more_fits { more.0 < 2 ^ 32 }
+        ensures refusal { refusal_number result
+            ≡ pairs_refusal self.entry.clock (book_lent self.entry.runs) self.entry.pair.input.0
+            self.entry.pair.output.0 more.0 }
+    {
+        let request = BookingRequest { asked: self, more };
+        let totals = request.all_sums();
+        if request.line_fits(&totals, Line::Row) && request.line_fits(&totals, Line::Column) {
+            return Ok(());
+        }
+        Err(Refused::Sharing)
+    }
+}
+
+// Whether a pair's word in a run, of slots or of rates, holds as much: question 10.
+pub fn check_held(ports: usize, run: &[u32], pair: Pair, amount: u64) -> Result<(), Refused>
+    requires pair_fits { PairFits ports run.now pair.input.0 pair.output.0 }
+    ensures refusal { refusal_number result ≡ held_refusal ports run.now pair.input.0 pair.output.0 amount }
+{
+    let held = word_of(ports, run, pair);
+    if (held as u64) < amount {
+        return Err(Refused::Held);
+    }
+    Ok(())
+}
