@@ -1,8 +1,8 @@
--- `questions::clock_refusal` meets its contract: its test is question 7's. Assumes nothing.
+-- `questions::check_clock` meets its contract: its test is question 7's. Assumes nothing.
 use native.Mathlib.Omega.{arith}
 use Rattle.wsgs.proofs.Laws.Questions.{clock_stands, clock_advances}
 use Rattle.questions.specs.Refusals.{clock_refusal}
-use Rattle.questions.proofs.clock_refusal.Goals as goal
+use Rattle.questions.proofs.check_clock.Goals as goal
 
 pub returns-then-clock-ge-MAX_SLOT : goal.returns-then-clock-ge-MAX_SLOT
 unfolding clock_refusal

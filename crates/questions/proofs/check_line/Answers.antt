@@ -1,7 +1,7 @@
--- `questions::line_refusal` meets its contract: its test is question 6's of a start. Assumes nothing.
+-- `questions::check_line` meets its contract: its test is question 6's of a start. Assumes nothing.
 use borrow.Author.Tests.{le-leb, lt-leb}
 use Rattle.questions.specs.Refusals.{line_refusal}
-use Rattle.questions.proofs.line_refusal.Goals as goal
+use Rattle.questions.proofs.check_line.Goals as goal
 
 pub returns-then-line-gt-MAX_LINE_RATE : goal.returns-then-line-gt-MAX_LINE_RATE
 unfolding line_refusal
