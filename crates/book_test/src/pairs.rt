@@ -1,91 +1,169 @@
 // Calls on a pair, on runs of five words that are all alike at first: a switch of two ports uses four of them.
-use crate::show::{clock, clock_of, five_words, number, refused, text};
-use book::{arrive, book, book_rate, release, release_rate};
+use crate::show::{Shown, WordsAt, clock, number, pair};
 use std::io;
-use wsgs::{BookedSlots, Clock, Input, Output};
+use wsgs::{BookedSlots, Clock, Pair, Refused};
 
-// Prints what the calls on a pair have in common.
-fn show_pair(
-    rt: &impl Print,
-    name: &[u8],
-    clock: Clock,
-    input: u64,
-    output: u64,
-) -> io::Result<()> {
-    text(rt, name)?;
-    clock_of(rt, clock)?;
-    number(rt, b" pair ", input)?;
-    number(rt, b" ", output)
-}
+// The places of the words of two ports, and one beyond.
+const PLACES: [usize; 5] = [0, 1, 2, 3, 4];
 
-// Prints what a call on the book leaves.
-fn show_book(rt: &impl Print, refusal: u32, slots: &[u32], rates: &[u32]) -> io::Result<()> {
-    refused(rt, refusal)?;
-    five_words(rt, b" slots", slots)?;
-    five_words(rt, b" rates", rates)?;
-    text(rt, b"\n")
-}
-
-pub fn book_on(
-    rt: &impl Print,
-    clock: Clock,
-    slots: &mut [u32],
-    rates: &[u32],
-    input: u64,
-    output: u64,
+// What a call on a pair is given: its name, the pair, and a number with what it is.
+#[derive(Clone, Copy)]
+struct Call<'a> {
+    name: &'a str,
+    pair: Pair,
+    what: &'a str,
     amount: u64,
-) -> io::Result<()> {
-    let booked = BookedSlots(amount);
-    let refusal = book(clock, slots, rates, Input(input), Output(output), booked);
-    show_pair(rt, b"book", clock, input, output)?;
-    number(rt, b" amount ", amount)?;
-    show_book(rt, refusal, slots, rates)
 }
 
-pub fn rate_on(
+// Prints what a call on a pair is given, and what it answers.
+fn show_call(
     rt: &impl Print,
     clock: Clock,
-    slots: &[u32],
-    rates: &mut [u32],
-    input: u64,
-    output: u64,
-    rate: u64,
+    call: Call<'_>,
+    outcome: Result<(), Refused>,
 ) -> io::Result<()> {
-    let refusal = book_rate(clock, slots, rates, Input(input), Output(output), rate);
-    show_pair(rt, b"book_rate", clock, input, output)?;
-    number(rt, b" rate ", rate)?;
-    show_book(rt, refusal, slots, rates)
+    let Call {
+        name,
+        pair,
+        what,
+        amount,
+    } = call;
+    print!(rt;
+        "{name} {} pair {} {}",
+        Shown(clock),
+        pair.input.0,
+        pair.output.0
+    )?;
+    print!(rt; " {what} {amount}: refusal {}", number(outcome))
 }
 
-pub fn release_on(
-    rt: &impl Print,
-    clock: Clock,
-    slots: &mut [u32],
-    rates: &[u32],
-    input: u64,
-    output: u64,
-    amount: u64,
-) -> io::Result<()> {
-    let booked = BookedSlots(amount);
-    let refusal = release(clock, slots, rates, Input(input), Output(output), booked);
-    show_pair(rt, b"release", clock, input, output)?;
-    number(rt, b" amount ", amount)?;
-    show_book(rt, refusal, slots, rates)
+// A book, with the clock of its switch. Each call on it prints its line.
+#[derive(Drop)]
+pub struct Book<const SLOTS: usize, const RATES: usize> {
+    pub clock: Clock,
+    pub slots: [u32; SLOTS],
+    pub rates: [u32; RATES],
 }
 
-pub fn release_rate_on(
-    rt: &impl Print,
-    clock: Clock,
-    slots: &[u32],
-    rates: &mut [u32],
-    input: u64,
-    output: u64,
-    rate: u64,
-) -> io::Result<()> {
-    let refusal = release_rate(clock, slots, rates, Input(input), Output(output), rate);
-    show_pair(rt, b"release_rate", clock, input, output)?;
-    number(rt, b" rate ", rate)?;
-    show_book(rt, refusal, slots, rates)
+impl<const SLOTS: usize, const RATES: usize> Book<SLOTS, RATES> {
+    fn show(
+        &self,
+        rt: &impl Print,
+        call: Call<'_>,
+        outcome: Result<(), Refused>,
+    ) -> io::Result<()> {
+        show_call(rt, self.clock, call, outcome)?;
+        print!(rt; " slots{}", WordsAt(&self.slots, &PLACES))?;
+        println!(rt; " rates{}", WordsAt(&self.rates, &PLACES))
+    }
+
+    pub fn book(
+        &mut self,
+        rt: &impl Print,
+        input: u64,
+        output: u64,
+        amount: u64,
+    ) -> io::Result<()> {
+        let pair = pair(input, output);
+        let clock = self.clock;
+        let outcome = book::book(
+            clock,
+            &mut self.slots,
+            &self.rates,
+            pair,
+            BookedSlots(amount),
+        );
+        self.show(
+            rt,
+            Call {
+                name: "book",
+                pair,
+                what: "amount",
+                amount,
+            },
+            outcome,
+        )
+    }
+
+    pub fn rate(
+        &mut self,
+        rt: &impl Print,
+        input: u64,
+        output: u64,
+        amount: u64,
+    ) -> io::Result<()> {
+        let pair = pair(input, output);
+        let clock = self.clock;
+        let outcome = book::book_rate(clock, &self.slots, &mut self.rates, pair, amount);
+        self.show(
+            rt,
+            Call {
+                name: "book_rate",
+                pair,
+                what: "rate",
+                amount,
+            },
+            outcome,
+        )
+    }
+
+    pub fn release(
+        &mut self,
+        rt: &impl Print,
+        input: u64,
+        output: u64,
+        amount: u64,
+    ) -> io::Result<()> {
+        let pair = pair(input, output);
+        let clock = self.clock;
+        let outcome = book::release(
+            clock,
+            &mut self.slots,
+            &self.rates,
+            pair,
+            BookedSlots(amount),
+        );
+        self.show(
+            rt,
+            Call {
+                name: "release",
+                pair,
+                what: "amount",
+                amount,
+            },
+            outcome,
+        )
+    }
+
+    pub fn release_rate(
+        &mut self,
+        rt: &impl Print,
+        input: u64,
+        output: u64,
+        amount: u64,
+    ) -> io::Result<()> {
+        let pair = pair(input, output);
+        let clock = self.clock;
+        let outcome = book::release_rate(clock, &self.slots, &mut self.rates, pair, amount);
+        self.show(
+            rt,
+            Call {
+                name: "release_rate",
+                pair,
+                what: "rate",
+                amount,
+            },
+            outcome,
+        )
+    }
+
+    // The four calls.
+    fn all(&mut self, rt: &impl Print, input: u64, output: u64) -> io::Result<()> {
+        self.book(rt, input, output, 1)?;
+        self.rate(rt, input, output, 1)?;
+        self.release(rt, input, output, 1)?;
+        self.release_rate(rt, input, output, 1)
+    }
 }
 
 fn arrive_on(
@@ -94,14 +172,22 @@ fn arrive_on(
     queues: &mut [u32],
     input: u64,
     output: u64,
-    packets: u64,
+    amount: u64,
 ) -> io::Result<()> {
-    let refusal = arrive(clock, queues, Input(input), Output(output), packets);
-    show_pair(rt, b"arrive", clock, input, output)?;
-    number(rt, b" packets ", packets)?;
-    refused(rt, refusal)?;
-    five_words(rt, b" queues", queues)?;
-    text(rt, b"\n")
+    let pair = pair(input, output);
+    let outcome = book::arrive(clock, queues, pair, amount);
+    show_call(
+        rt,
+        clock,
+        Call {
+            name: "arrive",
+            pair,
+            what: "packets",
+            amount,
+        },
+        outcome,
+    )?;
+    println!(rt; " queues{}", WordsAt(queues, &PLACES))
 }
 
 fn book_case(
@@ -112,57 +198,54 @@ fn book_case(
     output: u64,
     amount: u64,
 ) -> io::Result<()> {
-    let mut slots = [all; 5];
-    let rates = [0u32; 5];
-    let clock = clock(2, frame, 0);
-    book_on(rt, clock, &mut slots, &rates, input, output, amount)
+    let mut book = Book {
+        clock: clock(2, frame, 0),
+        slots: [all; 5],
+        rates: [0; 5],
+    };
+    book.book(rt, input, output, amount)
 }
 
 fn rate_case(rt: &impl Print, frame: u32, line: u32, rate: u64) -> io::Result<()> {
-    let slots = [0u32; 5];
-    let mut rates = [0u32; 5];
-    rate_on(rt, clock(2, frame, line), &slots, &mut rates, 1, 2, rate)
+    let mut book = Book {
+        clock: clock(2, frame, line),
+        slots: [0; 5],
+        rates: [0; 5],
+    };
+    book.rate(rt, 1, 2, rate)
 }
 
 fn release_case(rt: &impl Print, all: u32, amount: u64) -> io::Result<()> {
-    let mut slots = [all; 5];
-    let rates = [0u32; 5];
-    release_on(rt, clock(2, 3, 0), &mut slots, &rates, 2, 1, amount)
+    let mut book = Book {
+        clock: clock(2, 3, 0),
+        slots: [all; 5],
+        rates: [0; 5],
+    };
+    book.release(rt, 2, 1, amount)
 }
 
 fn release_rate_case(rt: &impl Print, line: u32, all: u32, rate: u64) -> io::Result<()> {
-    let slots = [9u32; 5];
-    let mut rates = [all; 5];
-    release_rate_on(rt, clock(2, 3, line), &slots, &mut rates, 2, 1, rate)
+    let mut book = Book {
+        clock: clock(2, 3, line),
+        slots: [9; 5],
+        rates: [all; 5],
+    };
+    book.release_rate(rt, 2, 1, rate)
 }
 
 fn arrive_case(rt: &impl Print, all: u32, packets: u64) -> io::Result<()> {
-    let mut queues = [all; 5];
-    arrive_on(rt, clock(2, 3, 0), &mut queues, 2, 2, packets)
-}
-
-// The four calls on a book.
-fn book_calls(
-    rt: &impl Print,
-    clock: Clock,
-    slots: &mut [u32],
-    rates: &mut [u32],
-    input: u64,
-    output: u64,
-) -> io::Result<()> {
-    book_on(rt, clock, slots, rates, input, output, 1)?;
-    rate_on(rt, clock, slots, rates, input, output, 1)?;
-    release_on(rt, clock, slots, rates, input, output, 1)?;
-    release_rate_on(rt, clock, slots, rates, input, output, 1)
+    arrive_on(rt, clock(2, 3, 0), &mut [all; 5], 2, 2, packets)
 }
 
 // All five calls, on runs that are long enough.
 fn all_with(rt: &impl Print, clock: Clock, input: u64, output: u64) -> io::Result<()> {
-    let mut slots = [0u32; 4];
-    let mut rates = [0u32; 4];
-    let mut queues = [0u32; 4];
-    book_calls(rt, clock, &mut slots, &mut rates, input, output)?;
-    arrive_on(rt, clock, &mut queues, input, output, 1)
+    let mut book = Book {
+        clock,
+        slots: [0; 4],
+        rates: [0; 4],
+    };
+    book.all(rt, input, output)?;
+    arrive_on(rt, clock, &mut [0; 4], input, output, 1)
 }
 
 // Clocks whose sizes no start accepts.
@@ -172,17 +255,25 @@ pub fn clocks(rt: &impl Print) -> io::Result<()> {
     all_with(rt, clock(33, 3, 1_000), 1, 1)?;
     all_with(rt, clock(2, 0, 1_000), 1, 1)?;
     all_with(rt, clock(2, 10_001, 1_000), 1, 1)?;
-    all_with(rt, clock(4_294_967_295, 4_294_967_295, 4_294_967_295), 1, 1)
+    all_with(rt, clock(u32::MAX, u32::MAX, u32::MAX), 1, 1)
 }
 
 // Slots, rates and queues that are too short, each by itself.
 fn all_short(rt: &impl Print, input: u64, output: u64) -> io::Result<()> {
-    let mut long = [0u32; 4];
-    let mut short = [0u32; 3];
     let clock = clock(2, 3, 1_000);
-    book_calls(rt, clock, &mut short, &mut long, input, output)?;
-    book_calls(rt, clock, &mut long, &mut short, input, output)?;
-    arrive_on(rt, clock, &mut short, input, output, 1)
+    let mut few_slots = Book {
+        clock,
+        slots: [0; 3],
+        rates: [0; 4],
+    };
+    few_slots.all(rt, input, output)?;
+    let mut few_rates = Book {
+        clock,
+        slots: [0; 4],
+        rates: [0; 3],
+    };
+    few_rates.all(rt, input, output)?;
+    arrive_on(rt, clock, &mut [0; 3], input, output, 1)
 }
 
 // Ports at and past their ends, then runs too short, and both.
@@ -208,13 +299,15 @@ pub fn bookings(rt: &impl Print) -> io::Result<()> {
     book_case(rt, 1, 0, 2, 1, 1)?;
     book_case(rt, 1, 0, 2, 1, 2)?;
     book_case(rt, 3, 4_294_967_295, 1, 2, 1)?;
-    let mut slots = [0u32; 5];
-    let rates = [0u32; 5];
-    let clock = clock(2, 3, 0);
-    book_on(rt, clock, &mut slots, &rates, 1, 2, 2)?;
-    book_on(rt, clock, &mut slots, &rates, 1, 1, 1)?;
-    book_on(rt, clock, &mut slots, &rates, 2, 2, 1)?;
-    book_on(rt, clock, &mut slots, &rates, 2, 1, 2)
+    let mut book = Book {
+        clock: clock(2, 3, 0),
+        slots: [0; 5],
+        rates: [0; 5],
+    };
+    book.book(rt, 1, 2, 2)?;
+    book.book(rt, 1, 1, 1)?;
+    book.book(rt, 2, 2, 1)?;
+    book.book(rt, 2, 1, 2)
 }
 
 // Line rates and rates at and past their ends, and rates just within a slot and just above it.
