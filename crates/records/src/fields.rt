@@ -10,6 +10,7 @@ use wsgs::{Operation, Refused, Request};
 const MAX_DIGITS: usize = 10;
 
 // A field's number: one to ten decimal digits.
+// Stays (d): `parse` of std takes a text with a sign before its digits and digits beyond ten, so the tests here would stay beside it.
 #[tactic(auto, using(crate::proofs::Digits::reads))]
 fn read_field(text: &[u8]) -> Option<u64>
     ensures number { result ≡ read_field text.now }
@@ -40,6 +41,7 @@ fn unused_are_zero(request: Request) -> bool
 }
 
 // What an operation and three number fields say.
+// Stays (d): the fields are texts, in the order of a record, and no ports yet.
 #[tactic(auto, unfolding(wsgs::specs::Questions::first_no))]
 pub fn read_numbers(
     operation: Operation,

@@ -14,6 +14,7 @@ use wsgs::{Operation, Refused, Request};
 pub const MAX_RECORD: usize = 64;
 
 // The operation that a record's first field names.
+// Stays (a): Operation is of wsgs, which knows nothing of texts, and an impl of TryFrom would have to stand there.
 #[tactic(auto, using(crate::proofs::Names::by_letters))]
 fn look_up(text: &[u8]) -> Option<Operation>
     ensures operation { result ≡ look_up names text.now }
@@ -37,6 +38,7 @@ fn is_start(operation: Operation) -> bool
 }
 
 // What a record says, where a start or pipe has been accepted before it or not.
+// Stays (a): `running` is what the clause's `read_record` takes.
 pub fn read_record(running: bool, text: &[u8]) -> Result<Request, Refused>
     ensures reading { reading_told result ≡ read_record running text.now }
 {
