@@ -1,5 +1,6 @@
 // Starts of both forms, on runs with 7 in every word. Each line has the clock afterwards and, of each run, its length, its first word, the last that 32 ports
 // use, and the one beyond.
+// Stays (d): a start of either form is a function with its own runs, and the sizes and lengths that it is tried on are data.
 ghost use Rattle.std.specs.Prelude.{◌≤◌};
 
 use crate::show::{Shown, WordsAt, clock_of_kind, number};

@@ -1,5 +1,6 @@
 // Calls on the last pair of 32 ports, on runs of the least length, a word longer and a word shorter, and on runs of the largest words. Each line
 // has the last word that is used, and the one beyond.
+// Stays (d): book_last and rate_last each try two functions on the run that these write, and show it.
 ghost use Rattle.std.specs.Prelude.{◌≤◌};
 
 use crate::show::{WordsAt, clock, number, pair};

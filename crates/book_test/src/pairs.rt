@@ -1,4 +1,6 @@
 // Calls on a pair, on runs of five words that are all alike at first: a switch of two ports uses four of them.
+// Stays (d): the four calls on a book are four functions that lend slots or rates for writing, so a closure for the call would be as long as its method; the cases
+// are data.
 use crate::show::{Shown, WordsAt, clock, number, pair};
 use std::io;
 use wsgs::{BookedSlots, Clock, Pair, Refused};

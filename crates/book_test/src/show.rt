@@ -1,4 +1,6 @@
 // The clocks that the cases begin with, and how lines show a clock, words and an answer.
+// Stays (a): a clock has a word of any value for the kind of the book, as C lends it. (d): `clock`, `clock_of_kind` and `pair` are constructors; a From would take
+// their numbers without names, and only crates/wsgs may write it.
 use std::fmt;
 use wsgs::{Clock, Input, Output, Pair, Refused};
 

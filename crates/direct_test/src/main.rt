@@ -1,6 +1,7 @@
 // Ticks of the direct form at the edges of the rules. Each case prints one line: the refusal, the slot, the pairs as input>output/pass, the word
 // of pass one, and the credits, the queues and the last given outputs afterwards (of more than eight words their sum). `stdout` was worked out by
 // hand from the rules.
+// Stays (d): the cases are alike since each is one call with its words; what they share is `case`. `Words` is not that of pipelined_test, which shows places.
 #![tactic(auto)]
 
 ghost use Rattle.std.specs.Prelude.{◌≤◌};

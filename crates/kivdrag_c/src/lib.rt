@@ -21,8 +21,10 @@ mod clocks;
 mod results;
 
 use clocks::ClockWords;
-use results::{kind_of, number_of, pair_of, put_headroom, put_preview, put_start, put_tick};
-use wsgs::{BookRuns, BookedSlots, Clock, PipelineRuns, TurnRuns};
+use results::{
+    book_runs, kind_of, number_of, pair_of, put_headroom, put_preview, put_start, put_tick,
+};
+use wsgs::{BookedSlots, Clock, PipelineRuns, TurnRuns};
 
 // Starts a direct switch, with a plain book where `fine` is 0, and else with a fine one.
 pub fn kivdrag_start_direct(
@@ -177,7 +179,7 @@ pub fn kivdrag_headroom(
         (book_of slots.now rates.now) input output }
 {
     let clock = Clock::from(ClockWords(*clock));
-    let book = BookRuns { slots, rates };
+    let book = book_runs(slots, rates);
     let told = previews::headroom(clock, book, pair_of(input, output));
     put_headroom(told, headroom)
 }
@@ -198,7 +200,7 @@ pub fn kivdrag_preview_book(
         (book_of slots.now rates.now) input output amount }
 {
     let clock = Clock::from(ClockWords(*clock));
-    let book = BookRuns { slots, rates };
+    let book = book_runs(slots, rates);
     let amount = BookedSlots(amount);
     let told = previews::preview_book(clock, book, pair_of(input, output), amount);
     put_preview(told, row, column)
@@ -220,7 +222,7 @@ pub fn kivdrag_preview_book_rate(
         (book_of slots.now rates.now) input output rate }
 {
     let clock = Clock::from(ClockWords(*clock));
-    let book = BookRuns { slots, rates };
+    let book = book_runs(slots, rates);
     let told = previews::preview_book_rate(clock, book, pair_of(input, output), rate);
     put_preview(told, row, column)
 }
@@ -241,7 +243,7 @@ pub fn kivdrag_preview_release(
         (book_of slots.now rates.now) input output amount }
 {
     let clock = Clock::from(ClockWords(*clock));
-    let book = BookRuns { slots, rates };
+    let book = book_runs(slots, rates);
     let amount = BookedSlots(amount);
     let told = previews::preview_release(clock, book, pair_of(input, output), amount);
     put_preview(told, row, column)
@@ -263,7 +265,7 @@ pub fn kivdrag_preview_release_rate(
         (book_of slots.now rates.now) input output rate }
 {
     let clock = Clock::from(ClockWords(*clock));
-    let book = BookRuns { slots, rates };
+    let book = book_runs(slots, rates);
     let told = previews::preview_release_rate(clock, book, pair_of(input, output), rate);
     put_preview(told, row, column)
 }
@@ -300,7 +302,7 @@ pub fn kivdrag_tick_direct(
         (direct_runs_of slots.now rates.now credits.old queues.old given.old)) }
 {
     let before = Clock::from(ClockWords(*clock));
-    let book = BookRuns { slots, rates };
+    let book = book_runs(slots, rates);
     let mut runs = TurnRuns {
         credits,
         queues,
@@ -331,7 +333,7 @@ pub fn kivdrag_tick_pipelined(
         given.old copy.old flight.old)) }
 {
     let before = Clock::from(ClockWords(*clock));
-    let book = BookRuns { slots, rates };
+    let book = book_runs(slots, rates);
     let mut runs = TurnRuns {
         credits,
         queues,

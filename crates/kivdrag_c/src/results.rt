@@ -1,4 +1,6 @@
 // What C is told of an answer: the number of its refusal, 0 for none, is given back, and the rest is written into lent words.
+// Stays (a): the C interface (include/kivdrag.h) has numbers for refusals and for the kind of the book, and a lent word for each value besides. `pair_of` and
+// `kind_of` are no From, which only crates/wsgs may write for its types, and which would take a pair without saying which number is the input.
 ghost use Rattle.std.specs.Prelude.{◌≡◌};
 ghost use Rattle.wsgs.specs.Preview.{preview_of};
 ghost use Rattle.wsgs.specs.Told.{refusal_number, kind_is_fine, start_told, tick_told, headroom_told, preview_told};
@@ -7,7 +9,7 @@ ghost use Rattle.kivdrag_c.specs.Clocks.{clock_in_words, clock_words};
 ghost use Rattle.kivdrag_c.specs.Results.{c_headroom};
 
 use crate::clocks::ClockWords;
-use wsgs::{BookKind, Clock, Input, Output, Pair, Previewed, Refused, Served, Ticked};
+use wsgs::{BookKind, BookRuns, Clock, Input, Output, Pair, Previewed, Refused, Served, Ticked};
 
 // The pair of two numbers of C.
 pub fn pair_of(input: u64, output: u64) -> Pair
@@ -18,6 +20,14 @@ pub fn pair_of(input: u64, output: u64) -> Pair
         input: Input(input),
         output: Output(output),
     }
+}
+
+// The runs of a book.
+pub fn book_runs<'a>(slots: &'a [u32], rates: &'a [u32]) -> BookRuns<'a>
+    ensures slots { result.slots.now ≡ slots.now }
+    ensures rates { result.rates.now ≡ rates.now }
+{
+    BookRuns { slots, rates }
 }
 
 // The kind of book that a word of C asks for: a plain one where it is 0, and else a fine one.

@@ -1,6 +1,7 @@
 // Ticks of the pipelined form at the edges of the rules. Each case prints one line: the refusal, the last slot run, the pairs handed out as
 // input>output/pass, the word of pass one, and of each run afterwards the words that are not 0, as place=word with places from 0 (of more than
 // 20 words their sum). `stdout` was worked out by hand from the rules.
+// Stays (d): the cases are alike since each is one call with its words; what they share is `case`. `Words` is not that of direct_test, which shows no places.
 #![tactic(auto)]
 
 ghost use Rattle.std.specs.Prelude.{◌≤◌};
