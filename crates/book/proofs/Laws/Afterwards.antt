@@ -3,7 +3,7 @@
 use mathlib.Core.Path.{◌≡◌, refl, ◌∙◌, ap}
 use mathlib.Core.Bool.{Bool, true, false, ◌&&◌, and-false}
 use mathlib.Core.List.{List}
-use mathlib.Core.Logic.{◌≢◌}
+use mathlib.Core.Logic.{◌≢◌, ◌⊎◌, inl, inr}
 use Prim.Native.Nat.{ℕ, zero, suc, ◌+◌, ◌-◌, ◌*◌, ◌^◌, ◌≤◌, ◌<◌}
 use native.Mathlib.Omega.{arith}
 use native.Mathlib.Decide.{ℕ_discrete}
@@ -11,61 +11,65 @@ use lib.Dec.{eqb}
 use lib.ListN.{length, get_or, set, replicate, length-set, get_or-replicate}
 use lib.Seq.{get_or-set_same, get_or-set_other}
 use borrow.Author.Tests.{eq-eqb, ne_eqb}
-use Rattle.wsgs.specs.declared.Clock.{Clock}
+use Rattle.wsgs.specs.declared.Pair.{Pair}
 use Rattle.wsgs.specs.Basics.{pick, Port, sum}
-use Rattle.wsgs.specs.Bookings.{Book, booking, bookings, row_sum, column_sum}
+use Rattle.wsgs.specs.Bookings.{booking, bookings, row_sum, column_sum}
 use Rattle.wsgs.proofs.Laws.Sums.{sum_last}
 use Rattle.book.specs.declared.afterwards.BookingRequest.{BookingRequest}
-use Rattle.book.specs.Afterwards.{afterwards, RowSums, ColumnSums}
+use Rattle.book.specs.Asked.{present}
+use Rattle.book.specs.declared.all_sums.AllSums.{AllSums}
+use Rattle.book.specs.Afterwards.{afterwards, RowSums, ColumnSums, Totals}
 
-module _ (c : Clock) (m : Book) (q : BookingRequest) where
-  abbrev present : ℕ → ℕ → ℕ
-  present = bookings c.ports c.frame c.line m
+module _ (q : BookingRequest) where
+  abbrev now : ℕ → ℕ → ℕ
+  now = present q.asked
 
   abbrev a : ℕ → ℕ → ℕ
-  a = afterwards c m q
+  a = afterwards q.asked q.more.0
 
-  -- the pair of the request has more; one of another input, and one of another output, has what it has
-  pub asked_pair : (x y : ℕ) → x ≡ q.input.0 → y ≡ q.output.0 → present x y + q.more.0 ≡ a x y
-  unfolding afterwards
-  asked_pair x y e d = rw (eq-eqb x q.input.0 e, eq-eqb y q.output.0 d) (rw (e, d) refl)
+  abbrev own : Pair
+  own = q.asked.pair
 
-  pub other_input : (x y : ℕ) → x ≢ q.input.0 → present x y ≡ a x y
+  -- the pair of the request has more; one of another input or another output has what it has
+  pub asked_pair : (x y : ℕ) → x ≡ own.input.0 → y ≡ own.output.0 → now x y + q.more.0 ≡ a x y
   unfolding afterwards
-  other_input x y e = rw (ne_eqb x q.input.0 e)
+  asked_pair x y e d = rw (eq-eqb x own.input.0 e, eq-eqb y own.output.0 d) (rw (e, d) refl)
 
-  pub other_output : (x y : ℕ) → y ≢ q.output.0 → present x y ≡ a x y
+  pub other_pair : (x y : ℕ) → (x ≢ own.input.0) ⊎ ((x ≡ own.input.0) × (y ≢ own.output.0)) → now x y ≡ a x y
   unfolding afterwards
-  other_output x y e = rw (ne_eqb y q.output.0 e) (simp and-false)
+  other_pair x y (inl e) = rw (ne_eqb x own.input.0 e)
+  other_pair x y (inr e) = rw (ne_eqb y own.output.0 e.1) (simp and-false)
 
   -- each is below 2 ^ 33
-  present_few : (x y : ℕ) → present x y ≤ 4294967295
+  now_few : (x y : ℕ) → now x y ≤ 4294967295
   unfolding bookings booking
-  present_few x y = omega arith
+  now_few x y = omega arith
 
-  module _ (few : q.more.0 < 2 ^ 32) where
-    pub after_few : (x y : ℕ) → a x y ≤ 8589934590
-    unfolding afterwards
-    after_few x y = go (eqb x q.input.0 && eqb y q.output.0) (present_few q.input.0 q.output.0) (present_few x y)
-      where
-        go : (b : Bool) → present q.input.0 q.output.0 ≤ 4294967295 → present x y ≤ 4294967295
-            → pick b (present q.input.0 q.output.0 + q.more.0) (present x y) ≤ 8589934590
-        go true h k = omega arith
-        go false h k = omega arith
+  after_few : (x y : ℕ) → a x y ≤ 8589934590
+  unfolding afterwards
+  after_few x y = go (eqb x own.input.0 && eqb y own.output.0) (now_few own.input.0 own.output.0) (now_few x y)
+    where
+      few : q.more.0 < 2 ^ 32
+      few = q.more_fits
 
-    -- so a sum of n of them
-    sum_few : (f : ℕ → ℕ) → ((x : ℕ) → f x ≤ 8589934590) → (n : ℕ) → sum f n ≤ 8589934590 * n
-    unfolding sum
-    sum_few f h zero = omega arith
-    sum_few f h (suc n) = omega (arith, sum_few f h n, h (suc n))
+      go : (b : Bool) → now own.input.0 own.output.0 ≤ 4294967295 → now x y ≤ 4294967295
+          → pick b (now own.input.0 own.output.0 + q.more.0) (now x y) ≤ 8589934590
+      go true h k = omega arith
+      go false h k = omega arith
 
-    pub row_few : (n x : ℕ) → row_sum n a x ≤ 8589934590 * n
-    unfolding row_sum
-    row_few n x = sum_few (λ y. a x y) (λ y. after_few x y) n
+  -- so a sum of n of them
+  sum_few : (f : ℕ → ℕ) → ((x : ℕ) → f x ≤ 8589934590) → (n : ℕ) → sum f n ≤ 8589934590 * n
+  unfolding sum
+  sum_few f h zero = omega arith
+  sum_few f h (suc n) = omega (arith, sum_few f h n, h (suc n))
 
-    pub column_few : (n y : ℕ) → column_sum n a y ≤ 8589934590 * n
-    unfolding column_sum
-    column_few n y = sum_few (λ x. a x y) (λ x. after_few x y) n
+  pub row_few : (n x : ℕ) → row_sum n a x ≤ 8589934590 * n
+  unfolding row_sum
+  row_few n x = sum_few (λ y. a x y) (λ y. after_few x y) n
+
+  pub column_few : (n y : ℕ) → column_sum n a y ≤ 8589934590 * n
+  unfolding column_sum
+  column_few n y = sum_few (λ x. a x y) (λ x. after_few x y) n
 
 -- A SWEEP over the bookings a of n ports
 module _ (n : ℕ) (a : ℕ → ℕ → ℕ) where
@@ -128,3 +132,11 @@ module _ (n : ℕ) (a : ℕ → ℕ → ℕ) where
   column_at y sums p h =
       let e : y - 1 + 1 ≡ y = omega arith in
       h.at (y - 1) (omega arith) ∙ ap (column_sum n a) e
+
+-- the sums of a port's row and column as the sweep has them are small
+module _ (q : BookingRequest) (t : AllSums) (h : Totals q.asked q.more.0 t) where
+  pub row_small : (x : ℕ) → Port q.asked.clock.ports x → get_or t.rows (x - 1) 0 < 2 ^ 38
+  row_small x p = omega (arith, row_at q.asked.clock.ports (afterwards q.asked q.more.0) x t.rows p h.rows, row_few q q.asked.clock.ports x, q.asked.reached.ports)
+
+  pub column_small : (y : ℕ) → Port q.asked.clock.ports y → get_or t.columns (y - 1) 0 < 2 ^ 38
+  column_small y p = omega (arith, column_at q.asked.clock.ports (afterwards q.asked q.more.0) y t.columns p h.columns, column_few q q.asked.clock.ports y, q.asked.reached.ports)
