@@ -1,41 +1,39 @@
 // Admission: whether the book's rule admits a booking, and whether a pair holds what a release takes off.
-ghost use Rattle.std.specs.Prelude.{◌≡◌, ◌^◌, ◌<◌};
+ghost use Rattle.std.specs.Prelude.{◌≡◌};
 ghost use Rattle.wsgs.specs.Told.{refusal_number, book_lent};
 ghost use Rattle.book.specs.Refusals.{sums_refusal, pairs_refusal, rule_refusal, held_refusal, PairFits};
 
 use crate::afterwards::BookingRequest;
-use crate::asked::AskedPair;
 use crate::pairs::word_of;
 use crate::sums::Line;
-use wsgs::{BookedSlots, Pair, Refused};
+use wsgs::{Pair, Refused};
 
-impl AskedPair<'_> {
-    // Whether a booking that counts as so many slots is admitted: what the book asks, which is plain or fine.
-    pub fn check_rule(self, more: BookedSlots) -> Result<(), Refused>
-        requires more_fits { more.0 < 2 ^ 32 }
+impl BookingRequest<'_> {
+    // Whether the booking is admitted: what the book asks, which is plain or fine.
+    // Stays (a): the kind is a word of any value in the clock that C keeps (`kivdrag_switch`, `fine`), and wsgs reads it so (`is_fine`).
+    pub fn check_rule(self) -> Result<(), Refused>
         ensures refusal { refusal_number result
-            ≡ rule_refusal self.entry.clock (book_lent self.entry.runs) self.entry.pair.input.0
-            self.entry.pair.output.0 more.0 }
+            ≡ rule_refusal self.entry.asked.clock (book_lent self.entry.asked.runs)
+            self.entry.asked.pair.input.0 self.entry.asked.pair.output.0 self.entry.more.0 }
     {
-        if self.clock.fine == 0 {
-            self.check_sums(more)
+        if self.asked.clock.fine == 0 {
+            self.check_sums()
         } else {
-            self.check_sharing(more)
+            self.check_sharing()
         }
     }
 
     // On a plain book: whether the sums leave room, questions 8 and 9.
-    fn check_sums(self, more: BookedSlots) -> Result<(), Refused>
-        requires more_fits { more.0 < 2 ^ 32 }
+    fn check_sums(self) -> Result<(), Refused>
         ensures refusal { refusal_number result
-            ≡ sums_refusal self.entry.clock (book_lent self.entry.runs) self.entry.pair.input.0
-            self.entry.pair.output.0 more.0 }
+            ≡ sums_refusal self.entry.asked.clock (book_lent self.entry.asked.runs)
+            self.entry.asked.pair.input.0 self.entry.asked.pair.output.0 self.entry.more.0 }
     {
-        let limit = self.clock.frame as u64 + 1;
-        if 2 * (self.sum(Line::Row) + more.0) > limit {
+        let limit = self.asked.clock.frame as u64 + 1;
+        if 2 * (self.asked.sum(Line::Row) + self.more.0) > limit {
             return Err(Refused::Row);
         }
-        if 2 * (self.sum(Line::Column) + more.0) > limit {
+        if 2 * (self.asked.sum(Line::Column) + self.more.0) > limit {
             return Err(Refused::Column);
         }
         Ok(())
@@ -43,15 +41,13 @@ impl AskedPair<'_> {
 
     // On a fine book: whether each booked pair that shares the input or the output would fit the frame, question 15. One sweep over the pairs takes all sums,
     // then the pairs of the row and those of the column are gone over once.
-    fn check_sharing(self, more: BookedSlots) -> Result<(), Refused>
-        requires more_fits { more.0 < 2 ^ 32 }
+    fn check_sharing(self) -> Result<(), Refused>
         ensures refusal { refusal_number result
-            ≡ pairs_refusal self.entry.clock (book_lent self.entry.runs) self.entry.pair.input.0
-            self.entry.pair.output.0 more.0 }
+            ≡ pairs_refusal self.entry.asked.clock (book_lent self.entry.asked.runs)
+            self.entry.asked.pair.input.0 self.entry.asked.pair.output.0 self.entry.more.0 }
     {
-        let request = BookingRequest { asked: self, more };
-        let totals = request.all_sums();
-        if request.line_fits(&totals, Line::Row) && request.line_fits(&totals, Line::Column) {
+        let totals = self.all_sums();
+        if self.line_fits(&totals, Line::Row) && self.line_fits(&totals, Line::Column) {
             return Ok(());
         }
         Err(Refused::Sharing)

@@ -8,6 +8,7 @@ use crate::afterwards::BookingRequest;
 use wsgs::{BookedSlots, Input, Output, Pair};
 
 // The sum of each input's row, and of each output's column, from 1 on.
+// Stays (d): rows are by input and columns by output, so an array of both would pair numbers that have nothing to do with each other.
 #[derive(Clone, Copy)]
 pub struct AllSums {
     pub rows: [u64; 32],
@@ -36,8 +37,9 @@ impl BookingRequest<'_> {
     {
         let mut rows = [0u64; 32];
         let mut columns = [0u64; 32];
-        for i in 0..self.asked.clock.ports as usize {
-            rows[i] = self.add_row(Input(i as u64 + 1), &mut columns);
+        let ports = self.asked.clock.ports as usize;
+        for (at, row) in rows[..ports].iter_mut().enumerate() {
+            *row = self.add_row(Input(at as u64 + 1), &mut columns);
         }
         AllSums { rows, columns }
     }
@@ -50,11 +52,12 @@ impl BookingRequest<'_> {
         ensures columns_exit { ColumnSums self.entry.asked.clock.ports input.0 (afterwards self.entry.asked self.entry.more.0) columns.new }
     {
         let mut sum = 0u64;
-        for j in 0..self.asked.clock.ports as usize {
-            let output = Output(j as u64 + 1);
+        let ports = self.asked.clock.ports as usize;
+        for (at, column) in columns[..ports].iter_mut().enumerate() {
+            let output = Output(at as u64 + 1);
             let own = self.booked(Pair { input, output });
             sum += own.0;
-            columns[j] += own.0;
+            *column += own.0;
         }
         sum
     }

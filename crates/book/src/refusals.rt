@@ -7,6 +7,7 @@ ghost use Rattle.questions.specs.Refusals.{pair_refusal};
 ghost use Rattle.book.specs.Operations.{amount_asked, last_refusal, operation_refusal};
 
 use crate::admission::check_held;
+use crate::afterwards::BookingRequest;
 use crate::asked::AskedPair;
 use crate::operations::BookOperation;
 use crate::queues::check_queue;
@@ -68,8 +69,11 @@ impl AskedPair<'_> {
     {
         let ports = self.clock.ports as usize;
         match operation {
-            BookOperation::Book(amount) => self.check_rule(amount),
-            BookOperation::BookRate(rate) => self.check_rule(self.rise(rate as u32)),
+            BookOperation::Book(amount) => BookingRequest { asked: self, more: amount }.check_rule(),
+            BookOperation::BookRate(rate) => {
+                let more = self.rise(rate as u32);
+                BookingRequest { asked: self, more }.check_rule()
+            }
             BookOperation::Release(amount) => check_held(
                 ports,
                 self.runs.slots,

@@ -23,12 +23,12 @@ impl Line {
     {
         match self {
             Line::Row => Pair {
-                input: pair.input,
                 output: Output(port),
+                ..pair
             },
             Line::Column => Pair {
                 input: Input(port),
-                output: pair.output,
+                ..pair
             },
         }
     }

@@ -2,13 +2,15 @@
 -- pairs fills them. Assumes nothing.
 use mathlib.Core.Path.{◌≡◌, refl, ◌∙◌, ap}
 use mathlib.Core.Bool.{Bool, true, false, ◌&&◌, and-false}
-use mathlib.Core.List.{List}
+use mathlib.Core.List.{List, ◌++◌}
 use mathlib.Core.Logic.{◌≢◌, ◌⊎◌, inl, inr}
 use Prim.Native.Nat.{ℕ, zero, suc, ◌+◌, ◌-◌, ◌*◌, ◌^◌, ◌≤◌, ◌<◌}
 use native.Mathlib.Omega.{arith}
 use native.Mathlib.Decide.{ℕ_discrete}
 use lib.Dec.{eqb}
-use lib.ListN.{length, get_or, set, replicate, length-set, get_or-replicate}
+use lib.ListN.{length, get_or, set, take, replicate, length-set, get_or-replicate}
+use Rattle.std.proofs.lemmas.List.{get_or-take, length-take, length-append}
+use Rattle.std.proofs.Math.ListN.{get_or-append}
 use lib.Seq.{get_or-set_same, get_or-set_other}
 use borrow.Author.Tests.{eq-eqb, ne_eqb}
 use Rattle.wsgs.specs.declared.Pair.{Pair}
@@ -71,11 +73,15 @@ module _ (q : BookingRequest) where
   unfolding column_sum
   column_few n y = sum_few (λ x. a x y) (λ x. after_few x y) n
 
+-- the first n words of 32 zeros
+pub none_long : (n : ℕ) → n ≤ 32 → length {A = ℕ} (take n (replicate 32 0)) ≡ n
+none_long n h = omega (arith, length-take {A = ℕ} n (replicate 32 0))
+
 -- A SWEEP over the bookings a of n ports
 module _ (n : ℕ) (a : ℕ → ℕ → ℕ) where
   -- at its start no row's sum is known, and those of the columns are 0
-  pub rows_begin : n ≤ 32 → RowSums n 0 a (replicate 32 0)
-  rows_begin h = record { long = h; at = λ k l. absurd (omega arith) }
+  pub rows_begin : n ≤ 32 → RowSums n 0 a (take n (replicate 32 0))
+  rows_begin h = record { long = omega (arith, none_long n h); at = λ k l. absurd (omega arith) }
 
   pub columns_begin : n ≤ 32 → ColumnSums n 0 a (replicate 32 0)
   unfolding column_sum sum
@@ -95,11 +101,28 @@ module _ (n : ℕ) (a : ℕ → ℕ → ℕ) where
     pub done : (k : ℕ) → k < j → get_or sums k 0 ≡ column_sum i a (k + 1)
     pub left : (k : ℕ) → j ≤ k → k < n → get_or sums k 0 ≡ column_sum (i - 1) a (k + 1)
 
-  pub row_begins : (i : ℕ) (sums : List ℕ) → ColumnSums n (i - 1) a sums → InRow i 0 sums
-  row_begins i sums h = record { long = h.long; done = λ k l. absurd (omega arith); left = λ k l p. h.at k p }
+  pub row_begins : (i : ℕ) (sums : List ℕ) → ColumnSums n (i - 1) a sums → InRow i 0 (take n sums)
+  row_begins i sums h =
+      record {
+        long = omega (arith, length-take n sums, h.long);
+        done = λ k l. absurd (omega arith);
+        left = λ k l p. get_or-take n sums k 0 p ∙ h.at k p;
+      }
 
-  pub row_ends : (i : ℕ) (sums : List ℕ) → InRow i n sums → ColumnSums n i a sums
-  row_ends i sums h = record { long = h.long; at = h.done }
+  -- what stands past the n words of a sweep is no matter
+  pub row_ends : (i : ℕ) (sums rest : List ℕ) → InRow i n sums → ColumnSums n i a (sums ++ rest)
+  row_ends i sums rest h =
+      record {
+        long = omega (arith, length-append sums rest, h.long);
+        at = λ k l. get_or-append sums rest 0 k (omega (arith, h.long)) ∙ h.done k l;
+      }
+
+  pub rows_end : (x : ℕ) (sums rest : List ℕ) → x ≤ n → RowSums n x a sums → RowSums n x a (sums ++ rest)
+  rows_end x sums rest p h =
+      record {
+        long = omega (arith, length-append sums rest, h.long);
+        at = λ k l. get_or-append sums rest 0 k (omega (arith, h.long)) ∙ h.at k l;
+      }
 
   -- one more row in a column's sum
   column_more : (i y : ℕ) → 1 ≤ i → column_sum i a y ≡ column_sum (i - 1) a y + a i y

@@ -1,7 +1,7 @@
--- `AskedPair::check_rule` meets its contract: the clock tells which rule is asked. Assumes nothing.
+-- `BookingRequest::check_rule` meets its contract: the clock tells which rule is asked. Assumes nothing.
 use mathlib.Core.Path.{◌∙◌}
 use Rattle.book.proofs.Laws.Sharing.{plain_rule, fine_rule}
-use Rattle.book.proofs.asked.AskedPair.check_rule.Goals as goal
+use Rattle.book.proofs.afterwards.BookingRequest.check_rule.Goals as goal
 
 pub returns-then-self-eq0 : goal.returns-then-self-eq0
 returns-then-self-eq0 c =

@@ -1,4 +1,4 @@
--- `AskedPair::check_sums` meets its contract. Assumes nothing.
+-- `BookingRequest::check_sums` meets its contract. Assumes nothing.
 use native.Mathlib.Omega.{arith}
 use Rattle.book.specs.declared.sums.Line.TheVariants.{Row, Column}
 use Rattle.book.specs.declared.asked.AskedPair.{AskedPair}
@@ -9,29 +9,29 @@ use Rattle.book.specs.Lines.{line_sum}
 use Prim.Native.Nat.{◌^◌, ◌<◌}
 use Rattle.book.proofs.Laws.Sums.{line_small}
 use Rattle.book.proofs.Laws.Amounts.{row_full, column_full, both_admit}
-use Rattle.book.proofs.asked.AskedPair.check_sums.Goals as goal
+use Rattle.book.proofs.afterwards.BookingRequest.check_sums.Goals as goal
 
 small : (p : AskedPair) (l : Line) → line_sum l p.clock.ports (present p) p.pair < 2 ^ 38
 small p l = line_small p.clock (book_lent p.runs) p.reached.ports.1 l p.pair
 
 pub overflow_add-sum : goal.overflow_add-sum
-overflow_add-sum c = omega (arith, c.sum.ensures.result, small c.args.self Row)
+overflow_add-sum c = omega (arith, c.sum.ensures.result, small c.args.self.asked Row)
 
 pub overflow_mul-sum : goal.overflow_mul-sum
-overflow_mul-sum c = omega (arith, c.sum.ensures.result, small c.args.self Row)
+overflow_mul-sum c = omega (arith, c.sum.ensures.result, small c.args.self.asked Row)
 
 pub overflow_add-sum-2 : goal.overflow_add-sum-2
-overflow_add-sum-2 c = omega (arith, c.sum-2.ensures.result, small c.args.self Column)
+overflow_add-sum-2 c = omega (arith, c.sum-2.ensures.result, small c.args.self.asked Column)
 
 pub overflow_mul-sum-2 : goal.overflow_mul-sum-2
-overflow_mul-sum-2 c = omega (arith, c.sum-2.ensures.result, small c.args.self Column)
+overflow_mul-sum-2 c = omega (arith, c.sum-2.ensures.result, small c.args.self.asked Column)
 
-pub returns-then-sum-more : goal.returns-then-sum-more
-returns-then-sum-more c =
+pub returns-then-sum-self : goal.returns-then-sum-self
+returns-then-sum-self c =
     record { refusal = row_full _ _ _ _ _ (omega (arith, c.sum.ensures.result)) }
 
-pub returns-then-sum-more-2 : goal.returns-then-sum-more-2
-returns-then-sum-more-2 c =
+pub returns-then-sum-self-2 : goal.returns-then-sum-self-2
+returns-then-sum-self-2 c =
     record { refusal = column_full _ _ _ _ _ (omega (arith, c.sum.ensures.result)) (omega (arith, c.sum-2.ensures.result)) }
 
 pub returns : goal.returns
