@@ -50,13 +50,6 @@ module _ (f b r : ℕ) where
         (div-lt_iff_lt-mul {k = b} {x = x + (b - 1)} {y = suc x} h).1 (omega (arith, suc-mul x b, mul-le-mul_left {m = 1} {n = b} x h)),
       )
 
-  -- products of words, and of a summed rate with a frame in range
-  pub words_product : r ≤ 4294967295 → f ≤ 4294967295 → r * f ≤ 18446744065119617025
-  words_product h g = omega (arith, mul-le-mul_right f h, mul-le-mul_left {n = 4294967295} 4294967295 g)
-
-  pub sum_product : r ≤ 8589934590 → f ≤ 10000 → r * f ≤ 85899345900000
-  sum_product h g = omega (arith, mul-le-mul_right f h, mul-le-mul_left {n = 10000} 8589934590 g)
-
 -- the rise of a booking
 module _ (f b s r more : ℕ) where
   pub long_frame : 10000 < f → rise_of f b s r more ≡ 0
