@@ -8,9 +8,8 @@ use Rattle.wsgs.specs.declared.Clock.{Clock}
 use Rattle.wsgs.specs.Words.{word}
 use Rattle.wsgs.specs.Bookings.{Book, bookings, row_sum, column_sum}
 use Rattle.wsgs.specs.Basics.{between}
-use Rattle.wsgs.specs.Questions.{rate_in_range}
 use Rattle.wsgs.specs.Book.{rise}
-use Rattle.wsgs.proofs.Laws.Tests.{both, in_range}
+use Rattle.wsgs.proofs.Laws.Tests.{in_range}
 use Rattle.bookings.specs.Rises.{rise_of}
 use Rattle.bookings.proofs.Laws.{rise_is}
 use Rattle.book.specs.Refusals.{sums_refusal, held_refusal, queue_refusal}
