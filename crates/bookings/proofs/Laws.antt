@@ -2,7 +2,7 @@
 use mathlib.Core.Path.{◌≡◌, refl, sym, ◌∙◌, ap, ap₂}
 use mathlib.Core.Bool.{Bool, true, false, ◌||◌, true≢false}
 use mathlib.Core.List.{List, [], ◌∷◌, ◌++◌}
-use mathlib.Core.Logic.{inl, inr}
+use mathlib.Core.Logic.{◌⊎◌, inl, inr}
 use Prim.Native.Nat.{ℕ, zero, suc, ◌+◌, ◌-◌, ◌*◌, ◌/◌, min, ◌≤◌, ◌<◌}
 use native.Mathlib.Nat.{mul-le-mul_left, mul-le-mul_right, suc-mul, div-lt_iff_lt-mul}
 use native.Mathlib.Omega.{arith}
@@ -11,6 +11,11 @@ use lib.Dec.{ltb}
 use lib.Bits.{bit_or, or_zero_l, or_add_and, and_le_l, and_le_r}
 use lib.ListN.{length, get_or, set, take, drop}
 use borrow.Author.Tests.{eq-eqb, ne_eqb, le-leb, lt-leb, lt-ltb, le-ltb, ltb-false}
+use Rattle.std.specs.List.{fold, zip, enumerate_from, slice_range}
+use Rattle.std.proofs.lemmas.List.{get_or_default, get_or-take, length-take}
+use Rattle.std.proofs.lemmas.List.FromFn.{length-enumerate_from, get_or-enumerate_from}
+use Rattle.std.proofs.lemmas.Slice.Zip.{length-zip, get_or-zip}
+use Rattle.std.proofs.lemmas.List.Sums.{fold_more}
 use Rattle.wsgs.specs.Basics.{Port, some_of}
 use Rattle.wsgs.specs.Words.{copied}
 use Rattle.wsgs.specs.Bookings.{rate_slots, booking, booking_words}
@@ -21,12 +26,16 @@ use Rattle.bookings.specs.Rises.{rise_of, has_rate}
 
 module _ (f b r : ℕ) where
   -- no rate, and no line, take no slots
-  pub no_rate : r ≡ 0 → rate_slots f b r ≡ 0
+  no_rate : r ≡ 0 → rate_slots f b r ≡ 0
   no_rate e = ap (rate_slots f b) e ∙ rate_slots_none f b
 
-  pub no_line : b ≡ 0 → rate_slots f b r ≡ 0
+  no_line : b ≡ 0 → rate_slots f b r ≡ 0
   unfolding rate_slots
   no_line e = rw (eq-eqb b 0 e)
+
+  pub nothing_divided : (r ≡ 0) ⊎ ((r ≡ 0 → ⊥) × (b ≡ 0)) → rate_slots f b r ≡ 0
+  nothing_divided (inl e) = no_rate e
+  nothing_divided (inr e) = no_line e.1
 
   -- any other takes its quotient, which is at most the product
   pub divided : 1 ≤ b → rate_slots f b r ≡ (r * f + (b - 1)) / b
@@ -75,6 +84,17 @@ union_more m k u e =
     let same : k ≡ suc k - 1 = omega arith in
     or_none u (get_or m k 0) ∙ ap₂ ◌||◌ (ap (λ (x : ℕ). ltb 0 (get_or m x 0)) same) e
 
+-- the union of the first words
+pub union_of_first : (m : List ℕ) (count : ℕ) → count ≤ length m
+    → ltb 0 (fold bit_or 0 (take count m)) ≡ some_of (λ k. ltb 0 (get_or m (k - 1) 0)) count
+unfolding some_of
+union_of_first m zero h = refl
+union_of_first m (suc k) h =
+    let same : suc k ≡ k + 1 = omega arith in
+    ap (λ (x : ℕ). ltb 0 (fold bit_or 0 (take x m))) same
+    ∙ ap (ltb 0) (fold_more bit_or 0 m k 0 (omega arith))
+    ∙ union_more m k (fold bit_or 0 (take k m)) (union_of_first m k (omega arith))
+
 -- a word among those that no test passes
 unrated_at : (p : ℕ → Bool) (n x : ℕ) → some_of p n ≡ false → Port n x → p x ≡ false
 unfolding some_of
@@ -95,9 +115,11 @@ module _ (m : List ℕ) (count : ℕ) where
   unfolding has_rate
   rate_short h = rw (lt-ltb (length m) count h)
 
-  pub rate_found : count ≤ length m → (b : Bool) → b ≡ some_of (λ k. ltb 0 (get_or m (k - 1) 0)) count → b ≡ has_rate count m
+  pub rate_found : count ≤ length m → ltb 0 (fold bit_or 0 (slice_range m 0 count)) ≡ has_rate count m
   unfolding has_rate
-  rate_found h b e = rw (le-ltb (length m) count h) e
+  rate_found h =
+      rw (le-ltb (length m) count h)
+      (ap (λ (x : ℕ). ltb 0 (fold bit_or 0 (take x m))) (omega arith) ∙ union_of_first m count h)
 
 -- bookings copied over the words of a run
 module _ (f b : ℕ) (slots rates to : List ℕ) where
@@ -111,18 +133,40 @@ module _ (f b : ℕ) (slots rates to : List ℕ) where
       ap (set (copied k all to) k) (e ∙ sym (booking_at f b slots rates k p q))
       ∙ copy_more all to k (omega (arith, booking_words_length f b slots rates)) r
 
+  -- the turn of a loop over the first count slots and their rates, at place k
+  pub booking_turn : (count k v : ℕ) (at : ℕ × (ℕ × ℕ)) → let pairs = enumerate_from 0 (zip (take count slots) rates) in
+      count ≤ length slots → count ≤ length rates → count ≤ length to → (k < length pairs) × (at ≡ get_or pairs k at) → v ≡ booking f b at.1.0 at.1.1
+      → set (copied k all to) at.0 v ≡ copied (suc k) all to
+  booking_turn count k v at p q r t e =
+      let pairs = zip (take count slots) rates in
+      let size = length-zip (take count slots) rates in
+      let few = length-take count slots in
+      let inside : k < length pairs = omega (arith, length-enumerate_from 0 pairs) in
+      let found = t.1 ∙ get_or-enumerate_from 0 pairs k at inside in
+      let pair = get_or-zip (take count slots) rates k at.1 (omega arith) (omega arith) in
+      let held : at.1.0 ≡ get_or slots k 0 =
+      ap (λ (x : ℕ × (ℕ × ℕ)). x.1.0) found ∙ ap (λ (x : ℕ × ℕ). x.0) pair ∙ get_or-take count slots k at.1.0 (omega arith) ∙ get_or_default slots k at.1.0 0 (omega arith) in
+      let rate : at.1.1 ≡ get_or rates k 0 =
+      ap (λ (x : ℕ × (ℕ × ℕ)). x.1.1) found ∙ ap (λ (x : ℕ × ℕ). x.1) pair ∙ get_or_default rates k at.1.1 0 (omega arith) in
+      let place : at.0 ≡ 0 + k = ap (λ (x : ℕ × (ℕ × ℕ)). x.0) found in
+      ap (λ (x : ℕ). set (copied k all to) x v) (omega arith)
+      ∙ booking_more_copied k v (omega arith) (omega arith) (omega arith) (e ∙ ap₂ (booking f b) held rate)
+
   -- where all runs are long enough, and where one is too short
   pub bookings_fit : (count : ℕ) → count ≤ length slots → count ≤ length rates → count ≤ length to → copied count all to ≡ copy_words count all to
   bookings_fit count p q r = sym (copy_fits count all to (omega (arith, booking_words_length f b slots rates)) r)
 
-  pub slots_short : (count : ℕ) → length slots < count → to ≡ copy_words count all to
-  slots_short count h = sym (copy_short count all to (inl (omega (arith, booking_words_length f b slots rates))))
+  pub bookings_short : (count : ℕ) → (count ≤ length slots → count ≤ length rates → count ≤ length to → ⊥) → to ≡ copy_words count all to
+  bookings_short count h = sym (copy_short count all to (go (dec_le count (length slots)) (dec_le count (length rates)) (dec_le count (length to))))
+    where
+      size : length all ≡ min (length slots) (length rates)
+      size = booking_words_length f b slots rates
 
-  pub rates_short : (count : ℕ) → length rates < count → to ≡ copy_words count all to
-  rates_short count h = sym (copy_short count all to (inl (omega (arith, booking_words_length f b slots rates))))
-
-  pub target_short : (count : ℕ) → length to < count → to ≡ copy_words count all to
-  target_short count h = sym (copy_short count all to (inr h))
+      go : Dec (count ≤ length slots) → Dec (count ≤ length rates) → Dec (count ≤ length to) → (length all < count) ⊎ (length to < count)
+      go (no p) q r = inl (omega (arith, size))
+      go (yes p) (no q) r = inl (omega (arith, size))
+      go (yes p) (yes q) (no r) = inr (omega arith)
+      go (yes p) (yes q) (yes r) = absurd (h p q r)
 
 -- WITHOUT A RATE the bookings are the slots, where these are words
 module _ (f b : ℕ) where

@@ -1,32 +1,37 @@
 -- Laws of starts: what a refused one leaves, and what an accepted one does. Assumes nothing.
 use mathlib.Core.Path.{◌≡◌, sym, ◌∙◌}
 use mathlib.Core.Bool.{Bool}
-use mathlib.Core.Logic.{◌≢◌}
 use mathlib.Core.List.{List}
 use Prim.Native.Nat.{ℕ, ◌*◌}
 use borrow.Author.Tests.{eq-eqb, ne_eqb}
+use Rattle.std.specs.Prelude.{Result, Ok, Err}
+use Rattle.std.specs.Result.{IsErrAnd}
 use Rattle.wsgs.specs.declared.Clock.{Clock}
+use Rattle.wsgs.specs.declared.Refused.{Refused}
 use Rattle.wsgs.specs.Clocks.{first_clock}
 use Rattle.wsgs.specs.Questions.{accepted, effect, Outcome, refused}
 use Rattle.wsgs.specs.Answers.{direct_runs_of, pipelined_runs_of, start_effect}
+use Rattle.wsgs.specs.Told.{number, start_told}
 use Rattle.wsgs.specs.Direct
 use Rattle.wsgs.specs.Pipelined
 use Rattle.words.specs.Runs.{clear_words}
 use Rattle.words.proofs.Laws.{clear_fits}
+use Rattle.questions.proofs.Laws.Answers.{number_some}
 use Rattle.questions.proofs.Laws.Runs.{direct_asked, pipelined_asked}
 
 -- a refused start leaves clock and runs
-pub start_stays : {Runs : Type 0} (r refusal : ℕ) (c : Clock) (w : Runs) (done : Outcome Runs) → r ≡ refusal → r ≢ 0
-    → effect (record { refusal = r; clock = c }) w ≡ start_effect (accepted refusal done (refused refusal c w))
-start_stays r refusal c w done e h = rw (ne_eqb refusal 0 (λ d. h (e ∙ d)), e)
+pub start_stays : {Runs : Type 0} (r : Result Clock Refused) (e : Refused) (refusal : ℕ) (c : Clock) (w : Runs) (done : Outcome Runs)
+    → IsErrAnd r (λ d. d ≡ e) → number e ≡ refusal → effect (start_told c r) w ≡ start_effect (accepted refusal done (refused refusal c w))
+start_stays (Ok k) e refusal c w done h n = absurd h
+start_stays (Err d) e refusal c w done h n = rw (h, n, ne_eqb refusal 0 (λ z. number_some e (n ∙ z)))
 
 -- DIRECT
 module _ (n f b : ℕ) (g : Bool) (w : Direct.Runs) (c : Clock) where
   -- what a refused one leaves
-  pub direct_stays : (r : ℕ) → r ≡ Direct.start_refusal n f b w → r ≢ 0
-      → effect (record { refusal = r; clock = c }) w ≡ start_effect (Direct.start n f b g c w)
+  pub direct_stays : (r : Result Clock Refused) (e : Refused) → IsErrAnd r (λ d. d ≡ e) → number e ≡ Direct.start_refusal n f b w
+      → effect (start_told c r) w ≡ start_effect (Direct.start n f b g c w)
   unfolding Direct.start
-  direct_stays r = start_stays r _ c w (Direct.started n f b g w)
+  direct_stays r e = start_stays r e _ c w (Direct.started n f b g w)
 
   -- and an accepted one
   pub direct_clears : 0 ≡ Direct.start_refusal n f b w
@@ -45,10 +50,10 @@ module _ (n f b : ℕ) (g : Bool) (w : Direct.Runs) (c : Clock) where
 -- PIPELINED
 module _ (n f b : ℕ) (g : Bool) (w : Pipelined.Runs) (c : Clock) where
   -- what a refused one leaves
-  pub pipelined_stays : (r : ℕ) → r ≡ Pipelined.start_refusal n f b w → r ≢ 0
-      → effect (record { refusal = r; clock = c }) w ≡ start_effect (Pipelined.start n f b g c w)
+  pub pipelined_stays : (r : Result Clock Refused) (e : Refused) → IsErrAnd r (λ d. d ≡ e) → number e ≡ Pipelined.start_refusal n f b w
+      → effect (start_told c r) w ≡ start_effect (Pipelined.start n f b g c w)
   unfolding Pipelined.start
-  pipelined_stays r = start_stays r _ c w (Pipelined.started n f b g w)
+  pipelined_stays r e = start_stays r e _ c w (Pipelined.started n f b g w)
 
   -- and an accepted one
   pub pipelined_clears : 0 ≡ Pipelined.start_refusal n f b w

@@ -2,44 +2,38 @@
 #![tactic(auto)]
 
 ghost use Rattle.std.specs.Prelude.{◌≡◌};
+ghost use Rattle.wsgs.specs.declared.Clock.{Clock};
 ghost use Rattle.wsgs.specs.Questions.{effect};
 ghost use Rattle.wsgs.specs.Answers.{start_effect, direct_runs_of, pipelined_runs_of};
+ghost use Rattle.wsgs.specs.Told.{kind_is_fine, start_told, SameTurnRuns, SamePipelineRuns};
 ghost use Rattle.wsgs.specs.Direct;
 ghost use Rattle.wsgs.specs.Pipelined;
 
 mod initial;
 
 use initial::{clear_pipeline, clear_runs, first_clock};
-use questions::{direct_start_refusal, pipelined_start_refusal};
-use wsgs::{Clock, StartResult};
+use questions::{check_direct_start, check_pipelined_start};
+use wsgs::{BookKind, BookRuns, Clock, PipelineRuns, Refused, TurnRuns};
 
-// Starts a direct switch, with a plain book or a fine one.
+// Starts a direct switch, with a plain book or a fine one. A refused start leaves the runs, and whatever clock c its caller has.
 pub fn start_direct(
     ports: u64,
     frame: u64,
     line: u64,
-    fine: bool,
-    clock: Clock,
+    kind: BookKind,
     slots: &mut [u32],
     rates: &mut [u32],
-    credits: &mut [u32],
-    queues: &mut [u32],
-    given: &mut [u32],
-) -> StartResult
-    ensures outcome { effect result
-        (direct_runs_of slots.new rates.new credits.new queues.new given.new)
-        ≡ start_effect (Direct.start ports frame line fine clock
-        (direct_runs_of slots.old rates.old credits.old queues.old given.old)) }
+    runs: &mut TurnRuns<'_>,
+) -> Result<Clock, Refused>
+    ensures loans { SameTurnRuns runs.old runs.new }
+    ensures outcome { (c : Clock) → effect (start_told c result)
+        (direct_runs_of slots.new rates.new runs.new.credits.now runs.new.queues.now runs.new.given.now)
+        ≡ start_effect (Direct.start ports frame line (kind_is_fine kind) c
+        (direct_runs_of slots.old rates.old runs.old.credits.now runs.old.queues.now runs.old.given.now)) }
 {
-    let refusal = direct_start_refusal(ports, frame, line, slots, rates, credits, queues, given);
-    if refusal != 0 {
-        return StartResult { refusal, clock };
-    }
-    clear_runs(ports, slots, rates, credits, queues, given);
-    StartResult {
-        refusal: 0,
-        clock: first_clock(ports, frame, line, fine),
-    }
+    check_direct_start(ports, frame, line, BookRuns { slots, rates }, runs)?;
+    clear_runs(ports, slots, rates, runs);
+    Ok(first_clock(ports, frame, line, kind))
 }
 
 // Starts a pipelined switch, with a plain book or a fine one.
@@ -47,33 +41,30 @@ pub fn start_pipelined(
     ports: u64,
     frame: u64,
     line: u64,
-    fine: bool,
-    clock: Clock,
+    kind: BookKind,
     slots: &mut [u32],
     rates: &mut [u32],
-    credits: &mut [u32],
-    queues: &mut [u32],
-    given: &mut [u32],
-    copy: &mut [u32],
-    flight: &mut [u32],
-) -> StartResult
-    ensures outcome { effect result
-        (pipelined_runs_of slots.new rates.new credits.new queues.new
-        given.new copy.new flight.new)
-        ≡ start_effect (Pipelined.start ports frame line fine clock
-        (pipelined_runs_of slots.old rates.old credits.old queues.old
-        given.old copy.old flight.old)) }
+    runs: &mut TurnRuns<'_>,
+    pipeline: &mut PipelineRuns<'_>,
+) -> Result<Clock, Refused>
+    ensures loans { SameTurnRuns runs.old runs.new }
+    ensures pipeline_loans { SamePipelineRuns pipeline.old pipeline.new }
+    ensures outcome { (c : Clock) → effect (start_told c result)
+        (pipelined_runs_of slots.new rates.new runs.new.credits.now runs.new.queues.now
+        runs.new.given.now pipeline.new.copy.now pipeline.new.flight.now)
+        ≡ start_effect (Pipelined.start ports frame line (kind_is_fine kind) c
+        (pipelined_runs_of slots.old rates.old runs.old.credits.now runs.old.queues.now
+        runs.old.given.now pipeline.old.copy.now pipeline.old.flight.now)) }
 {
-    let refusal = pipelined_start_refusal(
-        ports, frame, line, slots, rates, credits, queues, given, copy, flight,
-    );
-    if refusal != 0 {
-        return StartResult { refusal, clock };
-    }
-    clear_runs(ports, slots, rates, credits, queues, given);
-    clear_pipeline(ports, copy, flight);
-    StartResult {
-        refusal: 0,
-        clock: first_clock(ports, frame, line, fine),
-    }
+    check_pipelined_start(
+        ports,
+        frame,
+        line,
+        BookRuns { slots, rates },
+        runs,
+        pipeline,
+    )?;
+    clear_runs(ports, slots, rates, runs);
+    clear_pipeline(ports, pipeline);
+    Ok(first_clock(ports, frame, line, kind))
 }

@@ -4,8 +4,8 @@ use mathlib.Core.Path.{◌≡◌, refl, sym, ◌∙◌, ap}
 use mathlib.Core.Bool.{Bool, true, false, not, ◌&&◌, ◌||◌, and-true, and-false}
 use mathlib.Core.List.{List}
 use Prim.Native.Nat.{ℕ, zero, suc, ◌+◌, ◌-◌, ◌*◌, ◌/◌, ◌%◌, ◌^◌, ◌≤◌, ◌<◌}
-use native.Mathlib.Decide.{dec_lt, dec_le}
-use borrow.Author.Tests.{ne_eqb, lt-ltb}
+use native.Mathlib.Decide.{dec_le}
+use borrow.Author.Tests.{lt-ltb}
 use native.Mathlib.Nat.{zero-div}
 use native.Mathlib.Numerals.{add-one}
 use native.Mathlib.Omega.{arith}
@@ -13,6 +13,9 @@ use lib.Bits.{bit_and, bit_or, and_shr, and_mod, and_self, and_zero_l, and_zero_
 use lib.Count.{count_trailing_zeros}
 use lib.Dec.{T, eqb, ltb}
 use lib.ListN.{get_or}
+use Rattle.std.specs.Prelude.{Option, Some, None}
+use Rattle.std.specs.Option.{option_or}
+use Rattle.wsgs.specs.declared.Output.{Output}
 use Rattle.wsgs.specs.Basics.{pick, bit, Port, some_of, in_turn, later}
 use Rattle.wsgs.specs.Words.{place, word}
 use Rattle.wsgs.specs.Steps.{marked}
@@ -20,8 +23,9 @@ use Rattle.wsgs.proofs.Laws.Tests.{both}
 use Rattle.wsgs.proofs.Laws.Some.{some_there}
 use Rattle.wsgs.proofs.Laws.InTurn.{in_turn_ext, in_turn_lowest, in_turn_nobody, in_turn_above, in_turn_wide}
 use Rattle.wsgs.proofs.Laws.Marked.{marked_suc, marked_lt, marked_bit, marked_ext, marked_none}
-use Rattle.bookings.proofs.Laws.{or_none}
-use Rattle.turns.specs.Masks.{in_mask, all_free, ready_mask}
+use Rattle.words.proofs.Laws.{or_none}
+use Rattle.turns.specs.Masks.{in_mask, all_free, ready_mask, ready_row}
+use Rattle.turns.specs.Charges.{output_told, HasNumber}
 use Rattle.turns.specs.Requests.{common_in_turn}
 use Rattle.turns.proofs.BitLaws.{bits, mask_bit}
 use Rattle.turns.proofs.MaskLaws.{free_first, past_unset}
@@ -38,42 +42,33 @@ column_two v true false x y d e = rw (d, and_zero_l)
 column_two v false true x y d e = rw (e, and_zero_r)
 column_two v false false x y d e = rw (d, and_zero_l)
 
--- and by one test, which is also the test twice
-pub column_one : (v : ℕ) (a : Bool) (x : ℕ) → x ≡ pick a v 0 → x ≡ pick (a && a) v 0
-column_one v true x e = e
-column_one v false x e = e
+module _ (one two : List ℕ) where
+  abbrev both_there : ℕ → Bool
+  both_there k = ltb 0 (get_or one k 0) && ltb 0 (get_or two k 0)
 
-module _ (one two : List ℕ) (row : ℕ) where
   -- no column has been swept
-  pub ready_start : 0 ≡ ready_mask one two row 0
-  unfolding ready_mask marked
+  pub ready_start : 0 ≡ ready_row one two 0
+  unfolding marked
   ready_start = refl
 
   -- one column more, by an or with its bit
-  pub ready_next : (n w b : ℕ) → w ≡ ready_mask one two row n → b ≡ pick (both_above one two row n) (2 ^ n) 0 → bit_or w b ≡ ready_mask one two row (n + 1)
-  unfolding ready_mask
+  pub ready_next : (n w b : ℕ) → w ≡ ready_row one two n → b ≡ pick (both_there n) (2 ^ n) 0 → bit_or w b ≡ ready_row one two (n + 1)
   ready_next n w b e f =
-      let p : ℕ → Bool = λ j. both_above one two row (j - 1) in
+      let p : ℕ → Bool = λ j. both_there (j - 1) in
       let d : suc n - 1 ≡ n = omega arith in
       rw (e, f, add-one n)
-      (ap (bit_or (marked n p)) (chosen (both_above one two row n) ∙ ap (λ z. bit (both_above one two row z) * 2 ^ n) (sym d))
+      (ap (bit_or (marked n p)) (chosen (both_there n) ∙ ap (λ z. bit (both_there z) * 2 ^ n) (sym d))
       ∙ or_shifted_r (bit (p (suc n))) n (marked n p) (marked_lt n p) ∙ sym (marked_suc n p))
     where
       chosen : (a : Bool) → pick a (2 ^ n) 0 ≡ bit a * 2 ^ n
       chosen true = omega arith
       chosen false = omega arith
 
-  -- by where the row begins
-  pub ready_at : (n place : ℕ) {r : ℕ} → row ≡ place → r ≡ ready_mask one two row n → r ≡ ready_mask one two place n
-  ready_at n place e h = h ∙ ap (λ z. ready_mask one two z n) e
-
-  -- a row of which the first run has nothing is not ready anywhere
-  pub nothing_ready : (n : ℕ) → some_of (λ j. ltb 0 (get_or one (row + (j - 1)) 0)) n ≡ false → 0 ≡ ready_mask one two row n
-  unfolding ready_mask
-  nothing_ready n h = sym (marked_ext n _ (λ j. false) (λ j p. none j (ltb 0 (get_or one (row + (j - 1)) 0)) (some_there _ n j p)) ∙ marked_none n)
+  -- a row that has nothing is not ready anywhere
+  pub nothing_ready : (n : ℕ) → some_of (λ j. ltb 0 (get_or one (j - 1) 0)) n ≡ false → 0 ≡ ready_row one two n
+  nothing_ready n h = sym (marked_ext n _ (λ j. false) (λ j p. none j (ltb 0 (get_or one (j - 1) 0)) (some_there _ n j p)) ∙ marked_none n)
     where
-      none : (j : ℕ) (b : Bool) → (T b → T (some_of (λ j. ltb 0 (get_or one (row + (j - 1)) 0)) n))
-          → (b && ltb 0 (get_or two (row + (j - 1)) 0)) ≡ false
+      none : (j : ℕ) (b : Bool) → (T b → T (some_of (λ j. ltb 0 (get_or one (j - 1) 0)) n)) → (b && ltb 0 (get_or two (j - 1) 0)) ≡ false
       none j true f = absurd (rw h at (f tt))
       none j false f = refl
 
@@ -82,16 +77,16 @@ pub ready_pairs : (n i : ℕ) (one two : List ℕ) → ready_mask one two ((i - 
 unfolding ready_mask word place
 ready_pairs n i one two = refl
 
--- whether a row has something, one column after the other: the or of its words so far is above 0
-module _ (run : List ℕ) (row : ℕ) where
+-- whether a row has something, one word after the other: the or of its words so far is above 0
+module _ (run : List ℕ) where
   abbrev above_zero : ℕ → Bool
-  above_zero j = ltb 0 (get_or run (row + (j - 1)) 0)
+  above_zero j = ltb 0 (get_or run (j - 1) 0)
 
   pub none_yet : ltb 0 0 ≡ some_of above_zero 0
   unfolding some_of
   none_yet = refl
 
-  pub some_next : (n found word : ℕ) → ltb 0 found ≡ some_of above_zero n → word ≡ get_or run (row + n) 0
+  pub some_next : (n found word : ℕ) → ltb 0 found ≡ some_of above_zero n → word ≡ get_or run n 0
       → ltb 0 (bit_or found word) ≡ some_of above_zero (n + 1)
   unfolding some_of
   some_next n found word e f =
@@ -156,7 +151,7 @@ either_output a b zero h = absurd (omega arith)
 either_output a b (suc k) h = rw (mask_bit a k, mask_bit b k, mask_bit (bit_or a b) k) (either_bit a b k)
 
 -- THE SEARCH. The lowest output of a word that is not 0 is that of its lowest bit
-lowest_is : (w : ℕ) → 1 ≤ w → w < 2 ^ 32 → in_turn (in_mask w) 32 0 ≡ suc (count_trailing_zeros 32 w)
+pub lowest_is : (w : ℕ) → 1 ≤ w → w < 2 ^ 32 → in_turn (in_mask w) 32 0 ≡ suc (count_trailing_zeros 32 w)
 lowest_is w h fits =
     let low = lowest_within 32 w fits h in
     in_turn_lowest (in_mask w) 32 (suc (count_trailing_zeros 32 w)) (omega (arith, low)) (rw (mask_bit w (count_trailing_zeros 32 w), lowest_set 32 w low) tt) below
@@ -170,26 +165,23 @@ unset_in_0 : (y : ℕ) → 1 ≤ y → T (not (in_mask 0 y))
 unset_in_0 zero h = absurd (omega arith)
 unset_in_0 (suc k) h = rw (mask_bit 0 k, no_bits k) tt
 
--- of the outputs of a word that is not 0, the lowest above the last one, else the lowest, is the first in turn
-pub first_of_pool : (w last higher pool : ℕ) → 1 ≤ w → w < 2 ^ 32 → ((j : ℕ) → Port 32 j → in_mask higher j ≡ (ltb last j && in_mask w j)) → higher ≤ w
-    → pool ≡ pick (eqb higher 0) w higher → suc (count_trailing_zeros 32 pool) ≡ in_turn (in_mask w) 32 last
-first_of_pool w last higher pool h fits above within e = ap (λ v. suc (count_trailing_zeros 32 v)) e ∙ go (dec_lt 0 higher) ∙ sym in_order
-  where
-    in_order : in_turn (in_mask w) 32 last ≡ later (in_turn (in_mask higher) 32 0) (in_turn (in_mask w) 32 0)
-    in_order =
-        in_turn_above (in_mask w) 32 last
-        ∙ ap (λ v. later v (in_turn (in_mask w) 32 0)) (in_turn_ext _ _ 32 0 0 (λ y p. sym (above y p)) refl)
-
-    go : Dec (0 < higher)
-        → suc (count_trailing_zeros 32 (pick (eqb higher 0) w higher)) ≡ later (in_turn (in_mask higher) 32 0) (in_turn (in_mask w) 32 0)
-    go (yes s) = rw (ne_eqb higher 0 (λ z. absurd (omega arith)), lowest_is higher s (omega arith), lt-ltb 0 (suc (count_trailing_zeros 32 higher)) (omega arith))
-    go (no s) =
-        let z : higher ≡ 0 = omega arith in
-        rw (z, in_turn_nobody (in_mask 0) 32 0 (λ y p. unset_in_0 y p.low), lowest_is w h fits)
-
 -- an empty word has none in turn
 pub none_in_turn : (w last : ℕ) → w ≡ 0 → 0 ≡ in_turn (in_mask w) 32 last
 none_in_turn w last e = sym (in_turn_nobody (in_mask w) 32 last (λ y p. rw e (unset_in_0 y p.low)))
+
+-- of the outputs of a word, the lowest above the last one, else the lowest, is the first in turn
+pub first_of : (w last higher : ℕ) → ((j : ℕ) → Port 32 j → in_mask higher j ≡ (ltb last j && in_mask w j)) → (one two : Option Output)
+    → output_told one ≡ in_turn (in_mask higher) 32 0 → output_told two ≡ in_turn (in_mask w) 32 0 → HasNumber one
+    → output_told (option_or one two) ≡ in_turn (in_mask w) 32 last
+first_of w last higher above one two e d h =
+    go one e h
+    ∙ sym (in_turn_above (in_mask w) 32 last
+    ∙ ap (λ v. later v (in_turn (in_mask w) 32 0)) (in_turn_ext _ _ 32 0 0 (λ y p. sym (above y p)) refl))
+  where
+    go : (o : Option Output) → output_told o ≡ in_turn (in_mask higher) 32 0 → HasNumber o
+        → output_told (option_or o two) ≡ later (in_turn (in_mask higher) 32 0) (in_turn (in_mask w) 32 0)
+    go None k s = rw (← k) d
+    go (Some j) k s = rw (← k, lt-ltb 0 j.0 s)
 
 -- the free outputs of n ports, and those of them that are asked for
 module _ (n : ℕ) (few : n ≤ 32) (free all : ℕ) (full : all ≡ all_free n) where

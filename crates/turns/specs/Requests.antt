@@ -1,6 +1,6 @@
 -- What a turn goes by and what it answers, for any runs and any numbers. Assumes nothing.
-use Rattle.std.specs.Prelude.{Bool, ◌&&◌, List, ℕ, ◌*◌, leb, ltb, length}
-use Rattle.wsgs.specs.Basics.{pick, in_turn, looks}
+use Rattle.std.specs.Prelude.{◌≡◌, ◌≤◌, Bool, ◌&&◌, List, ℕ, ◌+◌, ◌-◌, ◌*◌, leb, ltb, length, slice_range}
+use Rattle.wsgs.specs.Basics.{pick, Port, in_turn, looks}
 use Rattle.wsgs.specs.Words.{word, port_word}
 use Rattle.wsgs.specs.Steps.{marked}
 use Rattle.words.specs.Places.{is_port}
@@ -10,6 +10,17 @@ use Rattle.turns.specs.Masks.{in_mask}
 unfoldable pub has_turn : (n i words : ℕ) → Bool
 unfolding is_port
 has_turn n i words = is_port n i && leb (n * n) words
+
+-- which says that
+pub record Turn (n i words : ℕ) : Type 0 where
+  pub few : n ≤ 32
+  pub port : Port n i
+  pub long : n * n ≤ words
+
+-- and this is the input's row
+pub record RowOf (n i : ℕ) (run row : List ℕ) : Type 0 where
+  pub turn : Turn n i (length run)
+  pub words : row ≡ slice_range run ((i - 1) * n) ((i - 1) * n + n)
 
 -- the first in turn of the outputs 1..n that stand in two sets, or 0
 abbrev pub common_in_turn : (free asked n last : ℕ) → ℕ

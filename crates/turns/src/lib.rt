@@ -1,112 +1,56 @@
 // An input's turn, in either pass: a sweep of its row tells what it asks for, the search gives the first open output in turn, and the input pays. An input
 // that is no port, more than 32 ports, or a run that is too short has no turn: nothing is asked for, nothing is looked at, and nothing changes.
-// Credits are loaded here too.
 #![tactic(auto)]
 
-mod charges;
-mod credits;
 mod given;
 pub mod masks;
+mod payments;
 mod search;
 mod sweep;
 
 ghost use Rattle.std.specs.Prelude.{◌≡◌};
-ghost use Rattle.wsgs.specs.Bookings.{booking_words};
-ghost use Rattle.words.specs.Runs.{copy_words};
+ghost use Rattle.wsgs.specs.Told.{SameTurnRuns};
 ghost use Rattle.turns.specs.Requests.{first_requested, second_requested, first_output, second_output, first_looks, second_looks};
-ghost use Rattle.turns.specs.Charges.{charged, noted};
+ghost use Rattle.turns.specs.Charges.{output_told, HasNumber, charged, noted};
 
-use bookings::has_rate;
-use charges::{spend_credit, take_packet};
-use credits::{load_first, load_first_bookings};
 use given::{last_given, note_given};
+use payments::{spend_credit, take_packet};
 use search::choose;
-use sweep::{has_credit, has_turn, ready_in, waiting_in};
-use words::places::row_of;
-use wsgs::{Input, Output};
-
-// The credits at the first count places become those for the booked slots there; where either run has fewer, both stay as they are.
-pub fn load_credits(booked: &[u32], credits: &mut [u32], count: usize)
-    ensures credits_exit { credits.new ≡ copy_words count booked.now credits.old }
-{
-    if count <= booked.len() {
-        if count <= credits.len() {
-            load_first(booked, credits, count);
-        }
-    }
-}
-
-// The credits at the first count places become those for the bookings there, worked out from slots and rates; without a rate these are the slots.
-// Where a run has fewer, all stay as they are.
-pub fn load_bookings(
-    frame: u32,
-    line: u32,
-    slots: &[u32],
-    rates: &[u32],
-    credits: &mut [u32],
-    count: usize,
-)
-    ensures credits_exit { credits.new
-        ≡ copy_words count (booking_words frame line slots.now rates.now) credits.old }
-{
-    if has_rate(rates, count) {
-        load_worked_out(frame, line, slots, rates, credits, count);
-    } else {
-        load_credits(slots, credits, count);
-    }
-}
-
-// That, where there is a rate or a run has fewer words.
-fn load_worked_out(
-    frame: u32,
-    line: u32,
-    slots: &[u32],
-    rates: &[u32],
-    credits: &mut [u32],
-    count: usize,
-)
-    ensures credits_exit { credits.new
-        ≡ copy_words count (booking_words frame line slots.now rates.now) credits.old }
-{
-    if count <= slots.len() {
-        if count <= rates.len() {
-            if count <= credits.len() {
-                load_first_bookings(frame, line, slots, rates, credits, count);
-            }
-        }
-    }
-}
+use sweep::{has_credit, has_turn, ready_in, turn_row};
+use wsgs::{Input, Output, TurnRuns};
 
 // What an input asks for at its turn of pass one: the outputs for which it has a credit and a packet. An input
 // without a credit asks for nothing, and its queues are not read.
-pub fn first_requests(ports: usize, input: Input, credits: &[u32], queues: &[u32]) -> u32
-    ensures asked { result ≡ first_requested ports input.0 credits.now queues.now }
+pub fn first_requests(ports: usize, input: Input, runs: &TurnRuns<'_>) -> u32
+    ensures asked { result
+        ≡ first_requested ports input.0 runs.now.credits.now runs.now.queues.now }
 {
-    if !has_turn(ports, input, credits.len()) || !has_turn(ports, input, queues.len()) {
+    let Some(left) = turn_row(ports, input, runs.credits) else {
+        return 0;
+    };
+    let Some(waiting) = turn_row(ports, input, runs.queues) else {
+        return 0;
+    };
+    if !has_credit(left) {
         return 0;
     }
-    let row = row_of(ports, input);
-    if !has_credit(ports, row, credits) {
-        return 0;
-    }
-    ready_in(ports, row, credits, queues)
+    ready_in(left, waiting)
 }
 
 // What it asks for at its turn of pass two: the outputs for which it has a packet.
 pub fn second_requests(ports: usize, input: Input, queues: &[u32]) -> u32
     ensures asked { result ≡ second_requested ports input.0 queues.now }
 {
-    if !has_turn(ports, input, queues.len()) {
+    let Some(waiting) = turn_row(ports, input, queues) else {
         return 0;
-    }
-    let row = row_of(ports, input);
-    waiting_in(ports, row, queues)
+    };
+    ready_in(waiting, waiting)
 }
 
-// What a turn gives: the output that the input takes, 0 for none, and the count of looks.
+// What a turn gives: the output that the input takes, if it takes one, and the count of looks.
 #[derive(Clone, Copy)]
 pub struct Choice {
-    pub output: Output,
+    pub output: Option<Output>,
     pub looks: u32,
 }
 
@@ -119,24 +63,25 @@ pub fn second_turn(
     queues: &mut [u32],
     given: &mut [u32],
 ) -> Choice
-    ensures output { result.output.0
+    ensures some { HasNumber result.output }
+    ensures output { output_told result.output
         ≡ second_output free asked ports input.0 queues.old given.old }
     ensures looks { result.looks
         ≡ second_looks free asked ports input.0 queues.old given.old }
-    ensures queues_exit { queues.new ≡ charged ports queues.old input.0 result.output.0 }
-    ensures given_exit { given.new ≡ noted given.old input.0 result.output.0 }
+    ensures queues_exit { queues.new ≡ charged ports queues.old input.0 (output_told result.output) }
+    ensures given_exit { given.new ≡ noted given.old input.0 (output_told result.output) }
 {
     if !has_turn(ports, input, queues.len()) || given.len() < ports {
         return Choice {
-            output: Output(0),
+            output: None,
             looks: 0,
         };
     }
     let last = last_given(given, input);
     let choice = choose(free, asked, ports, last);
-    if choice.output.0 > 0 {
-        take_packet(queues, ports, input, choice.output);
-        note_given(given, input, choice.output);
+    if let Some(output) = choice.output {
+        take_packet(queues, ports, input, output);
+        note_given(given, input, output);
     }
     choice
 }
@@ -147,27 +92,32 @@ pub fn first_turn(
     asked: u32,
     ports: usize,
     input: Input,
-    credits: &mut [u32],
-    queues: &mut [u32],
-    given: &mut [u32],
+    runs: &mut TurnRuns<'_>,
 ) -> Choice
-    ensures output { result.output.0
-        ≡ first_output free asked ports input.0 credits.old queues.old given.old }
+    ensures loans { SameTurnRuns runs.old runs.new }
+    ensures some { HasNumber result.output }
+    ensures output { output_told result.output
+        ≡ first_output free asked ports input.0
+        runs.old.credits.now runs.old.queues.now runs.old.given.now }
     ensures looks { result.looks
-        ≡ first_looks free asked ports input.0 credits.old queues.old given.old }
-    ensures credits_exit { credits.new ≡ charged ports credits.old input.0 result.output.0 }
-    ensures queues_exit { queues.new ≡ charged ports queues.old input.0 result.output.0 }
-    ensures given_exit { given.new ≡ noted given.old input.0 result.output.0 }
+        ≡ first_looks free asked ports input.0
+        runs.old.credits.now runs.old.queues.now runs.old.given.now }
+    ensures credits_exit { runs.new.credits.now
+        ≡ charged ports runs.old.credits.now input.0 (output_told result.output) }
+    ensures queues_exit { runs.new.queues.now
+        ≡ charged ports runs.old.queues.now input.0 (output_told result.output) }
+    ensures given_exit { runs.new.given.now
+        ≡ noted runs.old.given.now input.0 (output_told result.output) }
 {
-    if !has_turn(ports, input, credits.len()) {
+    if !has_turn(ports, input, runs.credits.len()) {
         return Choice {
-            output: Output(0),
+            output: None,
             looks: 0,
         };
     }
-    let choice = second_turn(free, asked, ports, input, queues, given);
-    if choice.output.0 > 0 {
-        spend_credit(credits, ports, input, choice.output);
+    let choice = second_turn(free, asked, ports, input, runs.queues, runs.given);
+    if let Some(output) = choice.output {
+        spend_credit(runs.credits, ports, input, output);
     }
     choice
 }

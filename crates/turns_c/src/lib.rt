@@ -4,10 +4,17 @@
 
 ghost use Rattle.std.specs.Prelude.{◌≡◌};
 ghost use Rattle.turns.specs.Requests.{first_requested, second_requested, first_output, second_output, first_looks, second_looks};
-ghost use Rattle.turns.specs.Charges.{charged, noted};
+ghost use Rattle.turns.specs.Charges.{output_told, charged, noted};
 
 use turns::{first_requests, first_turn, second_requests, second_turn};
-use wsgs::Input;
+use wsgs::{Input, Output, TurnRuns};
+
+// The number of an output as C has it, 0 for none.
+fn number(output: Option<Output>) -> u64
+    ensures result { result ≡ output_told output }
+{
+    output.map_or(0, |output| output.0)
+}
 
 // A turn of pass one: the output, 0 for none. The count of looks is written.
 pub fn kivdrag_test_first_turn(
@@ -29,10 +36,15 @@ pub fn kivdrag_test_first_turn(
     ensures queues_exit { queues.new ≡ charged ports queues.old input result }
     ensures given_exit { given.new ≡ noted given.old input result }
 {
-    let asked = first_requests(ports, Input(input), credits, queues);
-    let choice = first_turn(free, asked, ports, Input(input), credits, queues, given);
+    let mut runs = TurnRuns {
+        credits,
+        queues,
+        given,
+    };
+    let asked = first_requests(ports, Input(input), &runs);
+    let choice = first_turn(free, asked, ports, Input(input), &mut runs);
     *looks = choice.looks;
-    choice.output.0
+    number(choice.output)
 }
 
 // A turn of pass two.
@@ -54,5 +66,5 @@ pub fn kivdrag_test_second_turn(
     let asked = second_requests(ports, Input(input), queues);
     let choice = second_turn(free, asked, ports, Input(input), queues, given);
     *looks = choice.looks;
-    choice.output.0
+    number(choice.output)
 }

@@ -12,7 +12,7 @@ pub fn clear_words(run: &mut [u32], count: usize)
     ensures run_exit { run.new ≡ clear_words count run.old }
 {
     if count <= run.len() {
-        clear_first(run, count);
+        run[..count].fill(0);
     }
 }
 
@@ -22,28 +22,7 @@ pub fn copy_words(from: &[u32], to: &mut [u32], count: usize)
 {
     if count <= from.len() {
         if count <= to.len() {
-            copy_first(from, to, count);
+            to[..count].copy_from_slice(&from[..count]);
         }
-    }
-}
-
-// The first count words set to 0, of a run that has them.
-fn clear_first(run: &mut [u32], count: usize)
-    requires run_long { count ≤ length run.old }
-    ensures run_exit { run.new ≡ cleared count run.old }
-{
-    for at in 0..count {
-        run[at] = 0;
-    }
-}
-
-// The first count words copied, where both runs have them.
-fn copy_first(from: &[u32], to: &mut [u32], count: usize)
-    requires from_long { count ≤ length from.now }
-    requires to_long { count ≤ length to.old }
-    ensures to_exit { to.new ≡ copied count from.now to.old }
-{
-    for i in 0..count {
-        to[i] = from[i];
     }
 }

@@ -2,7 +2,7 @@
 ghost use Rattle.std.specs.Prelude.{◌≡◌, ◌+◌, ◌*◌, ◌≤◌};
 ghost use Rattle.words.specs.Places.{is_port, row_of, place_of};
 
-use wsgs::{Input, MAX_PORTS, Output};
+use wsgs::{Input, MAX_PORTS, Pair};
 
 // Whether a number is one of the ports, which are at most 32.
 pub fn is_port(ports: usize, number: u64) -> bool
@@ -29,14 +29,14 @@ pub fn row_of(ports: usize, input: Input) -> usize
 }
 
 // Where the word of a pair stands; 0 where one of the two is no port.
-pub fn place_of(ports: usize, input: Input, output: Output) -> usize
-    ensures place { result ≡ place_of ports input.0 output.0 }
+pub fn place_of(ports: usize, pair: Pair) -> usize
+    ensures place { result ≡ place_of ports pair.input.0 pair.output.0 }
 {
-    if !is_port(ports, input.0) {
+    if !is_port(ports, pair.input.0) {
         return 0;
     }
-    if !is_port(ports, output.0) {
+    if !is_port(ports, pair.output.0) {
         return 0;
     }
-    row_of(ports, input) + (output.0 - 1) as usize
+    row_of(ports, pair.input) + (pair.output.0 - 1) as usize
 }

@@ -1,7 +1,7 @@
 // The WSGS slot scheduler: the types that its definitions and its code share. The definitions stand in specs/, the theorems in proofs/.
 #![tactic(auto)]
 
-ghost use Rattle.wsgs.specs.Told.{HasNumber};
+ghost use Rattle.wsgs.specs.Told.{AreSlots, HasNumber};
 
 // The limits that calls are held to: ports of a switch; slots of a frame; packets that arrive by one call; packets in a queue; the rate of a
 // line, in kbit/s; and the slots that a clock can run.
@@ -41,6 +41,15 @@ pub struct BookedSlots(pub u64);
 
 #[derive(Clone, Copy)]
 pub struct Credits(pub u32);
+
+// A word of the book as what it is: slots that are booked.
+impl From<u32> for BookedSlots {
+    ghost from_gives = { AreSlots };
+
+    fn from(word: u32) -> BookedSlots {
+        BookedSlots(word as u64)
+    }
+}
 
 // The two ports of a call on a pair.
 #[derive(Clone, Copy)]

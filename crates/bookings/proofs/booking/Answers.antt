@@ -5,7 +5,4 @@ use Rattle.bookings.proofs.booking.Goals as goal
 
 pub booked-requires : goal.booked-requires
 booked-requires c =
-    let h = words_product c.args.frame 0 c.args.rate (omega arith) (omega arith) in record {
-      line_fits = omega arith;
-      rate_fits = omega (arith, h);
-    }
+    let h = words_product c.args.clock.frame 0 c.args.rate (omega arith) (omega arith) in record { rate_fits = omega (arith, h) }

@@ -1,29 +1,29 @@
 -- `bookings::copy_first` meets its contract. Assumes nothing.
-use Prim.Native.Nat.{ℕ}
-use mathlib.Core.Path.{◌≡◌, refl, ap, ◌∙◌}
-use native.Mathlib.Numerals.{add-one}
-use native.Mathlib.Omega.{arith}
-use borrow.Author.Rules.{rules}
-use lib.ListN.{length-set}
+use Rattle.std.proofs.Common.{◌≡◌, suc, ap, ◌∙◌, ◌++◌, ◌∷◌, [], arith, length, take}
+use Rattle.std.proofs.lemmas.List.{length_push, length-take}
+use Rattle.std.proofs.lemmas.List.FromFn.{length-enumerate_from}
+use Rattle.std.proofs.lemmas.Slice.Zip.{length-zip}
+use Rattle.std.proofs.lemmas.Iterator.{YieldsList-from_slice, YieldsList-from_zip}
+use Rattle.std.proofs.lemmas.Iterator.Consumers.{YieldsList-from_enumerate, YieldsList-turn, YieldsList-end}
+use Rattle.std.specs.List.{zip}
 use Rattle.wsgs.specs.Words.{copied}
 use Rattle.wsgs.specs.Bookings.{booking_words}
-use Rattle.bookings.proofs.Laws.{booking_more_copied}
+use Rattle.bookings.proofs.Laws.{booking_turn}
 use Rattle.bookings.proofs.copy_first.Goals as goal
 
-pub loop-at-init : goal.loop-at-init
-loop-at-init c =
-    (search rules, refl, refl)
-
 pub loop-at-preserved : goal.loop-at-preserved
-loop-at-preserved c = (
-  omega arith,
-  rw (c.loop-at.invariant.1, add-one c.loop-at.at)
-      (booking_more_copied c.args.frame c.args.line c.args.slots.now c.args.rates.now c.args.to.now c.loop-at.at c.booking-pair.result.0
-      (omega (arith, c.requires)) (omega (arith, c.requires)) (omega (arith, c.requires))
-      (rw c.slots_of.ensures.result at c.booking-pair.ensures.result)),
-  simp length-set c.loop-at.invariant.2,
-)
+loop-at-preserved c =
+    let a = c.args in
+    let t = YieldsList-turn (YieldsList-from_enumerate (YieldsList-from_zip (YieldsList-from_slice (take a.count a.book.slots.now) (cc)) (YieldsList-from_slice a.book.rates.now (cc))) (cc)) c.loop-at.yielded _ c.loop-at.yielded_by _ c.next.new.self _ c.in-Some.is c.next.ensures.steps in
+    let e = booking_turn a.clock.frame a.clock.line a.book.slots.now a.book.rates.now a.to.now a.count _ c.booking.result.0 _ (omega (arith, c.requires)) (omega (arith, c.requires)) (omega (arith, c.requires)) t (rw c.slots_of.ensures.result at c.booking.ensures.result) in
+    let more : length (c.loop-at.yielded ++ ((c.in-Some.at, (c.in-Some.held, c.in-Some.rate)) ∷ [])) ≡ suc (length c.loop-at.yielded) = omega (arith, length_push c.loop-at.yielded (c.in-Some.at, (c.in-Some.held, c.in-Some.rate))) in
+    rw (c.loop-at.invariant, more) e
 
 pub returns : goal.returns
 returns c =
-    let e : c.loop-at.at ≡ c.args.count = omega arith in record { to_exit = c.loop-at.invariant.1 ∙ ap (λ (k : ℕ). copied k (booking_words c.args.frame c.args.line c.args.slots.now c.args.rates.now) c.args.to.now) e }
+    let a = c.args in
+    let pairs = zip (take a.count a.book.slots.now) a.book.rates.now in
+    let t = YieldsList-end (YieldsList-from_enumerate (YieldsList-from_zip (YieldsList-from_slice (take a.count a.book.slots.now) (cc)) (YieldsList-from_slice a.book.rates.now (cc))) (cc)) c.loop-at.yielded _ c.loop-at.yielded_by _ c.next.new.self c.in-None.is c.next.ensures.steps in
+    let all : length c.loop-at.yielded ≡ a.count =
+    omega (arith, t.1, length-enumerate_from 0 pairs, length-zip (take a.count a.book.slots.now) a.book.rates.now, length-take a.count a.book.slots.now, c.requires) in
+    record { to_exit = c.loop-at.invariant ∙ ap (λ k. copied k (booking_words a.clock.frame a.clock.line a.book.slots.now a.book.rates.now) a.to.now) all }

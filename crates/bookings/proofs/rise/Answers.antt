@@ -6,8 +6,8 @@ use Rattle.wsgs.proofs.Laws.Bookings.{booking_mono}
 use Rattle.bookings.proofs.Laws.{sum_product, long_frame, rise_is}
 use Rattle.bookings.proofs.rise.Goals as goal
 
-pub returns-then-frame-gt-MAX_FRAME : goal.returns-then-frame-gt-MAX_FRAME
-returns-then-frame-gt-MAX_FRAME c =
+pub returns-then-clock-gt-MAX_FRAME : goal.returns-then-clock-gt-MAX_FRAME
+returns-then-clock-gt-MAX_FRAME c =
     record {
       result = sym (long_frame _ _ _ _ _ (omega arith));
       fits = omega arith;
@@ -15,10 +15,7 @@ returns-then-frame-gt-MAX_FRAME c =
 
 pub booked-raised-requires : goal.booked-raised-requires
 booked-raised-requires c =
-    let h = sum_product c.args.frame 0 (c.args.rate + c.args.more) (omega arith) (omega arith) in record {
-      line_fits = omega arith;
-      rate_fits = omega (arith, h);
-    }
+    let h = sum_product c.args.clock.frame 0 (c.args.rate + c.args.more) (omega arith) (omega arith) in record { rate_fits = omega (arith, h) }
 
 pub overflow_sub-result : goal.overflow_sub-result
 overflow_sub-result c =
@@ -27,6 +24,6 @@ overflow_sub-result c =
 pub returns : goal.returns
 returns c =
     record {
-      result = ap₂ ◌-◌ c.booked-raised.ensures.result c.booking-present.ensures.result ∙ sym (rise_is c.args.frame c.args.line c.args.slots.0 c.args.rate c.args.more (omega arith));
+      result = ap₂ ◌-◌ c.booked-raised.ensures.result c.booking-present.ensures.result ∙ sym (rise_is c.args.clock.frame c.args.clock.line c.args.slots.0 c.args.rate c.args.more (omega arith));
       fits = omega (arith, c.booked-raised.ensures.fits);
     }

@@ -2,16 +2,18 @@
 use mathlib.Core.Path.{◌≡◌, sym, ◌∙◌}
 use mathlib.Core.Bool.{Bool, true, false}
 use mathlib.Core.List.{List, [], ◌∷◌}
-use mathlib.Core.Logic.{◌≢◌}
 use Prim.Native.Nat.{ℕ}
 use native.Mathlib.Omega.{arith}
 use Rattle.wsgs.specs.declared.Clock.{Clock}
+use Rattle.wsgs.specs.declared.Refused.{Refused}
 use Rattle.wsgs.specs.Basics.{between}
+use Rattle.wsgs.specs.Told.{number}
 use Rattle.wsgs.specs.Questions.{Question, first_no, long_enough, pair_in_range, on_pair}
 use Rattle.wsgs.specs.Claims.{Reached}
 use Rattle.wsgs.proofs.Laws.Tests.{both, in_range, between_port}
 use Rattle.wsgs.proofs.Laws.Questions.{none_left, asked_no, asked_yes, all_yes, rest_decides, some_no}
 use Rattle.questions.specs.Refusals.{SizesInRange, on_sizes, sizes_refusal, pair_refusal}
+use Rattle.questions.proofs.Laws.Answers.{number_some}
 
 -- sizes that are accepted are in range
 pub sizes_asked : (n f : ℕ) → 0 ≡ sizes_refusal n f → SizesInRange n f
@@ -28,23 +30,23 @@ module _ (c : Clock) (enough : Bool) (i j : ℕ) where
   abbrev later : List Question
   later = long_enough enough ∷ pair_in_range c.ports i j ∷ []
 
-  pub pair_sized : (r : ℕ) → r ≡ sizes → r ≢ 0 → r ≡ pair_refusal c enough i j
+  pub pair_sized : (e : Refused) → number e ≡ sizes → number e ≡ pair_refusal c enough i j
   unfolding pair_refusal sizes_refusal
-  pair_sized r = some_no (on_sizes c.ports c.frame) later r
+  pair_sized e h = some_no (on_sizes c.ports c.frame) later (number e) h (number_some e)
 
   module _ (sized : 0 ≡ sizes) where
     after_sizes : first_no later ≡ pair_refusal c enough i j
     unfolding pair_refusal sizes_refusal
     after_sizes = rest_decides (on_sizes c.ports c.frame) later (omega arith) sized
 
-    pub pair_short : enough ≡ false → 4 ≡ pair_refusal c enough i j
-    pair_short e = asked_no _ _ e ∙ after_sizes
+    pub pair_short : false ≡ enough → 4 ≡ pair_refusal c enough i j
+    pair_short e = asked_no _ _ (sym e) ∙ after_sizes
 
-    pub pair_outside : enough ≡ true → (pair_in_range c.ports i j).yes ≡ false → 5 ≡ pair_refusal c enough i j
-    pair_outside e d = asked_no _ _ d ∙ asked_yes _ _ e ∙ after_sizes
+    pub pair_outside : true ≡ enough → false ≡ (pair_in_range c.ports i j).yes → 5 ≡ pair_refusal c enough i j
+    pair_outside e d = asked_no _ _ (sym d) ∙ asked_yes _ _ (sym e) ∙ after_sizes
 
-    pub pair_inside : enough ≡ true → (pair_in_range c.ports i j).yes ≡ true → 0 ≡ pair_refusal c enough i j
-    pair_inside e d = none_left ∙ asked_yes _ _ d ∙ asked_yes _ _ e ∙ after_sizes
+    pub pair_inside : true ≡ enough → true ≡ (pair_in_range c.ports i j).yes → 0 ≡ pair_refusal c enough i j
+    pair_inside e d = none_left ∙ asked_yes _ _ (sym d) ∙ asked_yes _ _ (sym e) ∙ after_sizes
 
 -- what an accepted pair is
 pub pair_asked : (c : Clock) (enough : Bool) (i j : ℕ) → 0 ≡ pair_refusal c enough i j → Reached c enough i j

@@ -1,46 +1,26 @@
 -- `starts::start_pipelined` meets its contract: the start is refused and all stays, or every used word is set to 0. Assumes nothing.
-use mathlib.Core.Path.{◌≡◌, sym, ◌∙◌}
 use Rattle.wsgs.specs.Answers.{pipelined_runs_of}
-use Rattle.wsgs.specs.Pipelined
-use Rattle.questions.specs.Refusals.{StartInRange}
 use Rattle.questions.proofs.Laws.Runs.{pipelined_asked}
 use Rattle.starts.proofs.Laws.{pipelined_stays, pipelined_clears}
 use Rattle.starts.proofs.start_pipelined.Goals as goal
-use Rattle.starts.proofs.start_pipelined.Goals.{Else-refusal-ne0}
 
--- the start is accepted
-passed : (c : Else-refusal-ne0) → 0 ≡ Pipelined.start_refusal c.args.ports c.args.frame c.args.line (pipelined_runs_of c.args.slots.now c.args.rates.now c.args.credits.now c.args.queues.now c.args.given.now c.args.copy.now c.args.flight.now)
-passed c =
-    sym c.if-refusal-ne0.false ∙ c.pipelined_start_refusal-refusal.ensures.result
-
--- so its numbers are in range
-numbers : (c : Else-refusal-ne0) → StartInRange c.args.ports c.args.frame c.args.line
-numbers c =
-    (pipelined_asked _ _ _ _ (passed c)).0
-
-pub returns-then-refusal-ne0 : goal.returns-then-refusal-ne0
-returns-then-refusal-ne0 c =
-    record { outcome = pipelined_stays _ _ _ _ (pipelined_runs_of c.args.slots.now c.args.rates.now c.args.credits.now c.args.queues.now c.args.given.now c.args.copy.now c.args.flight.now) _ _ c.pipelined_start_refusal-refusal.ensures.result c.if-refusal-ne0.true }
+pub returns-in_err-check_pipelined_start-clause-outcome : goal.returns-in_err-check_pipelined_start-clause-outcome
+returns-in_err-check_pipelined_start-clause-outcome c k =
+    pipelined_stays _ _ _ _ (pipelined_runs_of c.args.slots.now c.args.rates.now c.args.runs.now.credits.now c.args.runs.now.queues.now c.args.runs.now.given.now c.args.pipeline.now.copy.now c.args.pipeline.now.flight.now) k _ _ c.from_residual.ensures.1 c.in_err-check_pipelined_start.ensures.result
 
 pub clear_runs-requires : goal.clear_runs-requires
 clear_runs-requires c =
-    let numbers = numbers (goal.at.clear_runs-requires c).Else-refusal-ne0 in
-    record { ports_in_range = numbers.sizes.ports.1 }
+    record { ports_in_range = (pipelined_asked _ _ _ _ c.in_ok-check_pipelined_start.ensures.result).0.sizes.ports.1 }
 
 pub clear_pipeline-requires : goal.clear_pipeline-requires
 clear_pipeline-requires c =
-    let numbers = numbers (goal.at.clear_pipeline-requires c).Else-refusal-ne0 in
-    record { ports_in_range = numbers.sizes.ports.1 }
+    record { ports_in_range = (pipelined_asked _ _ _ _ c.in_ok-check_pipelined_start.ensures.result).0.sizes.ports.1 }
 
 pub first_clock-requires : goal.first_clock-requires
 first_clock-requires c =
-    let numbers = numbers (goal.at.first_clock-requires c).Else-refusal-ne0 in
-    record { start_in_range = numbers }
+    record { start_in_range = (pipelined_asked _ _ _ _ c.in_ok-check_pipelined_start.ensures.result).0 }
 
-pub returns : goal.returns
-returns c =
-    let passed = passed (goal.at.returns c).Else-refusal-ne0 in
-    record {
-      outcome = pipelined_clears _ _ _ _ (pipelined_runs_of c.args.slots.now c.args.rates.now c.args.credits.now c.args.queues.now c.args.given.now c.args.copy.now c.args.flight.now) _ passed _ c.first_clock.ensures.result
-          _ _ _ _ _ _ _ (c.clear_runs.ensures.slots_exit, (c.clear_runs.ensures.rates_exit, (c.clear_runs.ensures.credits_exit, (c.clear_runs.ensures.queues_exit, c.clear_runs.ensures.given_exit)))) (c.clear_pipeline.ensures.copy_exit, c.clear_pipeline.ensures.flight_exit);
-    }
+pub returns-clause-outcome : goal.returns-clause-outcome
+returns-clause-outcome c k =
+    pipelined_clears _ _ _ _ (pipelined_runs_of c.args.slots.now c.args.rates.now c.args.runs.now.credits.now c.args.runs.now.queues.now c.args.runs.now.given.now c.args.pipeline.now.copy.now c.args.pipeline.now.flight.now) k c.in_ok-check_pipelined_start.ensures.result _ c.first_clock.ensures.result
+        _ _ _ _ _ _ _ (c.clear_runs.ensures.slots_exit, (c.clear_runs.ensures.rates_exit, (c.clear_runs.ensures.credits_exit, (c.clear_runs.ensures.queues_exit, c.clear_runs.ensures.given_exit)))) (c.clear_pipeline.ensures.copy_exit, c.clear_pipeline.ensures.flight_exit)

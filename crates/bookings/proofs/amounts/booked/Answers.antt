@@ -10,4 +10,4 @@ returns-then-slots-gt-MAX_BOOKING-clause-result c = omega arith
 
 pub returns-clause-result : goal.returns-clause-result
 unfolding booking
-returns-clause-result c = omega (arith, c.counted.ensures, c.rate_slots.ensures.result)
+returns-clause-result c = omega (arith, c.min.ensures, c.rate_slots.ensures.result)

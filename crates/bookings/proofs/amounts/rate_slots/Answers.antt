@@ -1,22 +1,11 @@
 -- `amounts::rate_slots` meets its contract: without a rate or a line it is 0, else the quotient. Assumes nothing.
 use mathlib.Core.Path.{sym}
 use native.Mathlib.Omega.{arith}
-use Rattle.bookings.proofs.Laws.{no_rate, no_line, divided, quotient_few}
+use Rattle.bookings.proofs.Laws.{nothing_divided, divided, quotient_few}
 use Rattle.bookings.proofs.amounts.rate_slots.Goals as goal
 
-pub returns-then-rate-eq0 : goal.returns-then-rate-eq0
-returns-then-rate-eq0 c =
-    record {
-      result = sym (no_rate _ _ _ (omega arith));
-      few = omega arith;
-    }
-
-pub returns-then-line-eq0 : goal.returns-then-line-eq0
-returns-then-line-eq0 c =
-    record {
-      result = sym (no_line _ _ _ (omega arith));
-      few = omega arith;
-    }
+pub returns-then-rate-eq0-clause-result : goal.returns-then-rate-eq0-clause-result
+returns-then-rate-eq0-clause-result c = sym (nothing_divided _ _ _ c.then-rate-eq0.either)
 
 pub returns : goal.returns
 returns c =

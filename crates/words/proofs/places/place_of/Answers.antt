@@ -8,7 +8,7 @@ use mathlib.Core.Bool.{not}
 use Rattle.words.proofs.places.place_of.Goals as goal
 use Rattle.words.proofs.places.place_of.Goals.{Else-not-is_port-2}
 
-output : (c : Else-not-is_port-2) → IsPort c.args.ports c.args.output.0
+output : (c : Else-not-is_port-2) → IsPort c.args.ports c.args.pair.output.0
 output c =
     known _ _ c.is_port-2.ensures.tested (ap not c.if-not-is_port-2.false)
 
@@ -33,9 +33,9 @@ overflow_add-result c =
 
 pub returns : goal.returns
 returns c =
-    let input : IsPort c.args.ports c.args.input.0 = known _ _ c.is_port.ensures.tested (ap not c.if-not-is_port.false) in
+    let input : IsPort c.args.ports c.args.pair.input.0 = known _ _ c.is_port.ensures.tested (ap not c.if-not-is_port.false) in
     let output = output (goal.at.returns c).Else-not-is_port-2 in
     let p = input in record {
-      place = ap (λ row. row + (c.args.output.0 - 1)) (c.row_of.ensures.row ∙ row_is _ _ p.few p.port)
+      place = ap (λ row. row + (c.args.pair.output.0 - 1)) (c.row_of.ensures.row ∙ row_is _ _ p.few p.port)
           ∙ place_there _ _ _ p.yes output.yes;
     }
