@@ -11,6 +11,8 @@ use borrow.Author.Tests.{lt-ltb, le-ltb}
 use lib.Bits.{bit_or}
 use lib.Dec.{eqb, ltb}
 use lib.ListN.{length, get_or, set, replicate}
+use Rattle.wsgs.specs.declared.TurnRuns.{TurnRuns}
+use Rattle.wsgs.specs.Told.{SameTurnRuns}
 use Rattle.wsgs.specs.Basics.{pick, Port, in_turn, updated}
 use Rattle.wsgs.specs.Words.{word, port_word}
 use Rattle.wsgs.specs.Steps.{taken, pass_one, pass_two, marked}
@@ -28,6 +30,10 @@ use Rattle.turns.proofs.Costs.{charged_some, charged_none, noted_some, noted_non
 use Rattle.direct.proofs.PassStates.{taken_short, held_none, held_more}
 use Rattle.direct.proofs.Spent.{spent_length, spent_none, spent_row, spent_more}
 use Rattle.direct.proofs.Regiven.{regiven_own}
+
+-- the same loans after one turn more
+pub same_on : {a b c : TurnRuns} → SameTurnRuns a b → SameTurnRuns b c → SameTurnRuns a c
+same_on s t = record { credits = t.credits ∙ s.credits; queues = t.queues ∙ s.queues; given = t.given ∙ s.given }
 
 -- a value that is there already changes nothing
 updated_same : (f : ℕ → ℕ) (k v : ℕ) → f k ≡ v → updated f k v ≡ f

@@ -14,7 +14,13 @@ use Rattle.wsgs.specs.Words.{word, port_word, copied}
 use Rattle.wsgs.specs.Bookings.{booking_words}
 use Rattle.wsgs.specs.Frames.{first_of_frame}
 use Rattle.wsgs.specs.Steps.{Matching, empty_matching, pass_two, listed, marked, outputs_of, pass_word_of}
-use Rattle.wsgs.specs.Questions.{refused, effect}
+use Rattle.std.specs.Prelude.{Result, Ok, Err}
+use Rattle.std.specs.Result.{IsErrAnd}
+use Rattle.wsgs.specs.declared.Refused.{Refused}
+use Rattle.wsgs.specs.declared.Ticked.{Ticked}
+use Rattle.wsgs.specs.Told.{number, tick_told}
+use Rattle.wsgs.specs.Questions.{effect}
+use Rattle.questions.proofs.Laws.Answers.{number_some}
 use Rattle.wsgs.specs.Answers.{direct_runs_of, tick_effect}
 use Rattle.wsgs.specs.Direct.{Runs, loaded, paired, spent, tick_refusal, ticked, tick}
 use Rattle.wsgs.proofs.Steps.{two_keeps}
@@ -84,25 +90,18 @@ module _ (n f b k : ℕ) (w : Runs) where
       }
 
 -- A tick is refused or runs the slot, as its refusal says.
-module _ (k : Clock) (w : Runs) (r : ℕ) (asked : r ≡ tick_refusal k w) where
-  -- what it leaves
-  out_refused : 1 ≤ r → tick k w ≡ refused r k w
-  unfolding tick
-  out_refused h = rw (← asked, ne_eqb r 0 (omega arith))
-
-  out_ran : r ≤ 0 → tick k w ≡ ticked k w
-  unfolding tick
-  out_ran h = rw (← asked, eq-eqb r 0 (omega arith))
-
+module _ (k : Clock) (w : Runs) where
   -- a refused one answers zeros and the old clock
-  pub tick_refused : 1 ≤ r → effect (record { refusal = r; clock = k; outputs = replicate 32 0; first_pass = 0 }) w ≡ tick_effect (tick k w)
-  tick_refused h = rw (out_refused h, outputs_are empty_matching, mark_is empty_matching, listed_none 32, marked_none 32)
+  pub tick_refused : (r : Result Ticked Refused) (e : Refused) → IsErrAnd r (λ d. d ≡ e) → number e ≡ tick_refusal k w → effect (tick_told k r) w ≡ tick_effect (tick k w)
+  unfolding tick
+  tick_refused (Ok t) e h n = absurd h
+  tick_refused (Err d) e h n = rw (h, n, ne_eqb (tick_refusal k w) 0 (λ z. number_some e (n ∙ z)))
 
   -- another answers the slot
-  pub tick_ran : r ≤ 0 → (first : ℕ) (outputs credits queues given : List ℕ)
+  pub tick_ran : tick_refusal k w ≡ 0 → (first : ℕ) (outputs credits queues given : List ℕ)
       → SlotRun k.ports k.frame k.line (k.slot + 1) w outputs first credits queues given
       → effect (record { refusal = 0; clock = at_slot k (k.slot + 1); outputs = outputs; first_pass = first })
       (direct_runs_of w.book.slots w.book.rates credits queues given)
       ≡ tick_effect (tick k w)
-  unfolding ticked
-  tick_ran h first outputs credits queues given d = rw (out_ran h, d.answer, d.mark, d.credits_left, d.queues_left, d.given_left)
+  unfolding tick ticked
+  tick_ran h first outputs credits queues given d = rw (eq-eqb (tick_refusal k w) 0 h, d.answer, d.mark, d.credits_left, d.queues_left, d.given_left)

@@ -1,10 +1,27 @@
 -- What the passes of the direct form keep, and what a slot leaves. Assumes nothing.
-use Rattle.std.specs.Prelude.{◌≡◌, not, List, ℕ, ◌≤◌}
+use Rattle.std.specs.Prelude.{◌≡◌, not, List, ℕ, ◌*◌, ◌≤◌, length}
+use Rattle.wsgs.specs.declared.Clock.{Clock}
+use Rattle.wsgs.specs.Bookings.{Book}
 use Rattle.wsgs.specs.Basics.{Port}
 use Rattle.wsgs.specs.Words.{word, port_word}
 use Rattle.wsgs.specs.Steps.{taken, listed, pass_one, pass_two, outputs_of, pass_word_of}
 use Rattle.wsgs.specs.Direct.{Runs, loaded, paired, spent, regiven, first_outputs}
 use Rattle.turns.specs.Masks.{in_mask}
+
+-- the ports are few, and the queues and the outputs last given hold their words
+pub record QueuesFit (n : ℕ) (q g : List ℕ) : Type 0 where
+  pub few : n ≤ 32
+  pub queues : n * n ≤ length q
+  pub given : n ≤ length g
+
+-- a clock has come to a slot, and the book and the credits of its ports, which are few, hold their words
+pub record Loading (c : Clock) (book : Book) (m : List ℕ) : Type 0 where
+  pub few : c.ports ≤ 32
+  pub frame : 1 ≤ c.frame
+  pub slot : 1 ≤ c.slot
+  pub slots : c.ports * c.ports ≤ length book.slots
+  pub rates : c.ports * c.ports ≤ length book.rates
+  pub credits : c.ports * c.ports ≤ length m
 
 -- the outputs f that the inputs hold, as the mask of the free outputs, as the listed outputs, as the packets taken from the queues, and as the outputs
 -- last given

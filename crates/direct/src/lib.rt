@@ -9,92 +9,58 @@ ghost use Rattle.wsgs.specs.Words.{copied};
 ghost use Rattle.wsgs.specs.Bookings.{booking_words};
 ghost use Rattle.wsgs.specs.Frames.{first_of_frame};
 ghost use Rattle.wsgs.specs.Questions.{effect};
-ghost use Rattle.wsgs.specs.Answers.{direct_runs_of, tick_effect};
+ghost use Rattle.wsgs.specs.Answers.{tick_effect};
+ghost use Rattle.wsgs.specs.Told.{book_lent, direct_lent, tick_told, SameTurnRuns};
 ghost use Rattle.wsgs.specs.Direct;
-ghost use Rattle.direct.specs.Passes.{SlotRun};
+ghost use Rattle.direct.specs.Passes.{QueuesFit, Loading, SlotRun};
 
-use passes::{PassResult, pass_one, pass_two};
-use questions::direct_tick_refusal;
-use turns::load_bookings;
-use wsgs::{Clock, TickResult};
+use bookings::copy_bookings;
+use passes::{pass_one, pass_two};
+use questions::check_direct_tick;
+use wsgs::{BookRuns, Clock, Refused, Served, Ticked, TurnRuns};
 
 // Step 1: in the first slot of a frame the credits become the bookings, which are worked out from slots and rates.
-fn reload(clock: Clock, slots: &[u32], rates: &[u32], credits: &mut [u32])
-    requires ports { clock.ports ≤ 32 }
-    requires frame { 1 ≤ clock.frame }
-    requires slot { 1 ≤ clock.slot }
-    requires slots_fit { clock.ports * clock.ports ≤ length slots.now }
-    requires rates_fit { clock.ports * clock.ports ≤ length rates.now }
-    requires credits_fit { clock.ports * clock.ports ≤ length credits.old }
+fn reload(clock: Clock, book: BookRuns<'_>, credits: &mut [u32])
+    requires loading { Loading clock (book_lent book) credits.old }
     ensures credits_exit { credits.new ≡ pick (first_of_frame clock.frame clock.slot)
-        (copied (clock.ports * clock.ports) (booking_words clock.frame clock.line slots.now rates.now)
-        credits.old) credits.old }
+        (copied (clock.ports * clock.ports)
+        (booking_words clock.frame clock.line book.entry.slots.now book.entry.rates.now) credits.old) credits.old }
 {
     if (clock.slot - 1) % clock.frame == 0 {
         let ports = clock.ports as usize;
         let pairs = ports * ports;
-        load_bookings(clock.frame, clock.line, slots, rates, credits, pairs);
+        copy_bookings(clock, book, credits, pairs);
     }
 }
 
 // The nine steps for the slot that the clock has come to.
-fn run_slot(
-    clock: Clock,
-    slots: &[u32],
-    rates: &[u32],
-    credits: &mut [u32],
-    queues: &mut [u32],
-    given: &mut [u32],
-) -> PassResult
-    requires ports { clock.ports ≤ 32 }
-    requires frame { 1 ≤ clock.frame }
-    requires slot { 1 ≤ clock.slot }
-    requires slots_fit { clock.ports * clock.ports ≤ length slots.now }
-    requires rates_fit { clock.ports * clock.ports ≤ length rates.now }
-    requires credits_fit { clock.ports * clock.ports ≤ length credits.old }
-    requires queues_fit { clock.ports * clock.ports ≤ length queues.old }
-    requires given_fits { clock.ports ≤ length given.old }
-    ensures slot_run { SlotRun clock.ports clock.frame clock.line clock.slot
-        (direct_runs_of slots.now rates.now credits.old queues.old given.old)
-        result.outputs result.first_pass credits.new queues.new given.new }
+fn run_slot(clock: Clock, book: BookRuns<'_>, runs: &mut TurnRuns<'_>) -> Served
+    requires loading { Loading clock (book_lent book) runs.old.credits.now }
+    requires queues_fit { QueuesFit clock.ports runs.old.queues.now runs.old.given.now }
+    ensures loans { SameTurnRuns runs.old runs.new }
+    ensures slot_run { SlotRun clock.ports clock.frame clock.line clock.slot (direct_lent book.entry runs.old)
+        result.outputs result.first_pass runs.new.credits.now runs.new.queues.now runs.new.given.now }
 {
     let ports = clock.ports as usize;
-    reload(clock, slots, rates, credits);
-    let passed = pass_one(ports, credits, queues, given);
-    pass_two(passed, ports, queues, given)
+    reload(clock, book, runs.credits);
+    let passed = pass_one(ports, runs);
+    pass_two(passed, ports, runs.queues, runs.given).served
 }
 
 // A tick: the questions, then the slot. The clock goes in and comes back whole.
-pub fn tick(
-    clock: Clock,
-    slots: &[u32],
-    rates: &[u32],
-    credits: &mut [u32],
-    queues: &mut [u32],
-    given: &mut [u32],
-) -> TickResult
-    ensures outcome { effect result
-        (direct_runs_of slots.now rates.now credits.new queues.new given.new)
-        ≡ tick_effect (Direct.tick clock
-        (direct_runs_of slots.now rates.now credits.old queues.old given.old)) }
+pub fn tick(clock: Clock, book: BookRuns<'_>, runs: &mut TurnRuns<'_>) -> Result<Ticked, Refused>
+    ensures loans { SameTurnRuns runs.old runs.new }
+    ensures outcome { effect (tick_told clock result) (direct_lent book.entry runs.new)
+        ≡ tick_effect (Direct.tick clock (direct_lent book.entry runs.old)) }
 {
-    let refusal = direct_tick_refusal(clock, slots, rates, credits, queues, given);
-    if refusal > 0 {
-        return TickResult {
-            refusal,
-            clock,
-            outputs: [0; 32],
-            first_pass: 0,
-        };
-    }
-    let mut next = clock;
-    next.slot = clock.slot + 1;
-    let passed = run_slot(next, slots, rates, credits, queues, given);
-    let outputs = passed.outputs;
-    TickResult {
-        refusal: 0,
+    check_direct_tick(clock, book, runs)?;
+    let next = Clock {
+        slot: clock.slot + 1,
+        ..clock
+    };
+    let served = run_slot(next, book, runs);
+    Ok(Ticked {
         clock: next,
-        outputs,
-        first_pass: passed.first_pass,
-    }
+        served,
+    })
 }

@@ -2,57 +2,54 @@
 ghost use Rattle.std.specs.Prelude.{◌≡◌, ◌*◌, ◌≤◌, ltb, length};
 ghost use Rattle.wsgs.specs.Steps.{marked};
 ghost use Rattle.wsgs.specs.Direct.{spent};
-ghost use Rattle.direct.specs.Passes.{PassState, ones, PassTwo};
+ghost use Rattle.wsgs.specs.Told.{SameTurnRuns};
+ghost use Rattle.direct.specs.Passes.{QueuesFit, PassState, ones, PassTwo};
 
 use turns::masks::{all_free, take};
 use turns::{first_requests, first_turn, second_requests, second_turn};
-use wsgs::Input;
+use wsgs::{Input, Served, TurnRuns};
 
-// What a pass leaves: the outputs that are free; the output of each input from 1 on, 0 for none; and a word whose bit i - 1 tells that pass one
-// served input i.
+// What a pass leaves: the outputs that are free, and the pairs so far.
 #[derive(Clone, Copy)]
 pub struct PassResult {
     pub free: u32,
-    pub outputs: [u8; 32],
-    pub first_pass: u32,
+    pub served: Served,
 }
 
 // Pass one: the inputs in turn, each with the first in its order of the free outputs for which it has a credit and a packet.
-pub fn pass_one(
-    ports: usize,
-    credits: &mut [u32],
-    queues: &mut [u32],
-    given: &mut [u32],
-) -> PassResult
-    requires ports { ports ≤ 32 }
-    requires credits_fit { ports * ports ≤ length credits.old }
-    requires queues_fit { ports * ports ≤ length queues.old }
-    requires given_fits { ports ≤ length given.old }
-    ensures state { PassState ports queues.old given.old
-        (ones ports credits.old queues.old given.old)
-        result.free result.outputs queues.new given.new }
-    ensures first_pass { result.first_pass
-        ≡ marked 32 (λ i. ltb 0 (ones ports credits.old queues.old given.old i)) }
-    ensures credits_exit { credits.new
-        ≡ spent ports credits.old (ones ports credits.old queues.old given.old) ports }
+pub fn pass_one(ports: usize, runs: &mut TurnRuns<'_>) -> PassResult
+    requires credits_fit { ports * ports ≤ length runs.old.credits.now }
+    requires queues_fit { QueuesFit ports runs.old.queues.now runs.old.given.now }
+    ensures loans { SameTurnRuns runs.old runs.new }
+    ensures queues_fit { QueuesFit ports runs.new.queues.now runs.new.given.now }
+    ensures state { PassState ports runs.old.queues.now runs.old.given.now
+        (ones ports runs.old.credits.now runs.old.queues.now runs.old.given.now)
+        result.free result.served.outputs runs.new.queues.now runs.new.given.now }
+    ensures first_pass { result.served.first_pass
+        ≡ marked 32 (λ i. ltb 0 (ones ports runs.old.credits.now runs.old.queues.now runs.old.given.now i)) }
+    ensures credits_exit { runs.new.credits.now
+        ≡ spent ports runs.old.credits.now
+        (ones ports runs.old.credits.now runs.old.queues.now runs.old.given.now) ports }
 {
     let mut free = all_free(ports);
     let mut outputs = [0u8; 32];
     let mut first_pass = 0u32;
     for row in 0..ports {
         let input = Input(row as u64 + 1);
-        let asked = first_requests(ports, input, credits, queues);
-        let choice = first_turn(free, asked, ports, input, credits, queues, given);
-        if choice.output.0 > 0 {
-            free = take(free, choice.output);
-            outputs[row] = choice.output.0 as u8;
+        let asked = first_requests(ports, input, runs);
+        let choice = first_turn(free, asked, ports, input, runs);
+        if let Some(output) = choice.output {
+            free = take(free, output);
+            outputs[row] = output.0 as u8;
             first_pass |= 1 << row;
         }
     }
     PassResult {
         free,
-        outputs,
-        first_pass,
+        served: Served {
+            outputs,
+            first_pass,
+        },
     }
 }
 
@@ -63,15 +60,13 @@ pub fn pass_two(
     queues: &mut [u32],
     given: &mut [u32],
 ) -> PassResult
-    requires ports { ports ≤ 32 }
-    requires queues_fit { ports * ports ≤ length queues.old }
-    requires given_fits { ports ≤ length given.old }
-    ensures pass_two { PassTwo ports passed.free passed.outputs queues.old given.old
-        result.free result.outputs queues.new given.new }
-    ensures first_pass { result.first_pass ≡ passed.first_pass }
+    requires queues_fit { QueuesFit ports queues.old given.old }
+    ensures pass_two { PassTwo ports passed.free passed.served.outputs queues.old given.old
+        result.free result.served.outputs queues.new given.new }
+    ensures first_pass { result.served.first_pass ≡ passed.served.first_pass }
 {
     let mut free = passed.free;
-    let mut outputs = passed.outputs;
+    let mut outputs = passed.served.outputs;
     for row in 0..ports {
         if outputs[row] > 0 {
             continue;
@@ -79,14 +74,16 @@ pub fn pass_two(
         let input = Input(row as u64 + 1);
         let asked = second_requests(ports, input, queues);
         let choice = second_turn(free, asked, ports, input, queues, given);
-        if choice.output.0 > 0 {
-            free = take(free, choice.output);
-            outputs[row] = choice.output.0 as u8;
+        if let Some(output) = choice.output {
+            free = take(free, output);
+            outputs[row] = output.0 as u8;
         }
     }
     PassResult {
         free,
-        outputs,
-        first_pass: passed.first_pass,
+        served: Served {
+            outputs,
+            first_pass: passed.served.first_pass,
+        },
     }
 }

@@ -18,9 +18,6 @@ use wsgs::{
     TurnRuns,
 };
 
-// The largest number whose square fits 64 bits: no run has as many words as the square of a larger one.
-const MAX_ROOT: u64 = 4_294_967_295;
-
 // Whether a number is one of low to high.
 pub fn is_between(low: u64, high: u64, number: u64) -> bool
     ensures result { result ≡ between low high number }
@@ -28,11 +25,13 @@ pub fn is_between(low: u64, high: u64, number: u64) -> bool
     (low..=high).contains(&number)
 }
 
-// Whether a run holds the words of all pairs.
+// Whether a run holds the words of all pairs. No run has as many words as a square past 64 bits.
 pub fn holds_pairs(ports: u64, run: &[u32]) -> bool
     ensures result { result ≡ holds_pairs ports run.now }
 {
-    ports <= MAX_ROOT && ports * ports <= run.len() as u64
+    ports
+        .checked_mul(ports)
+        .is_some_and(|words| words <= run.len() as u64)
 }
 
 // Whether both runs of a book do.
@@ -104,6 +103,8 @@ pub fn check_pair(clock: Clock, enough: bool, pair: Pair) -> Result<(), Refused>
 }
 
 // The sizes and the runs of a direct switch: questions 1, 2 and 4.
+// Stays (d): one function for both forms would take an Option of the pipeline, ask twice whether it is there, and promise the refusal by cases;
+// so each form cites its own definition, in Direct or Pipelined, and a start or a tick of it is this and one question.
 fn check_direct_runs(
     ports: u64,
     frame: u64,
@@ -120,6 +121,7 @@ fn check_direct_runs(
 }
 
 // The start of a direct switch: those, and question 6.
+// Stays (d): as check_direct_runs; and ports, frame and line are the words of one call, read here and nowhere kept.
 pub fn check_direct_start(
     ports: u64,
     frame: u64,
@@ -134,6 +136,7 @@ pub fn check_direct_start(
 }
 
 // A tick of a direct switch: questions 1, 2, 4 and 7.
+// Stays (d): as check_direct_runs.
 pub fn check_direct_tick(
     clock: Clock,
     book: BookRuns<'_>,
@@ -146,6 +149,7 @@ pub fn check_direct_tick(
 }
 
 // The sizes and the runs of a pipelined switch: questions 1 to 4.
+// Stays (d): as check_direct_runs.
 fn check_pipelined_runs(
     ports: u64,
     frame: u64,
@@ -167,6 +171,7 @@ fn check_pipelined_runs(
 }
 
 // The start of a pipelined switch: those, and question 6.
+// Stays (d): as check_direct_start.
 pub fn check_pipelined_start(
     ports: u64,
     frame: u64,
@@ -183,6 +188,7 @@ pub fn check_pipelined_start(
 }
 
 // A tick of a pipelined switch: questions 1 to 4 and 7.
+// Stays (d): as check_direct_runs.
 pub fn check_pipelined_tick(
     clock: Clock,
     book: BookRuns<'_>,

@@ -8,6 +8,7 @@ use crate::{holds_book, holds_pairs, holds_ports};
 use wsgs::{BookRuns, PipelineRuns, TurnRuns};
 
 // Whether the runs of a direct switch are long enough.
+// Stays (d): no twin of pipelined_runs_suffice, which asks this and two runs more.
 pub fn direct_runs_suffice(ports: u64, book: BookRuns<'_>, runs: &TurnRuns<'_>) -> bool
     ensures result { result ≡ Direct.runs_suffice ports (direct_lent book.entry runs.now) }
 {
@@ -18,6 +19,7 @@ pub fn direct_runs_suffice(ports: u64, book: BookRuns<'_>, runs: &TurnRuns<'_>) 
 }
 
 // Whether those of a pipelined switch are.
+// Stays (d): ports is at most 32 by the question before, at the one call; a type to say so would be made for that call alone.
 pub fn pipelined_runs_suffice(
     ports: u64,
     book: BookRuns<'_>,

@@ -9,6 +9,7 @@ use words::clear_words;
 use wsgs::{BookKind, Clock, PipelineRuns, TurnRuns};
 
 // The clock of numbers in range, before the first slot, with the word for the kind of the book.
+// Stays (d): this is the constructor; a From would take the four as a tuple, without their names.
 pub fn first_clock(ports: u64, frame: u64, line: u64, kind: BookKind) -> Clock
     requires start_in_range { StartInRange ports frame line }
     ensures result { result ≡ first_clock ports frame line (kind_is_fine kind) }
@@ -23,6 +24,7 @@ pub fn first_clock(ports: u64, frame: u64, line: u64, kind: BookKind) -> Clock
 }
 
 // Sets the used words to 0 in the runs that both forms have: those of all pairs, and the output that each input was last given.
+// Stays (d): ports is at most 32 by the questions of the start that calls this; a type to say so would be made for these calls alone.
 pub fn clear_runs(ports: u64, slots: &mut [u32], rates: &mut [u32], runs: &mut TurnRuns<'_>)
     requires ports_in_range { ports ≤ 32 }
     ensures loans { SameTurnRuns runs.old runs.new }
@@ -41,6 +43,7 @@ pub fn clear_runs(ports: u64, slots: &mut [u32], rates: &mut [u32], runs: &mut T
 }
 
 // Sets to 0 what a pipelined switch has besides: the frame copy, and the rows in flight.
+// Stays (d): as clear_runs.
 pub fn clear_pipeline(ports: u64, pipeline: &mut PipelineRuns<'_>)
     requires ports_in_range { ports ≤ 32 }
     ensures loans { SamePipelineRuns pipeline.old pipeline.new }

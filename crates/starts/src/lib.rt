@@ -16,6 +16,9 @@ use questions::{check_direct_start, check_pipelined_start};
 use wsgs::{BookKind, BookRuns, Clock, PipelineRuns, Refused, TurnRuns};
 
 // Starts a direct switch, with a plain book or a fine one. A refused start leaves the runs, and whatever clock c its caller has.
+// Stays (d): start_pipelined is this with its own questions and a line more, and what both do is clear_runs and first_clock; one function would
+// take an Option of a pipeline to write to, and promise by cases what it holds. The book's runs are written at a start alone, so no struct has
+// them so (BookRuns is for reading); ports, frame and line are the words of one call, and nowhere kept.
 pub fn start_direct(
     ports: u64,
     frame: u64,
@@ -37,6 +40,7 @@ pub fn start_direct(
 }
 
 // Starts a pipelined switch, with a plain book or a fine one.
+// Stays (d): as start_direct.
 pub fn start_pipelined(
     ports: u64,
     frame: u64,

@@ -1,9 +1,14 @@
 -- What a turn costs and notes that takes an output, and one that takes none. Assumes nothing.
-use mathlib.Core.Path.{◌≡◌}
+use mathlib.Core.Path.{◌≡◌, refl}
+use mathlib.Core.Bool.{Bool, true, false}
 use mathlib.Core.List.{List}
-use Prim.Native.Nat.{ℕ, ◌≤◌}
+use Prim.Native.Nat.{ℕ, ◌-◌, ◌≤◌}
 use borrow.Author.Tests.{lt-ltb, le-ltb}
+use lib.Dec.{ltb}
+use lib.ListN.{length, length-set}
+use Rattle.wsgs.specs.Basics.{pick}
 use Rattle.wsgs.specs.Words.{less_one, put_port}
+use Rattle.wsgs.proofs.Laws.Words.{less_length}
 use Rattle.turns.specs.Charges.{charged, noted}
 
 module _ (n : ℕ) (m : List ℕ) (i j : ℕ) where
@@ -17,6 +22,15 @@ module _ (n : ℕ) (m : List ℕ) (i j : ℕ) where
   unfolding charged
   charged_none h = rw (le-ltb 0 j h)
 
+  -- either leaves as many words
+  pub charged_length : length (charged n m i j) ≡ length m
+  unfolding charged
+  charged_length = go (ltb 0 j)
+    where
+      go : (b : Bool) → length (pick b (less_one n m i j) m) ≡ length m
+      go true = less_length n m i j
+      go false = refl
+
 module _ (given : List ℕ) (i j : ℕ) where
   pub noted_some : 1 ≤ j → noted given i j ≡ put_port given i j
   unfolding noted
@@ -25,3 +39,11 @@ module _ (given : List ℕ) (i j : ℕ) where
   pub noted_none : j ≤ 0 → noted given i j ≡ given
   unfolding noted
   noted_none h = rw (le-ltb 0 j h)
+
+  pub noted_length : length (noted given i j) ≡ length given
+  unfolding noted put_port
+  noted_length = go (ltb 0 j)
+    where
+      go : (b : Bool) → length (pick b (put_port given i j) given) ≡ length given
+      go true = length-set given (i - 1) j
+      go false = refl

@@ -8,6 +8,7 @@ ghost use Rattle.wsgs.specs.Words.{cleared, copied};
 ghost use Rattle.words.specs.Runs.{clear_words, copy_words};
 
 // Sets the first count words to 0; a run that has fewer stays as it is.
+// Stays (a): count is no length of the run, which C lends as long as it likes: run_exit says what is set and that the rest stays.
 pub fn clear_words(run: &mut [u32], count: usize)
     ensures run_exit { run.new ≡ clear_words count run.old }
 {
@@ -17,6 +18,7 @@ pub fn clear_words(run: &mut [u32], count: usize)
 }
 
 // Copies the first count words of one run over those of another; where either has fewer, both stay as they are.
+// Stays (a): as clear_words.
 pub fn copy_words(from: &[u32], to: &mut [u32], count: usize)
     ensures to_exit { to.new ≡ copy_words count from.now to.old }
 {

@@ -1,42 +1,32 @@
--- `direct::tick` meets its contract: a refusal above 0 is answered alone, and 0 says that the slot's requirements hold. Assumes nothing.
-use mathlib.Core.Path.{sym, ◌∙◌}
+-- `direct::tick` meets its contract: a refusal is answered alone, and where there is none the slot's requirements hold. Assumes nothing.
+use mathlib.Core.Path.{sym}
 use native.Mathlib.Omega.{arith}
-use Rattle.wsgs.specs.Answers.{direct_runs_of}
+use Rattle.wsgs.specs.Told.{direct_lent}
 use Rattle.direct.proofs.Asked.{TickConditions, accepted_found}
 use Rattle.direct.proofs.SlotLaws.{tick_refused, tick_ran}
 use Rattle.direct.proofs.tick.Goals as goal
-use Rattle.direct.proofs.tick.Goals.{Else-refusal-gt0}
+use Rattle.direct.proofs.tick.Goals.{In_ok-check_direct_tick}
 
-found : (c : Else-refusal-gt0) → TickConditions c.args.clock (direct_runs_of c.args.slots.now c.args.rates.now c.args.credits.now c.args.queues.now c.args.given.now)
+found : (c : In_ok-check_direct_tick) → TickConditions c.args.clock (direct_lent c.args.book c.args.runs.now)
 found c =
-    accepted_found _ _ (sym c.direct_tick_refusal-refusal.ensures.result ∙ omega arith)
+    accepted_found _ _ (sym c.in_ok-check_direct_tick.ensures.result)
 
-pub returns-then-refusal-gt0 : goal.returns-then-refusal-gt0
-returns-then-refusal-gt0 c =
-    record { outcome = tick_refused _ _ _ c.direct_tick_refusal-refusal.ensures.result c.if-refusal-gt0.true }
+pub returns-in_err-check_direct_tick-clause-outcome : goal.returns-in_err-check_direct_tick-clause-outcome
+returns-in_err-check_direct_tick-clause-outcome c =
+    tick_refused _ (direct_lent c.args.book c.args.runs.now) _ _ c.from_residual.ensures.1 c.in_err-check_direct_tick.ensures.result
 
 pub overflow_add-next : goal.overflow_add-next
 overflow_add-next c =
-    let found = found (goal.at.overflow_add-next c).Else-refusal-gt0 in
-    omega (arith, found.slots_left)
+    omega (arith, (found (goal.at.overflow_add-next c).In_ok-check_direct_tick).slots_left)
 
-pub run_slot-passed-requires : goal.run_slot-passed-requires
-run_slot-passed-requires c =
-    let found = found (goal.at.run_slot-passed-requires c).Else-refusal-gt0 in
-    let a = found in record {
-      ports = a.few_ports;
-      frame = a.some_slot;
-      slot = omega arith;
-      slots_fit = a.slots;
-      rates_fit = a.rates;
-      credits_fit = a.credits;
-      queues_fit = a.queues;
-      given_fits = a.given;
-    }
+pub run_slot-served-requires-clause-loading : goal.run_slot-served-requires-clause-loading
+run_slot-served-requires-clause-loading c =
+    (found (goal.at.run_slot-served-requires-clause-loading c).In_ok-check_direct_tick).loading
 
-pub returns : goal.returns
-returns c =
-    record {
-      outcome = tick_ran c.args.clock (direct_runs_of c.args.slots.now c.args.rates.now c.args.credits.now c.args.queues.now c.args.given.now) _
-          c.direct_tick_refusal-refusal.ensures.result c.if-refusal-gt0.false _ _ _ _ _ c.run_slot-passed.ensures.slot_run;
-    }
+pub run_slot-served-requires-clause-queues_fit : goal.run_slot-served-requires-clause-queues_fit
+run_slot-served-requires-clause-queues_fit c =
+    (found (goal.at.run_slot-served-requires-clause-queues_fit c).In_ok-check_direct_tick).queues_fit
+
+pub returns-clause-outcome : goal.returns-clause-outcome
+returns-clause-outcome c =
+    tick_ran c.args.clock (direct_lent c.args.book c.args.runs.now) (sym c.in_ok-check_direct_tick.ensures.result) _ _ _ _ _ c.run_slot-served.ensures.slot_run

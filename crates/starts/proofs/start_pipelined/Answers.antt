@@ -23,4 +23,4 @@ first_clock-requires c =
 pub returns-clause-outcome : goal.returns-clause-outcome
 returns-clause-outcome c k =
     pipelined_clears _ _ _ _ (pipelined_runs_of c.args.slots.now c.args.rates.now c.args.runs.now.credits.now c.args.runs.now.queues.now c.args.runs.now.given.now c.args.pipeline.now.copy.now c.args.pipeline.now.flight.now) k c.in_ok-check_pipelined_start.ensures.result _ c.first_clock.ensures.result
-        _ _ _ _ _ _ _ (c.clear_runs.ensures.slots_exit, (c.clear_runs.ensures.rates_exit, (c.clear_runs.ensures.credits_exit, (c.clear_runs.ensures.queues_exit, c.clear_runs.ensures.given_exit)))) (c.clear_pipeline.ensures.copy_exit, c.clear_pipeline.ensures.flight_exit)
+    _ _ _ _ _ _ _ (c.clear_runs.ensures.slots_exit, (c.clear_runs.ensures.rates_exit, (c.clear_runs.ensures.credits_exit, (c.clear_runs.ensures.queues_exit, c.clear_runs.ensures.given_exit)))) (c.clear_pipeline.ensures.copy_exit, c.clear_pipeline.ensures.flight_exit)

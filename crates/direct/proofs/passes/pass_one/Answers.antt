@@ -1,6 +1,6 @@
 -- `passes::pass_one` meets its contract. Assumes nothing.
-use Prim.Native.Nat.{◌+◌, ◌*◌, ◌≤◌, ◌<◌}
-use mathlib.Core.Path.{◌≡◌, refl, ◌∙◌}
+use Prim.Native.Nat.{◌+◌, ◌<◌}
+use mathlib.Core.Path.{◌≡◌, refl, ap, ◌∙◌}
 use native.Mathlib.Numerals.{add-one}
 use native.Mathlib.Omega.{arith}
 use borrow.Author.Rules.{rules}
@@ -8,59 +8,86 @@ use lib.ListN.{length}
 use Rattle.wsgs.specs.Basics.{Port, in_turn}
 use Rattle.wsgs.specs.Words.{port_word}
 use Rattle.wsgs.proofs.Laws.InTurn.{in_turn_some}
+use Rattle.turns.specs.Charges.{output_told}
+use Rattle.turns.specs.Requests.{Turn}
 use Rattle.turns.proofs.Ready.{is_open}
 use Rattle.turns.proofs.BitLaws.{one_shl}
+use Rattle.turns.proofs.Costs.{charged_length, noted_length}
 use Rattle.turns.proofs.MaskLaws.{free_first}
-use Rattle.turns.proofs.TurnLaws.{Turn, first_asks, first_takes}
-use Rattle.direct.proofs.PassLaws.{one_start, one_none, one_some}
+use Rattle.turns.proofs.TurnLaws.{first_asks, first_takes}
+use Rattle.direct.proofs.PassLaws.{same_on, one_start, one_none, one_some}
 use Rattle.direct.proofs.passes.pass_one.Goals as goal
-use Rattle.direct.proofs.passes.pass_one.Goals.{In-loop-row, After-first_turn-choice}
+use Rattle.direct.proofs.passes.pass_one.Goals.{In-loop-row, After-first_turn-choice, in-Some, in_default}
 
--- the input is one of the ports, which are few, and its runs are long enough
-within : (c : In-loop-row) → (c.loop-row.row < c.args.ports) × (c.args.ports ≤ 32) × (c.args.ports * c.args.ports ≤ length c.loop-row.credits) × (c.args.ports * c.args.ports ≤ length c.loop-row.queues) × (c.args.ports ≤ length c.loop-row.given)
-within c =
-    (omega arith, omega arith, omega arith, omega arith, omega (arith, c.loop-row.invariant.3))
+-- the input has a turn on both runs
+paid : (c : In-loop-row) → Turn c.args.ports (c.loop-row.row + 1) (length c.loop-row.runs.credits.now)
+paid c =
+    record { few = c.requires.queues_fit.few; port = record { low = omega arith; high = omega arith }; long = omega (arith, c.requires.credits_fit, c.loop-row.invariant.credits) }
+
+sent : (c : In-loop-row) → Turn c.args.ports (c.loop-row.row + 1) (length c.loop-row.runs.queues.now)
+sent c =
+    record { few = c.requires.queues_fit.few; port = record { low = omega arith; high = omega arith }; long = omega (arith, c.requires.queues_fit.queues, c.loop-row.invariant.queues) }
 
 -- the output that a turn finds
-found : (c : After-first_turn-choice) → c.first_turn-choice.result.output.0 ≡ in_turn (is_open c.args.ports c.loop-row.free c.loop-row.credits c.loop-row.queues (c.loop-row.row + 1)) c.args.ports (port_word c.loop-row.given (c.loop-row.row + 1))
+found : (c : After-first_turn-choice) → output_told c.first_turn-choice.result.output ≡ in_turn (is_open c.args.ports c.loop-row.free c.loop-row.runs.credits.now c.loop-row.runs.queues.now (c.loop-row.row + 1)) c.args.ports (port_word c.loop-row.runs.given.now (c.loop-row.row + 1))
 found c =
-    let i = (within (goal.at-After-first_turn-choice c).In-loop-row) in let paid : Turn c.args.ports (c.loop-row.row + 1) c.loop-row.credits = record { few = i.1; port = omega (arith, i.0); long = i.2 } in let sent : Turn c.args.ports (c.loop-row.row + 1) c.loop-row.queues = record { few = i.1; port = omega (arith, i.0); long = i.3 } in first_takes _ _ _ _ sent i.4 _ paid _ (first_asks _ _ _ _ paid sent _ c.first_requests-asked.ensures.asked) _ _ c.first_turn-choice.ensures.output
+    let p = paid (goal.at-After-first_turn-choice c).In-loop-row in
+    let s = sent (goal.at-After-first_turn-choice c).In-loop-row in
+    first_takes _ _ _ _ s (omega (arith, c.requires.queues_fit.given, c.loop-row.invariant.given)) _ p _ (first_asks _ _ _ _ p s _ c.first_requests-asked.ensures.asked) _ _ c.first_turn-choice.ensures.output
 
 pub loop-row-init : goal.loop-row-init
 loop-row-init c =
-    (search rules, refl, refl, refl, one_start _ (omega arith) _ _ _ _ (free_first _ _ (omega arith) c.all_free-free.ensures.mask))
+    record {
+      within = omega arith;
+      loans = record { credits = refl; queues = refl; given = refl };
+      credits = refl;
+      queues = refl;
+      given = refl;
+      state = one_start _ c.requires.queues_fit.few _ _ _ _ (free_first _ _ c.requires.queues_fit.few c.all_free-free.ensures.mask);
+    }
 
 pub overflow_cast-outputs : goal.overflow_cast-outputs
 overflow_cast-outputs c =
     let found = found (goal.at.overflow_cast-outputs c).After-first_turn-choice in
-    let taken : Port c.args.ports c.first_turn-choice.result.output.0 = (in_turn_some _ _ _ _ found c.if-choice-gt0.true).0 in
-    omega (arith, taken)
+    let port : Port c.args.ports c.in-Some.output.0 = (in_turn_some _ _ _ _ (rw c.in-Some.is at found) (rw c.in-Some.is at c.first_turn-choice.ensures.some)).0 in
+    omega (arith, port.high, c.requires.queues_fit.few)
 
 pub loop-row-preserved : goal.loop-row-preserved
 loop-row-preserved c =
-    let within = within (goal.at.loop-row-preserved c).In-loop-row in
+    let paid = paid (goal.at.loop-row-preserved c).In-loop-row in
+    let sent = sent (goal.at.loop-row-preserved c).In-loop-row in
     let found = found (goal.at.loop-row-preserved c).After-first_turn-choice in
-    let i = within in (
-      omega (arith, i.0),
-      c.first_turn-choice.auto.credits ∙ c.loop-row.invariant.1,
-      c.first_turn-choice.auto.queues ∙ c.loop-row.invariant.2,
-      c.first_turn-choice.auto.given ∙ c.loop-row.invariant.3,
-      elim c.if-choice-gt0.branch [
-        | goal.then-choice-gt0 w ↦
+    let before : c.loop-row.row < c.args.ports = omega arith in
+    let turn = c.first_turn-choice.ensures in
+    record {
+      within = omega arith;
+      loans = same_on c.loop-row.invariant.loans turn.loans;
+      credits = ap length turn.credits_exit ∙ charged_length _ _ _ _ ∙ c.loop-row.invariant.credits;
+      queues = ap length turn.queues_exit ∙ charged_length _ _ _ _ ∙ c.loop-row.invariant.queues;
+      given = ap length turn.given_exit ∙ noted_length _ _ _ ∙ c.loop-row.invariant.given;
+      state = elim c.match-choice.branch [
+        | in-Some w ↦
             rw (w.free-is, w.outputs-is, w.first_pass-is)
-            (one_some _ i.1 _ _ _ _ _ _ _ _ _ i.2 i.3 c.loop-row.row _ (add-one _) i.0 c.loop-row.invariant.4 _ found w.if-choice-gt0.true
-            _ w.take-free.ensures.cleared _ (one_shl 32 c.loop-row.row (omega (arith, i.0, i.1))) _ _ _ c.first_turn-choice.ensures.credits_exit c.first_turn-choice.ensures.queues_exit c.first_turn-choice.ensures.given_exit)
-        | goal.else-choice-gt0 w ↦
+            (one_some _ paid.few _ _ _ _ _ _ _ _ _ paid.long sent.long c.loop-row.row _ (add-one _) before c.loop-row.invariant.state _ (rw w.in-Some.is at found) (rw w.in-Some.is at turn.some)
+            _ w.take-free.ensures.cleared _ (one_shl 32 c.loop-row.row (omega (arith, before, paid.few))) _ _ _
+            (rw w.in-Some.is at turn.credits_exit) (rw w.in-Some.is at turn.queues_exit) (rw w.in-Some.is at turn.given_exit))
+        | in_default w ↦
             rw (w.free-is, w.outputs-is, w.first_pass-is)
-            (one_none _ i.1 _ _ _ _ _ _ _ _ _ i.2 i.3 c.loop-row.row _ (add-one _) i.0 c.loop-row.invariant.4 _ found (omega (arith, w.if-choice-gt0.false))
-            _ _ _ c.first_turn-choice.ensures.credits_exit c.first_turn-choice.ensures.queues_exit c.first_turn-choice.ensures.given_exit)
-      ],
-    )
+            (one_none _ paid.few _ _ _ _ _ _ _ _ _ paid.long sent.long c.loop-row.row _ (add-one _) before c.loop-row.invariant.state _ found (ap output_told w.in_default.is)
+            _ _ _ turn.credits_exit turn.queues_exit turn.given_exit)
+      ];
+    }
 
 pub returns : goal.returns
 returns c =
     let e : c.loop-row.row ≡ c.args.ports = omega arith in
-    let o = rw e at c.loop-row.invariant.4 in record {
+    let o = rw e at c.loop-row.invariant.state in record {
+      loans = c.loop-row.invariant.loans;
+      queues_fit = record {
+        few = c.requires.queues_fit.few;
+        queues = omega (arith, c.requires.queues_fit.queues, c.loop-row.invariant.queues);
+        given = omega (arith, c.requires.queues_fit.given, c.loop-row.invariant.given);
+      };
       state = o.held;
       first_pass = o.mark;
       credits_exit = o.cost;

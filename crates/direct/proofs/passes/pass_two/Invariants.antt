@@ -1,5 +1,5 @@
--- The loop's invariant is the contract's claim for the inputs so far. The measure is the inputs left.
-use Prim.Native.Nat.{ℕ, ◌-◌, ◌≤◌}
+-- The loop's invariant is the contract's claim for the inputs so far.
+use Prim.Native.Nat.{ℕ, ◌≤◌}
 use mathlib.Core.Path.{◌≡◌}
 use mathlib.Core.List.{List}
 use lib.ListN.{length}
@@ -9,11 +9,10 @@ use Rattle.direct.specs.Passes.{PassState}
 use Rattle.direct.proofs.passes.pass_two.Given as goal
 
 abbrev pub invariant-loop-row : goal.invariant-loop-row
-invariant-loop-row l = (l.row ≤ l.ports)
-    × (length l.queues ≡ length l.initial.queues)
-    × (length l.given ≡ length l.initial.given)
-    × ((start words : List ℕ) (one : ℕ → ℕ) → PassState l.ports start words one l.initial.free l.initial.outputs l.initial.queues l.initial.given
-    → PassState l.ports start words (pass_two l.ports (word l.ports start) (port_word words) one l.row) l.free l.outputs l.queues l.given)
-
-abbrev pub decreases-loop-row : goal.decreases-loop-row
-decreases-loop-row l = l.ports - l.row
+invariant-loop-row l = record {
+  within : l.row ≤ l.ports;
+  queues : length l.queues ≡ length l.initial.queues;
+  given : length l.given ≡ length l.initial.given;
+  state : (start words : List ℕ) (one : ℕ → ℕ) → PassState l.ports start words one l.initial.free l.initial.outputs l.initial.queues l.initial.given
+      → PassState l.ports start words (pass_two l.ports (word l.ports start) (port_word words) one l.row) l.free l.outputs l.queues l.given;
+}
