@@ -19,9 +19,9 @@ use Rattle.wsgs.specs.Questions.{effect}
 use Rattle.wsgs.specs.Program.{RecordOutcome, SlotOutcome, obey, run_slot, refusal_text, slot_text, match_lines}
 use Rattle.wsgs.specs.Program
 use Rattle.wsgs.specs.Told.{number, refusal_told}
-use Rattle.questions.proofs.Laws.Answers.{number_some}
+use Rattle.lines.proofs.Printing.{numbered, refusal_short}
 use Rattle.lines.specs.Lines.{TextWritten, slot_room, refusal_room, put_effect}
-use Rattle.lines.proofs.Printing.{refusal_short}
+
 use Rattle.lines.proofs.Writing.{wrote_none, wrote_is, wrote_front, wrote_rest}
 use Rattle.machine.specs.declared.RecordResult.{RecordResult}
 use Rattle.machine.specs.declared.SlotPairs.{SlotPairs}
@@ -105,7 +105,7 @@ module _ (k : Progress) (b : List ℕ) (before : SwitchRuns) where
         → effect count out' ≡ put_effect refusal_room (refusal_text (refusal_told (Some line))) out
         → left ≡ 0 → k' ≡ moved_progress k r.machine left → StepWritten (slot_step S) (state_of k' b after) out 0 count out'
     slot_refused line e room w l ek =
-        let some : eqb (number line.refused) 0 ≡ false = ne_eqb (number line.refused) 0 (number_some line.refused) in
+        let some : eqb (number line.refused) 0 ≡ false = ne_eqb (number line.refused) 0 (numbered line.refused) in
         slot_written
         (wrote_is (wrote_front refusal_room out _ (omega arith) (refusal_short (refusal_told (Some line))) w) (rw (e, some)))
         (rw (e, some) l) ek
