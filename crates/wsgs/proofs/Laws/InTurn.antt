@@ -8,8 +8,8 @@ use native.Mathlib.Omega.{arith}
 use native.Mathlib.Decide.{ℕ_discrete, dec_lt, dec_le}
 use lib.Dec.{T, leb, ltb, T_not, lt→ltb, ltb→lt}
 use borrow.Author.Tests.{lt-leb, le-leb, lt-ltb, le-ltb}
+use Rattle.std.proofs.Math.Facts.{and_yes, yes_and}
 use Rattle.wsgs.specs.Basics.{pick, Port, next, first_from, in_turn, later}
-use Rattle.wsgs.proofs.Laws.Tests.{both, join}
 
 -- THE ORDER. How many of 1..n come before y, where they are told from k on, wrapping from n to 1
 unfoldable pub ahead : (n k y : ℕ) → ℕ
@@ -249,7 +249,7 @@ module _ (p : ℕ → Bool) (n last : ℕ) where
         where
           at : Dec (y ≤ last) → y ≤ last
           at (yes h) = h
-          at (no h) = absurd (T_not (above y) (r.1 y q) (join (ltb last y) (p y) (lt→ltb last y (omega arith)) t))
+          at (no h) = absurd (T_not (above y) (r.1 y q) (yes_and (ltb last y) (p y) (lt→ltb last y (omega arith)) t))
 
       go : (w : ℕ) → InTurn p n 0 w → Dec (last < n) → in_turn p n last ≡ w
       go w (inl s) _ = in_turn_nobody p n last s.1 ∙ sym s.0
@@ -282,7 +282,7 @@ module _ (p : ℕ → Bool) (n last : ℕ) where
   from_above v (inr r) = rw (lt-ltb 0 v r.0.low) (in_turn_at p n last v r.0 t.1 before)
     where
       t : T (ltb last v) × T (p v)
-      t = both (ltb last v) (p v) r.1
+      t = and_yes (ltb last v) (p v) r.1
 
       high : last < v
       high = ltb→lt last v t.0
@@ -309,7 +309,7 @@ module _ (p : ℕ → Bool) (n last : ℕ) where
               ))))
             where
               blocked_right : (b : Bool) → T (not (ltb last y && b)) → T (not b)
-              blocked_right true f = absurd (T_not (ltb last y && true) f (join (ltb last y) true (lt→ltb last y (omega arith)) tt))
+              blocked_right true f = absurd (T_not (ltb last y && true) f (yes_and (ltb last y) true (lt→ltb last y (omega arith)) tt))
               blocked_right false f = tt
 
   pub in_turn_above : in_turn p n last ≡ later (in_turn above n 0) (in_turn p n 0)
@@ -335,5 +335,5 @@ module _ (n m : ℕ) (few : n ≤ m) where
   pub in_turn_wide : (p : ℕ → Bool) (last : ℕ) → ((y : ℕ) → Port m y → T (p y) → y ≤ n) → in_turn p m last ≡ in_turn p n last
   in_turn_wide p last h =
       in_turn_above p m last
-      ∙ ap₂ later (low_wide (above p m last) (λ y py t. h y py (both (ltb last y) (p y) t).1)) (low_wide p h)
+      ∙ ap₂ later (low_wide (above p m last) (λ y py t. h y py (and_yes (ltb last y) (p y) t).1)) (low_wide p h)
       ∙ sym (in_turn_above p n last)

@@ -8,11 +8,11 @@ use native.Mathlib.Omega.{arith}
 use native.Mathlib.Decide.{ℕ_discrete}
 use lib.Dec.{T, eqb, leb, leb→le, le→leb}
 use borrow.Author.Tests.{eq-eqb, ne_eqb}
+use Rattle.std.proofs.Math.Facts.{and_yes, yes_and}
 use Rattle.wsgs.specs.Basics.{pick, Port, sum, sum_without, all_of}
 use Rattle.wsgs.specs.Bookings.{row_sum, column_sum}
 use Rattle.wsgs.specs.Rule.{with_more, booked_fits, sharing_fit, rule}
 use Rattle.wsgs.specs.Claims.{Fits, Admits}
-use Rattle.wsgs.proofs.Laws.Tests.{both, join}
 use Rattle.wsgs.proofs.Laws.Sums.{sum_le, sum_zero, sum_parts, row_changed, column_changed}
 use Rattle.wsgs.proofs.Laws.Questions.{Yes, Numbered}
 
@@ -20,7 +20,7 @@ use Rattle.wsgs.proofs.Laws.Questions.{Yes, Numbered}
 pub every_at : (p : ℕ → Bool) (n x : ℕ) → T (all_of p n) → Port n x → T (p x)
 unfolding all_of
 every_at p zero x t q = absurd (omega arith)
-every_at p (suc n) x t q = let r = both (p (suc n)) (all_of p n) t in go (ℕ_discrete x (suc n)) r.0 (λ q. every_at p n x r.1 q)
+every_at p (suc n) x t q = let r = and_yes (p (suc n)) (all_of p n) t in go (ℕ_discrete x (suc n)) r.0 (λ q. every_at p n x r.1 q)
   where
     go : Dec (x ≡ suc n) → T (p (suc n)) → (Port n x → T (p x)) → T (p x)
     go (yes e) now before = rw e now
@@ -29,7 +29,7 @@ every_at p (suc n) x t q = let r = both (p (suc n)) (all_of p n) t in go (ℕ_di
 pub every_all : (p : ℕ → Bool) (n : ℕ) → ((x : ℕ) → Port n x → T (p x)) → T (all_of p n)
 unfolding all_of
 every_all p zero h = tt
-every_all p (suc n) h = join (p (suc n)) (all_of p n) (h (suc n) (omega arith)) (every_all p n (λ x q. h x (omega (arith, q))))
+every_all p (suc n) h = yes_and (p (suc n)) (all_of p n) (h (suc n) (omega arith)) (every_all p n (λ x q. h x (omega (arith, q))))
 
 -- (2) as a test, and as a statement
 module _ (n f : ℕ) (a : ℕ → ℕ → ℕ) (x y : ℕ) where
@@ -61,7 +61,7 @@ module _ (n f : ℕ) (a : ℕ → ℕ → ℕ) (i j d : ℕ) (pi : Port n i) (pj
   rule_admits true y = λ u v pu pv. go u v pu pv
     where
       t : T (all_of (λ v. booked_fits n f after i v) n) × T (all_of (λ u. booked_fits n f after u j) n)
-      t = unfold sharing_fit in both (all_of (λ v. booked_fits n f after i v) n) (all_of (λ u. booked_fits n f after u j) n) y.0
+      t = unfold sharing_fit in and_yes (all_of (λ v. booked_fits n f after i v) n) (all_of (λ u. booked_fits n f after u j) n) y.0
 
       go : (u v : ℕ) → Port n u → Port n v → (u ≡ i) ⊎ (v ≡ j) → Fits n f after u v
       go u v pu pv (inl e) = rw e (fits_is n f after i v pv (every_at (λ v. booked_fits n f after i v) n v t.0 pv))
@@ -71,7 +71,7 @@ module _ (n f : ℕ) (a : ℕ → ℕ → ℕ) (i j d : ℕ) (pi : Port n i) (pj
   unfolding sharing_fit
   admits_rule false h = (le→leb _ _ h.0, (le→leb _ _ h.1, tt))
   admits_rule true h = (
-    join (all_of (λ v. booked_fits n f after i v) n) (all_of (λ u. booked_fits n f after u j) n)
+    yes_and (all_of (λ v. booked_fits n f after i v) n) (all_of (λ u. booked_fits n f after u j) n)
         (every_all _ n (λ v pv. is_fits n f after i v (h i v pi pv (inl refl))))
         (every_all _ n (λ u pu. is_fits n f after u j (h u j pu pj (inr refl)))),
     tt,
