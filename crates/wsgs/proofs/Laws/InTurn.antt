@@ -6,8 +6,9 @@ use mathlib.Core.Logic.{◌⊎◌, inl, inr, ◌≢◌}
 use Prim.Native.Nat.{ℕ, zero, suc, ◌+◌, ◌-◌, ◌≤◌, ◌<◌}
 use native.Mathlib.Omega.{arith}
 use native.Mathlib.Decide.{ℕ_discrete, dec_lt, dec_le}
-use lib.Dec.{T, leb, ltb, T_not, lt→ltb, ltb→lt}
+use lib.Dec.{T, leb, ltb, T_not, not_T, lt→ltb, ltb→lt}
 use borrow.Author.Tests.{lt-leb, le-leb, lt-ltb, le-ltb}
+use Rattle.std.proofs.lemmas.Bool.Decides.{nat_tests}
 use Rattle.std.proofs.Math.Facts.{and_yes, yes_and}
 use Rattle.wsgs.specs.Basics.{pick, Port, next, first_from, in_turn, later}
 
@@ -33,71 +34,29 @@ next_wraps n x h = rw (le-ltb x n h)
 
 -- it is a port
 pub next_port : (n x : ℕ) → 1 ≤ n → Port n (next n x)
-next_port n x h = go (dec_lt x n)
-  where
-    go : Dec (x < n) → Port n (next n x)
-    go (yes l) = rw (next_below n x l) (omega arith)
-    go (no l) = rw (next_wraps n x (omega arith)) (omega arith)
+next_port n x h = grind (arith, nat_tests)
 
 -- told from the next one on, each but k itself comes one earlier
 pub ahead_next : (n k y : ℕ) → Port n k → Port n y → y ≢ k → ahead n k y ≡ suc (ahead n (next n k) y)
-ahead_next n k y pk py d = go (dec_lt k n) (dec_le k y)
-  where
-    go : Dec (k < n) → Dec (k ≤ y) → ahead n k y ≡ suc (ahead n (next n k) y)
-    go (yes l) (yes h) = rw (next_below n k l, ahead_from n k y h, ahead_from n (suc k) y (omega arith)) (omega arith)
-    go (yes l) (no h) = rw (next_below n k l, ahead_below n k y (omega arith), ahead_below n (suc k) y (omega arith)) (omega arith)
-    go (no l) (yes h) = absurd (d (omega arith))
-    go (no l) (no h) = rw (next_wraps n k (omega arith), ahead_below n k y (omega arith), ahead_from n 1 y py.low) (omega arith)
+unfolding ahead
+ahead_next n k y pk py d = grind (arith, nat_tests)
 
 -- k itself is the first, and no two are told at the same place, of which there are n
 pub ahead_own : (n k : ℕ) → ahead n k k ≡ 0
 ahead_own n k = ahead_from n k k (omega arith) ∙ omega arith
 
-module _ (n k x y : ℕ) (pk : Port n k) (px : Port n x) (py : Port n y) where
-  abbrev Cases : Type 0 → Type 0
-  Cases G =
-      (k ≤ x → k ≤ y → ahead n k x ≡ x - k → ahead n k y ≡ y - k → G)
-      → (k ≤ x → y < k → ahead n k x ≡ x - k → ahead n k y ≡ y + n - k → G)
-      → (x < k → k ≤ y → ahead n k x ≡ x + n - k → ahead n k y ≡ y - k → G)
-      → (x < k → y < k → ahead n k x ≡ x + n - k → ahead n k y ≡ y + n - k → G) → G
+pub ahead_once : (n k x y : ℕ) → Port n k → Port n x → Port n y → ahead n k x ≡ ahead n k y → x ≡ y
+unfolding ahead
+ahead_once n k x y pk px py e = grind (arith, nat_tests)
 
-  -- two of them, each from k on or below
-  cases : (G : Type 0) → Cases G
-  cases G a b c d = go (dec_le k x) (dec_le k y)
-    where
-      go : Dec (k ≤ x) → Dec (k ≤ y) → G
-      go (yes u) (yes v) = a u v (ahead_from n k x u) (ahead_from n k y v)
-      go (yes u) (no v) = b u (omega arith) (ahead_from n k x u) (ahead_below n k y (omega arith))
-      go (no u) (yes v) = c (omega arith) v (ahead_below n k x (omega arith)) (ahead_from n k y v)
-      go (no u) (no v) = d (omega arith) (omega arith) (ahead_below n k x (omega arith)) (ahead_below n k y (omega arith))
-
-  pub ahead_once : ahead n k x ≡ ahead n k y → x ≡ y
-  ahead_once e =
-      cases (x ≡ y) (λ u v r s. omega (arith, r, s, e)) (λ u v r s. absurd (omega (arith, r, s, e))) (λ u v r s. absurd (omega (arith, r, s, e)))
-      (λ u v r s. omega (arith, r, s, e))
-
-  -- where y comes after x, it comes earlier when told from one past x
-  pub ahead_nearer : ahead n k x < ahead n k y → ahead n (next n x) y < ahead n k y
-  ahead_nearer h = go (dec_lt x n)
-    where
-      go : Dec (x < n) → ahead n (next n x) y < ahead n k y
-      go (yes l) =
-          rw (next_below n x l)
-          (cases (ahead n (suc x) y < ahead n k y) (λ u v r s. omega (arith, r, s, h, ahead_from n (suc x) y (omega (arith, r, s, h))))
-          (λ u v r s. omega (arith, r, s, h, ahead_below n (suc x) y (omega arith))) (λ u v r s. absurd (omega (arith, r, s, h)))
-          (λ u v r s. omega (arith, r, s, h, ahead_from n (suc x) y (omega (arith, r, s, h)))))
-      go (no l) =
-          rw (next_wraps n x (omega arith))
-          (cases (ahead n 1 y < ahead n k y) (λ u v r s. absurd (omega (arith, r, s, h)))
-          (λ u v r s. omega (arith, r, s, h, ahead_from n 1 y py.low)) (λ u v r s. absurd (omega (arith, r, s, h)))
-          (λ u v r s. absurd (omega (arith, r, s, h))))
+-- where y comes after x, it comes earlier when told from one past x
+pub ahead_nearer : (n k x y : ℕ) → Port n k → Port n x → Port n y → ahead n k x < ahead n k y → ahead n (next n x) y < ahead n k y
+unfolding ahead
+ahead_nearer n k x y pk px py h = grind (arith, nat_tests)
 
 pub ahead_within : (n k y : ℕ) → Port n k → Port n y → ahead n k y < n
-ahead_within n k y pk py = go (dec_le k y)
-  where
-    go : Dec (k ≤ y) → ahead n k y < n
-    go (yes h) = omega (arith, ahead_from n k y h)
-    go (no h) = omega (arith, ahead_below n k y (omega arith))
+unfolding ahead
+ahead_within n k y pk py = grind (arith, nat_tests)
 
 -- THE SEARCH. v is 0 and none of the first m from k on passes the test, or v is the first of them that does
 abbrev pub Found : (ℕ → Bool) → (n k m v : ℕ) → Type 0
@@ -263,11 +222,7 @@ module _ (p : ℕ → Bool) (n last : ℕ) where
               l' = rw (next_below n last h) at l
 
               at : Dec (y ≤ last) → T (not (p y))
-              at (no g) = not_low (p y) (low y q)
-                where
-                  not_low : (b : Bool) → (T b → y ≤ last) → T (not b)
-                  not_low true f = absurd (g (f tt))
-                  not_low false f = tt
+              at (no g) = not_T (p y) (λ t. g (low y q t))
               at (yes g) =
                   s.2 y q
                   (rw (next_below n 0 (omega arith))
@@ -321,13 +276,9 @@ module _ (n m : ℕ) (few : n ≤ m) where
   low_wide : (q : ℕ → Bool) → ((y : ℕ) → Port m y → T (q y) → y ≤ n) → in_turn q m 0 ≡ in_turn q n 0
   low_wide q h = go (in_turn q n 0) (in_turn_is q n 0)
     where
-      unless : (b : Bool) → (T b → ⊥) → T (not b)
-      unless true f = absurd (f tt)
-      unless false f = tt
-
       go : (v : ℕ) → InTurn q n 0 v → in_turn q m 0 ≡ v
       go v (inl r) =
-          in_turn_nobody q m 0 (λ y py. unless (q y) (λ t. T_not (q y) (r.1 y (omega (arith, h y py t))) t)) ∙ sym r.0
+          in_turn_nobody q m 0 (λ y py. not_T (q y) (λ t. T_not (q y) (r.1 y (omega (arith, h y py t))) t)) ∙ sym r.0
       go v (inr r) =
           in_turn_lowest q m v (omega arith) r.1
           (λ y py l. r.2 y (omega arith) (rw (next_below n 0 (omega arith)) (omega (arith, ahead_from n 1 y py.low, ahead_from n 1 v r.0.low))))

@@ -4,9 +4,10 @@ use mathlib.Core.Bool.{Bool, true, false, ◌&&◌, ◌||◌, and-true, and-fals
 use mathlib.Core.Logic.{◌⊎◌, inl, inr}
 use Prim.Native.Nat.{ℕ, zero, suc, ◌+◌, min, ◌≤◌, ◌<◌}
 use native.Mathlib.Omega.{arith}
-use native.Mathlib.Decide.{ℕ_discrete, dec_lt, dec_le}
+use native.Mathlib.Decide.{ℕ_discrete, dec_lt}
 use lib.Dec.{eqb, leb, ltb, leb-suc-suc}
-use borrow.Author.Tests.{lt-ltb, le-ltb, lt-leb, le-leb, ne_eqb}
+use borrow.Author.Tests.{lt-ltb, le-ltb, ne_eqb}
+use Rattle.std.proofs.lemmas.Bool.Decides.{nat_tests}
 use Rattle.wsgs.specs.Basics.{pick, bit, Port, sum, next, first_from, in_turn, looks_from, looks, updated}
 use Rattle.wsgs.proofs.Laws.Tests.{updated_at, updated_other}
 use Rattle.wsgs.proofs.Laws.Sums.{sum_ext, sum_zero, sum_changed}
@@ -19,11 +20,8 @@ looked last v y = pick (eqb v 0) true (pick (ltb last v) (ltb last y && leb y v)
 
 -- THE COUNT. Told from the next one on, k itself comes last
 ahead_last : (n k : ℕ) → Port n k → suc (ahead n (next n k) k) ≡ n
-ahead_last n k pk = go (dec_lt k n)
-  where
-    go : Dec (k < n) → suc (ahead n (next n k) k) ≡ n
-    go (yes l) = rw (next_below n k l) (omega (arith, ahead_below n (suc k) k (omega arith)))
-    go (no l) = rw (next_wraps n k (omega arith)) (omega (arith, ahead_from n 1 k pk.low))
+unfolding ahead
+ahead_last n k pk = grind (arith, nat_tests)
 
 -- how many of m numbers from k on come up to v: all of them where v is 0, for none
 abbrev span : (n k m v : ℕ) → ℕ
@@ -83,11 +81,7 @@ module _ (free permitted : ℕ → Bool) (n : ℕ) where
 
 -- THE ORDER. Two numbers that are moved alike keep their order
 moved : (a b x y o d : ℕ) → a + o ≡ x + d → b + o ≡ y + d → ltb a (suc b) ≡ leb x y
-moved a b x y o d e f = go (dec_le x y)
-  where
-    go : Dec (x ≤ y) → ltb a (suc b) ≡ leb x y
-    go (yes h) = rw (lt-ltb a (suc b) (omega arith), le-leb x y h)
-    go (no h) = rw (le-ltb a (suc b) (omega arith), lt-leb x y (omega arith))
+moved a b x y o d e f = grind (arith, nat_tests)
 
 module _ (n last : ℕ) where
   -- the place of y in the order: those past the last one come first, the others after them
