@@ -1,10 +1,11 @@
 -- The fine book accepts what the plain one accepts. At the end of a list of calls a plain book keeps every row and every column to half a frame, rounded
 -- up; so does one more booking that it accepts, and then inequality (2) holds of every booked pair, of which the fine book asks a few. Assumes nothing.
 use mathlib.Core.Path.{◌≡◌, refl, ◌∙◌, sym, ap, subst}
-use mathlib.Core.Bool.{Bool, true, false}
+use mathlib.Core.Bool.{false}
 use Prim.Native.Nat.{ℕ}
 use native.Mathlib.Omega.{arith}
 use lib.Dec.{eqb}
+use Rattle.std.proofs.lemmas.Bool.Decides.{nat_tests}
 use Rattle.wsgs.specs.declared.Clock.{Clock}
 use Rattle.wsgs.specs.Clocks.{is_fine}
 use Rattle.wsgs.specs.Basics.{pick, bit}
@@ -28,11 +29,7 @@ use Rattle.wsgs.proofs.Trace.{ledger_clock, Trace, trace_of}
 -- the number of a start or a tick does not depend on the clock that it would leave
 same_number : {Runs : Type 0} (r : ℕ) (c c' : Clock) (w : Runs) (done done' : Outcome Runs) → done.refusal ≡ done'.refusal
     → (pick (eqb r 0) done (refused r c w)).refusal ≡ (pick (eqb r 0) done' (refused r c' w)).refusal
-same_number r c c' w done done' d = go (eqb r 0)
-  where
-    go : (b : Bool) → (pick b done (refused r c w)).refusal ≡ (pick b done' (refused r c' w)).refusal
-    go true = d
-    go false = refl
+same_number r c c' w done done' d = grind (arith, nat_tests)
 
 -- ON A SWITCH whose plain book keeps rows and columns
 abbrev PlainBook : Switch → Type 0

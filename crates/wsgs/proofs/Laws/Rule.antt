@@ -1,13 +1,14 @@
 -- Laws of the book's rule. Its questions are answered yes exactly where it admits a booking. What a book of either kind keeps of all its pairs: inequality
 -- (5) of the paper, which gives inequality (2), or (2) itself. Lower bookings keep it, and so does a booking that the rule admits. Assumes nothing.
 use mathlib.Core.Path.{◌≡◌, refl}
-use mathlib.Core.Bool.{Bool, true, false, ◌||◌, and-false}
+use mathlib.Core.Bool.{Bool, true, false, and-false}
 use mathlib.Core.Logic.{◌⊎◌, inl, inr, ◌≢◌}
-use Prim.Native.Nat.{ℕ, zero, suc, ◌+◌, ◌-◌, ◌*◌, ◌≤◌}
+use Prim.Native.Nat.{ℕ, zero, suc, ◌+◌, ◌*◌, ◌≤◌}
 use native.Mathlib.Omega.{arith}
 use native.Mathlib.Decide.{ℕ_discrete}
-use lib.Dec.{T, eqb, leb, leb→le, le→leb}
+use lib.Dec.{T, eqb, leb→le, le→leb}
 use borrow.Author.Tests.{eq-eqb, ne_eqb}
+use Rattle.std.proofs.lemmas.Bool.Decides.{nat_tests}
 use Rattle.std.proofs.Math.Facts.{and_yes, yes_and}
 use Rattle.wsgs.specs.Basics.{pick, Port, sum, sum_without, all_of}
 use Rattle.wsgs.specs.Bookings.{row_sum, column_sum}
@@ -35,17 +36,11 @@ every_all p (suc n) h = yes_and (p (suc n)) (all_of p n) (h (suc n) (omega arith
 module _ (n f : ℕ) (a : ℕ → ℕ → ℕ) (x y : ℕ) where
   pub fits_is : Port n y → T (booked_fits n f a x y) → Fits n f a x y
   unfolding booked_fits row_sum
-  fits_is p t h =
-      let e : eqb (a x y) 0 ≡ false = ne_eqb (a x y) 0 (λ z. omega arith) in
-      omega (arith, leb→le (row_sum n a x + column_sum n a y - a x y) f (rw e at t), sum_parts (λ v. a x v) n y p)
+  fits_is p t h = grind (arith, nat_tests)
 
   pub is_fits : Fits n f a x y → T (booked_fits n f a x y)
   unfolding booked_fits
-  is_fits h = go (ℕ_discrete (a x y) 0)
-    where
-      go : Dec (a x y ≡ 0) → T (eqb (a x y) 0 || leb (row_sum n a x + column_sum n a y - a x y) f)
-      go (yes e) = rw (eq-eqb (a x y) 0 e) tt
-      go (no d) = rw (ne_eqb (a x y) 0 d) (le→leb (row_sum n a x + column_sum n a y - a x y) f (omega (arith, h (omega arith))))
+  is_fits h = grind (arith, nat_tests)
 
 -- THE QUESTIONS of the rule have numbers, and are answered yes exactly where it admits
 pub rule_numbered : (g : Bool) (n f : ℕ) (a : ℕ → ℕ → ℕ) (i j d : ℕ) → Numbered (rule g n f a i j d)
