@@ -6,6 +6,7 @@ use Prim.Native.Nat.{ℕ, ◌≤◌}
 use native.Mathlib.Omega.{arith}
 use lib.Dec.{T, ltb}
 use borrow.Author.Tests.{le-leb, ne_eqb}
+use Rattle.std.proofs.lemmas.Bool.Decides.{nat_tests}
 use Rattle.std.proofs.Math.Facts.{and_yes, yes_and}
 use Rattle.wsgs.specs.Basics.{pick, bit, sum, in_turn, looks}
 use Rattle.wsgs.proofs.Laws.Tests.{bit_one, bit_under}
@@ -20,9 +21,7 @@ module _ (free permitted : ℕ → Bool) (n last : ℕ) where
 
   -- at most at what is free
   pub looks_bounded : looks free permitted n last ≤ sum (λ j. bit (free j)) n
-  looks_bounded =
-      rw (looks_counted free permitted n last)
-      (sum_le _ _ n (λ y q. bit_under (free y && looked last given y) (λ t. omega (arith, bit_one (free y) (and_yes (free y) (looked last given y) t).0))))
+  looks_bounded = grind (arith, nat_tests, looks_counted, permitted, sum_le, bit_under, bit_one)
 
   -- at all of it where none is given
   pub looks_all : given ≡ 0 → looks free permitted n last ≡ sum (λ j. bit (free j)) n

@@ -109,10 +109,7 @@ module _ (c : Clock) (m : Book) (i j : ℕ) where
       shows_sought : (r : ℕ) → r ≡ copy.answer → RefusedByRule r
           → with_booking r (present i j + counts_as o c m i j d) ≡ Previews.preview o c m i j d
       unfolding Previews.preview
-      shows_sought r e h =
-          rw (sym e)
-          (ap₂ (preview_of r) (row_raised (counts_as o c m i j d) ∙ sym (shows_asked r _ _ h))
-          (column_raised (counts_as o c m i j d) ∙ sym (shows_asked r _ _ h)))
+      shows_sought r e h = grind (arith, nat_tests, row_raised, shows_asked, column_raised)
 
     -- so it is with a booking by slots
     pub book_shows : (d r : ℕ) → r ≡ book_refusal c m i j d → (r ≡ 0) ⊎ RefusedByRule r

@@ -39,9 +39,7 @@ module _ (f b : ℕ) where
   pub word_bookings : (n : ℕ) (m : Book) → n * n ≤ length m.slots → n * n ≤ length m.rates → (i j : ℕ) → Port n i → Port n j
       → word n (booking_words f b m.slots m.rates) i j ≡ bookings n f b m i j
   unfolding word bookings
-  word_bookings n m h g i j pi pj =
-      let p = place_inside n i j pi pj in
-      booking_at m.slots m.rates (place n i j) (omega arith) (omega arith)
+  word_bookings n m h g i j pi pj = grind (arith, nat_tests, place_inside, booking_at, place)
 
   -- RATES
   -- nothing takes nothing

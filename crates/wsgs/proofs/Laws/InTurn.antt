@@ -114,36 +114,16 @@ in_turn_is p (suc n) last = go (in_turn p (suc n) last) (first_is p (suc n) k (s
 
 -- the same of a number that is known to be given
 pub in_turn_some : (p : ℕ → Bool) (n last v : ℕ) → v ≡ in_turn p n last → 1 ≤ v → Port n v × T (p v)
-in_turn_some p n last v e h = rw e (go (in_turn p n last) e (in_turn_is p n last))
-  where
-    go : (w : ℕ) → v ≡ w → InTurn p n last w → Port n w × T (p w)
-    go w d (inl r) = absurd (omega arith)
-    go w d (inr r) = (r.0, r.1)
+in_turn_some p n last v e h = grind (arith, nat_tests, in_turn_is)
 
 -- and of one that is known to be 0
 pub in_turn_none : (p : ℕ → Bool) (n last v y : ℕ) → v ≡ in_turn p n last → v ≡ 0 → Port n y → T (not (p y))
-in_turn_none p n last v y e z q = go (in_turn p n last) e (in_turn_is p n last)
-  where
-    go : (w : ℕ) → v ≡ w → InTurn p n last w → T (not (p y))
-    go w d (inl r) = r.1 y q
-    go w d (inr r) = absurd (omega arith)
+in_turn_none p n last v y e z q = grind (arith, nat_tests, in_turn_is)
 
 -- one that passes, and nobody before it in the order, is given
 pub in_turn_at : (p : ℕ → Bool) (n last v : ℕ) → Port n v → T (p v)
     → ((y : ℕ) → Port n y → ahead n (next n last) y < ahead n (next n last) v → T (not (p y))) → in_turn p n last ≡ v
-in_turn_at p n last v pv t h = go (in_turn p n last) (in_turn_is p n last)
-  where
-    k : ℕ
-    k = next n last
-
-    go : (w : ℕ) → InTurn p n last w → w ≡ v
-    go w (inl r) = absurd (T_not (p v) (r.1 v pv) t)
-    go w (inr r) = at (dec_lt (ahead n k w) (ahead n k v)) (dec_lt (ahead n k v) (ahead n k w))
-      where
-        at : Dec (ahead n k w < ahead n k v) → Dec (ahead n k v < ahead n k w) → w ≡ v
-        at (yes l) _ = absurd (T_not (p w) (h w r.0 l) r.1)
-        at (no l) (yes g) = absurd (T_not (p v) (r.2 v pv g) t)
-        at (no l) (no g) = ahead_once n k w v (next_port n last (omega arith)) r.0 pv (omega arith)
+in_turn_at p n last v pv t h = grind (arith, nat_tests, in_turn_is, next, ahead_once, next_port)
 
 -- the lowest that passes is given where the search begins at 1
 pub in_turn_lowest : (p : ℕ → Bool) (n v : ℕ) → Port n v → T (p v) → ((y : ℕ) → Port n y → y < v → T (not (p y))) → in_turn p n 0 ≡ v
@@ -153,31 +133,12 @@ in_turn_lowest p n v pv t h =
 
 -- where nobody passes, nobody is given
 pub in_turn_nobody : (p : ℕ → Bool) (n last : ℕ) → ((y : ℕ) → Port n y → T (not (p y))) → in_turn p n last ≡ 0
-in_turn_nobody p n last h = go (in_turn p n last) (in_turn_is p n last)
-  where
-    go : (w : ℕ) → InTurn p n last w → w ≡ 0
-    go w (inl r) = r.0
-    go w (inr r) = absurd (T_not (p w) (h w r.0) r.1)
+in_turn_nobody p n last h = grind (arith, nat_tests, in_turn_is)
 
 -- one that passes is given, or comes nearer: it is earlier in the order from one past the one that is given
 pub in_turn_nearer : (p : ℕ → Bool) (n last v y : ℕ) → v ≡ in_turn p n last → Port n y → T (p y) → v ≢ y
     → ahead n (next n v) y < ahead n (next n last) y
-in_turn_nearer p n last v y e py t d = rw e (go (in_turn p n last) e (in_turn_is p n last))
-  where
-    k : ℕ
-    k = next n last
-
-    go : (w : ℕ) → v ≡ w → InTurn p n last w → ahead n (next n w) y < ahead n k y
-    go w f (inl r) = absurd (T_not (p y) (r.1 y py) t)
-    go w f (inr r) = at (dec_lt (ahead n k w) (ahead n k y)) (dec_lt (ahead n k y) (ahead n k w))
-      where
-        pk : Port n k
-        pk = next_port n last (omega arith)
-
-        at : Dec (ahead n k w < ahead n k y) → Dec (ahead n k y < ahead n k w) → ahead n (next n w) y < ahead n k y
-        at (yes l) _ = ahead_nearer n k w y pk r.0 py l
-        at (no l) (yes g) = absurd (T_not (p y) (r.2 y py g) t)
-        at (no l) (no g) = absurd (d (f ∙ ahead_once n k w y pk r.0 py (omega arith)))
+in_turn_nearer p n last v y e py t d = grind (arith, nat_tests, in_turn_is, next, next_port, ahead_nearer, ahead_once)
 
 -- tests that agree on 1..n are given the same
 first_ext : (p q : ℕ → Bool) (n k m : ℕ) → Port n k → ((y : ℕ) → Port n y → p y ≡ q y) → first_from p n k m ≡ first_from q n k m
@@ -284,7 +245,4 @@ module _ (n m : ℕ) (few : n ≤ m) where
           (λ y py l. r.2 y (omega arith) (rw (next_below n 0 (omega arith)) (omega (arith, ahead_from n 1 y py.low, ahead_from n 1 v r.0.low))))
 
   pub in_turn_wide : (p : ℕ → Bool) (last : ℕ) → ((y : ℕ) → Port m y → T (p y) → y ≤ n) → in_turn p m last ≡ in_turn p n last
-  in_turn_wide p last h =
-      in_turn_above p m last
-      ∙ ap₂ later (low_wide (above p m last) (λ y py t. h y py (and_yes (ltb last y) (p y) t).1)) (low_wide p h)
-      ∙ sym (in_turn_above p n last)
+  in_turn_wide p last h = grind (arith, nat_tests, in_turn_above, low_wide)

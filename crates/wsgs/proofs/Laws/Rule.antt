@@ -6,11 +6,11 @@ use mathlib.Core.Logic.{◌⊎◌, inl, inr, ◌≢◌}
 use Prim.Native.Nat.{ℕ, zero, suc, ◌+◌, ◌*◌, ◌≤◌}
 use native.Mathlib.Omega.{arith}
 use native.Mathlib.Decide.{ℕ_discrete}
-use lib.Dec.{T, eqb, leb→le, le→leb}
+use lib.Dec.{T, leb→le, le→leb}
 use borrow.Author.Tests.{eq-eqb, ne_eqb}
 use Rattle.std.proofs.lemmas.Bool.Decides.{nat_tests}
 use Rattle.std.proofs.Math.Facts.{and_yes, yes_and}
-use Rattle.wsgs.specs.Basics.{pick, Port, sum, sum_without, all_of}
+use Rattle.wsgs.specs.Basics.{Port, sum, sum_without, all_of}
 use Rattle.wsgs.specs.Bookings.{row_sum, column_sum}
 use Rattle.wsgs.specs.Rule.{with_more, booked_fits, sharing_fit, rule}
 use Rattle.wsgs.specs.Claims.{Fits, Admits}
@@ -110,11 +110,7 @@ module _ (n f : ℕ) (a b : ℕ → ℕ → ℕ) (below : Below n a b) where
   column_below j p = sum_le _ _ n (λ x q. below x j q p)
 
   without_below : (g h : ℕ → ℕ) (z : ℕ) → ((x : ℕ) → Port n x → g x ≤ h x) → sum_without z g n ≤ sum_without z h n
-  without_below g h z k = sum_le _ _ n (λ x q. go (eqb x z) x q)
-    where
-      go : (t : Bool) (x : ℕ) → Port n x → pick t 0 (g x) ≤ pick t 0 (h x)
-      go true x q = omega arith
-      go false x q = k x q
+  without_below g h z k = grind (arith, nat_tests, sum_le)
 
   pub fits_below : (i j : ℕ) → Port n i → Port n j → Fits n f b i j → Fits n f a i j
   unfolding row_sum column_sum
