@@ -6,4 +6,3 @@ pub mod Amounts
 pub mod Afterwards
 pub mod Sharing
 pub mod Calls
-pub mod PairSums

@@ -1,15 +1,16 @@
 -- The bookings that would follow a booking, lists of the sums of their rows and columns, and the tests of the pairs. Assumes nothing.
 use Rattle.std.specs.Prelude.{◌≡◌, Bool, List, ℕ, ◌+◌, ◌≤◌, ◌<◌, length, get_or}
-use Rattle.wsgs.specs.declared.Clock.{Clock}
-use Rattle.wsgs.specs.Bookings.{Book, bookings, row_sum, column_sum}
-use Rattle.wsgs.specs.Rule.{with_more, input_fits, output_fits}
-use Rattle.book.specs.declared.afterwards.BookingRequest.{BookingRequest}
+use Rattle.wsgs.specs.Bookings.{row_sum, column_sum}
+use Rattle.wsgs.specs.Rule.{with_more, booked_fits}
+use Rattle.book.specs.declared.sums.Line.{Line}
+use Rattle.book.specs.declared.asked.AskedPair.{AskedPair}
 use Rattle.book.specs.declared.all_sums.AllSums.{AllSums}
+use Rattle.book.specs.Asked.{present}
+use Rattle.book.specs.Lines.{pair_at}
 
--- the bookings of a book, with so much more for the pair of the request
-unfoldable pub afterwards : Clock → Book → BookingRequest → ℕ → ℕ → ℕ
-unfolding bookings
-afterwards c m q = with_more (bookings c.ports c.frame c.line m) q.input.0 q.output.0 q.more.0
+-- the bookings of a book, with so much more for the asked pair
+unfoldable pub afterwards : AskedPair → (more : ℕ) → ℕ → ℕ → ℕ
+afterwards p more = with_more (present p) p.pair.input.0 p.pair.output.0 more
 
 -- lists with a sum for each of n ports, from 1 on: of the bookings a, those of the first x rows, and those of all columns over the first x rows
 pub record RowSums (n x : ℕ) (a : ℕ → ℕ → ℕ) (sums : List ℕ) : Type 0 where
@@ -21,13 +22,13 @@ pub record ColumnSums (n x : ℕ) (a : ℕ → ℕ → ℕ) (sums : List ℕ) : 
   pub at : (k : ℕ) → k < n → get_or sums k 0 ≡ column_sum x a (k + 1)
 
 -- both, of all rows and columns of the bookings that would follow
-pub record Totals (c : Clock) (m : Book) (q : BookingRequest) (t : AllSums) : Type 0 where
-  pub rows : RowSums c.ports c.ports (afterwards c m q) t.rows
-  pub columns : ColumnSums c.ports c.ports (afterwards c m q) t.columns
+pub record Totals (p : AskedPair) (more : ℕ) (t : AllSums) : Type 0 where
+  pub rows : RowSums p.clock.ports p.clock.ports (afterwards p more) t.rows
+  pub columns : ColumnSums p.clock.ports p.clock.ports (afterwards p more) t.columns
 
--- inequality (2) of the paper would hold of each booked pair that shares the input of the request; and of each that shares its output
-abbrev pub row_fits : Clock → Book → BookingRequest → Bool
-row_fits c m q = input_fits c.ports c.frame (afterwards c m q) q.input.0
-
-abbrev pub column_fits : Clock → Book → BookingRequest → Bool
-column_fits c m q = output_fits c.ports c.frame (afterwards c m q) q.output.0
+-- inequality (2) of the paper would hold of the line's pair at port k, where that has a booking
+unfoldable pub fits_along : Line → AskedPair → (more : ℕ) → ℕ → Bool
+unfolding booked_fits
+fits_along l p more k =
+    let other = pair_at l p.pair k in
+    booked_fits p.clock.ports p.clock.frame (afterwards p more) other.input.0 other.output.0

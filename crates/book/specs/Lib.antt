@@ -1,3 +1,6 @@
 pub mod Refusals
-pub mod PairSums
+pub mod Lines
+pub mod Asked
 pub mod Afterwards
+pub mod PairSums
+pub mod Operations

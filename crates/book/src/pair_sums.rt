@@ -1,17 +1,19 @@
 // What the book holds for a pair, and the sums in which its booking stands. Headroom and previews read them here.
-ghost use Rattle.std.specs.Prelude.{◌≡◌, ◌^◌, ◌<◌};
-ghost use Rattle.wsgs.specs.Bookings.{book_of};
-ghost use Rattle.book.specs.PairSums.{pair_sums};
+ghost use Rattle.std.specs.Prelude.{◌≡◌, ◌^◌, ◌<◌, IfOk};
+ghost use Rattle.wsgs.specs.Questions.{holds_book};
+ghost use Rattle.wsgs.specs.Told.{refusal_number, book_lent};
+ghost use Rattle.questions.specs.Refusals.{pair_refusal};
+ghost use Rattle.book.specs.PairSums.{present_sums};
 
+use crate::asked::AskedPair;
 use crate::pairs::word_of;
-use crate::refusals::book_pair_refusal;
-use crate::sums::{booked, column_sum, row_sum};
-use wsgs::{Clock, Input, Output};
+use crate::refusals::check_book_pair;
+use crate::sums::Line;
+use wsgs::{BookRuns, Clock, Pair, Refused};
 
-// The refusal, 0 for none; the pair's word of slots and of rates, its booking, and the sums of bookings of its row and of its column.
+// The pair's word of slots and of rates, its booking, and the sums of bookings of its row and of its column.
 #[derive(Clone, Copy)]
 pub struct PairSums {
-    pub refusal: u32,
     pub slots: u32,
     pub rate: u32,
     pub booking: u64,
@@ -19,42 +21,32 @@ pub struct PairSums {
     pub column: u64,
 }
 
-// Those of a pair that questions 1, 2, 4 and 5 pass; zeros beside a refusal.
-pub fn pair_sums(
-    clock: Clock,
-    slots: &[u32],
-    rates: &[u32],
-    input: Input,
-    output: Output,
-) -> PairSums
-    ensures result { result
-        ≡ pair_sums clock (book_of slots.now rates.now) input.0 output.0 }
-    ensures row_fits { result.row < 2 ^ 38 }
-    ensures column_fits { result.column < 2 ^ 38 }
+// Those of a pair that questions 1, 2, 4 and 5 pass.
+pub fn pair_sums(clock: Clock, book: BookRuns<'_>, pair: Pair) -> Result<PairSums, Refused>
+    ensures refusal { refusal_number result
+        ≡ pair_refusal clock (holds_book clock.ports (book_lent book.entry)) pair.input.0 pair.output.0 }
+    ensures sums { IfOk result
+        (λ s. s ≡ present_sums clock (book_lent book.entry) pair.input.0 pair.output.0) }
+    ensures row_fits { IfOk result (λ s. s.row < 2 ^ 38) }
+    ensures column_fits { IfOk result (λ s. s.column < 2 ^ 38) }
 {
-    let refusal = book_pair_refusal(clock, slots, rates, input, output);
-    if refusal != 0 {
-        return PairSums {
-            refusal: refusal,
-            slots: 0,
-            rate: 0,
-            booking: 0,
-            row: 0,
-            column: 0,
-        };
-    }
-    let ports = clock.ports as u64;
-    let held = word_of(ports, slots, input, output);
-    let rate = word_of(ports, rates, input, output);
-    let own = booked(clock, slots, rates, input, output);
-    let row = row_sum(clock, slots, rates, input);
-    let column = column_sum(clock, slots, rates, output);
-    PairSums {
-        refusal: 0,
+    check_book_pair(clock, book, pair)?;
+    let asked = AskedPair {
+        clock,
+        runs: book,
+        pair,
+    };
+    let ports = clock.ports as usize;
+    let held = word_of(ports, book.slots, pair);
+    let rate = word_of(ports, book.rates, pair);
+    let own = asked.booked(pair);
+    let row = asked.sum(Line::Row);
+    let column = asked.sum(Line::Column);
+    Ok(PairSums {
         slots: held,
         rate: rate,
         booking: own.0,
         row: row,
         column: column,
-    }
+    })
 }

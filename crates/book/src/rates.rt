@@ -1,42 +1,32 @@
 // Rates: whether one is in range, and how far it raises a booking.
 ghost use Rattle.std.specs.Prelude.{◌≡◌, ◌^◌, ◌<◌};
-ghost use Rattle.wsgs.specs.Bookings.{book_of};
-ghost use Rattle.wsgs.specs.Questions.{rate_in_range, holds_book};
+ghost use Rattle.wsgs.specs.Questions.{rate_in_range};
 ghost use Rattle.wsgs.specs.Book.{rise};
-ghost use Rattle.wsgs.specs.Claims.{Reached};
+ghost use Rattle.wsgs.specs.Told.{book_lent};
 
+use crate::asked::AskedPair;
 use crate::pairs::word_of;
-use bookings::{rise, slots_of};
+use bookings::rise;
 use questions::is_between;
-use wsgs::{BookedSlots, Clock, Input, MAX_LINE_RATE, Output};
+use wsgs::{BookedSlots, MAX_LINE_RATE};
 
 // Whether a line can have that rate, and a pair a rate of it: question 6.
 pub fn rate_in_range(line: u64, rate: u64) -> bool
     ensures result { result ≡ (rate_in_range line rate).yes }
 {
-    if !is_between(1, MAX_LINE_RATE, line) {
-        return false;
-    }
-    is_between(1, line, rate)
+    is_between(1, MAX_LINE_RATE, line) && is_between(1, line, rate)
 }
 
-// How far a pair's booking rises where its summed rate rises by so much.
-pub fn rate_rise(
-    clock: Clock,
-    slots: &[u32],
-    rates: &[u32],
-    input: Input,
-    output: Output,
-    rate: u64,
-) -> BookedSlots
-    requires pair_in_range { Reached clock (holds_book clock.ports (book_of slots.now rates.now)) input.0 output.0 }
-    requires rate_fits { rate < 2 ^ 32 }
-    ensures result { result.0
-        ≡ rise clock (book_of slots.now rates.now) input.0 output.0 rate }
-    ensures fits { result.0 < 2 ^ 32 }
-{
-    let ports = clock.ports as u64;
-    let held = word_of(ports, rates, input, output);
-    let booked = slots_of(word_of(ports, slots, input, output));
-    rise(clock.frame, clock.line, booked, held, rate as u32)
+impl AskedPair<'_> {
+    // How far the pair's booking rises where its summed rate rises by so much.
+    pub fn rise(self, rate: u32) -> BookedSlots
+        ensures result { result.0 ≡ rise self.entry.clock (book_lent self.entry.runs)
+            self.entry.pair.input.0 self.entry.pair.output.0 rate }
+        ensures fits { result.0 < 2 ^ 32 }
+    {
+        let ports = self.clock.ports as usize;
+        let booked = BookedSlots::from(word_of(ports, self.runs.slots, self.pair));
+        let held = word_of(ports, self.runs.rates, self.pair);
+        rise(self.clock, booked, held, rate)
+    }
 }

@@ -1,137 +1,98 @@
-// The number that each operation gets, and 0 where it is accepted. An operation on the book and its preview ask here.
-ghost use Rattle.std.specs.Prelude.{◌≡◌};
-ghost use Rattle.wsgs.specs.Bookings.{book_of};
+// Why each operation is refused, if it is. An operation on the book and its preview ask here.
+ghost use Rattle.std.specs.Prelude.{◌≡◌, IsTrue};
 ghost use Rattle.wsgs.specs.Questions.{holds_book};
-ghost use Rattle.wsgs.specs.Book.{book_refusal, rate_refusal, release_refusal, release_rate_refusal, arrive_refusal};
+ghost use Rattle.wsgs.specs.Book.{arrive_refusal};
+ghost use Rattle.wsgs.specs.Told.{refusal_number, book_lent};
 ghost use Rattle.questions.specs.Refusals.{pair_refusal};
+ghost use Rattle.book.specs.Operations.{amount_asked, last_refusal, operation_refusal};
 
-use crate::admission::{held_refusal, rule_refusal};
-use crate::queues::queue_refusal;
-use crate::rates::{rate_in_range, rate_rise};
-use questions::{holds_book, holds_pairs, is_between, pair_refusal};
-use wsgs::{BookedSlots, Clock, Input, MAX_ARRIVAL, Output};
+use crate::admission::check_held;
+use crate::afterwards::BookingRequest;
+use crate::asked::AskedPair;
+use crate::operations::BookOperation;
+use crate::queues::check_queue;
+use crate::rates::rate_in_range;
+use questions::{check_pair, holds_book, holds_pairs, is_between};
+use wsgs::{BookRuns, Clock, MAX_ARRIVAL, Pair, Refused};
 
 // Of a call on a pair of the book: questions 1, 2, 4 and 5.
-pub fn book_pair_refusal(
-    clock: Clock,
-    slots: &[u32],
-    rates: &[u32],
-    input: Input,
-    output: Output,
-) -> u32
-    ensures result { result
-        ≡ pair_refusal clock (holds_book clock.ports (book_of slots.now rates.now)) input.0 output.0 }
+pub fn check_book_pair(clock: Clock, book: BookRuns<'_>, pair: Pair) -> Result<(), Refused>
+    ensures refusal { refusal_number result
+        ≡ pair_refusal clock (holds_book clock.ports (book_lent book.entry)) pair.input.0 pair.output.0 }
 {
-    let enough = holds_book(clock.ports as u64, slots, rates);
-    pair_refusal(clock, enough, input, output)
+    check_pair(clock, holds_book(clock.ports as u64, book), pair)
 }
 
-// Of a booking by slots.
-pub fn book_refusal(
+// Of an operation: those, whether its amount is in range, and what it is asked last.
+pub fn check_operation(
     clock: Clock,
-    slots: &[u32],
-    rates: &[u32],
-    input: Input,
-    output: Output,
-    amount: BookedSlots,
-) -> u32
-    ensures result { result
-        ≡ book_refusal clock (book_of slots.now rates.now) input.0 output.0 amount.0 }
+    book: BookRuns<'_>,
+    pair: Pair,
+    operation: BookOperation,
+) -> Result<(), Refused>
+    ensures refusal { refusal_number result
+        ≡ operation_refusal operation clock (book_lent book.entry) pair.input.0 pair.output.0 }
 {
-    let refusal = book_pair_refusal(clock, slots, rates, input, output);
-    if refusal != 0 {
-        return refusal;
+    check_book_pair(clock, book, pair)?;
+    if !amount_in_range(clock, operation) {
+        return Err(Refused::Amount);
     }
-    if !is_between(1, clock.frame as u64, amount.0) {
-        return 6;
-    }
-    rule_refusal(clock, slots, rates, input, output, amount)
+    let asked = AskedPair {
+        clock,
+        runs: book,
+        pair,
+    };
+    asked.check_last(operation)
 }
 
-// Of a booking by rate, which counts as the rise of the pair's booking.
-pub fn rate_refusal(
-    clock: Clock,
-    slots: &[u32],
-    rates: &[u32],
-    input: Input,
-    output: Output,
-    rate: u64,
-) -> u32
-    ensures result { result
-        ≡ rate_refusal clock (book_of slots.now rates.now) input.0 output.0 rate }
+// Whether the amount is in range: question 6.
+fn amount_in_range(clock: Clock, operation: BookOperation) -> bool
+    ensures result { result ≡ (amount_asked operation clock).yes }
 {
-    let refusal = book_pair_refusal(clock, slots, rates, input, output);
-    if refusal != 0 {
-        return refusal;
+    match operation {
+        BookOperation::Book(amount) | BookOperation::Release(amount) => {
+            is_between(1, clock.frame as u64, amount.0)
+        }
+        BookOperation::BookRate(rate) | BookOperation::ReleaseRate(rate) => {
+            rate_in_range(clock.line as u64, rate)
+        }
     }
-    if !rate_in_range(clock.line as u64, rate) {
-        return 6;
-    }
-    let more = rate_rise(clock, slots, rates, input, output, rate);
-    rule_refusal(clock, slots, rates, input, output, more)
 }
 
-// Of a release of slots.
-pub fn release_refusal(
-    clock: Clock,
-    slots: &[u32],
-    rates: &[u32],
-    input: Input,
-    output: Output,
-    amount: BookedSlots,
-) -> u32
-    ensures result { result
-        ≡ release_refusal clock (book_of slots.now rates.now) input.0 output.0 amount.0 }
-{
-    let refusal = book_pair_refusal(clock, slots, rates, input, output);
-    if refusal != 0 {
-        return refusal;
+impl AskedPair<'_> {
+    // Of a booking, by the slots that it counts as, what the book's rule asks; of a release, whether as much is held.
+    fn check_last(self, operation: BookOperation) -> Result<(), Refused>
+        requires amount_in_range { IsTrue (amount_asked operation self.clock).yes }
+        ensures refusal { refusal_number result
+            ≡ last_refusal operation self.entry.clock (book_lent self.entry.runs)
+            self.entry.pair.input.0 self.entry.pair.output.0 }
+    {
+        let ports = self.clock.ports as usize;
+        match operation {
+            BookOperation::Book(amount) => BookingRequest { asked: self, more: amount }.check_rule(),
+            BookOperation::BookRate(rate) => {
+                let more = self.rise(rate as u32);
+                BookingRequest { asked: self, more }.check_rule()
+            }
+            BookOperation::Release(amount) => check_held(
+                ports,
+                self.runs.slots,
+                self.pair,
+                amount.0,
+            ),
+            BookOperation::ReleaseRate(rate) => check_held(ports, self.runs.rates, self.pair, rate),
+        }
     }
-    if !is_between(1, clock.frame as u64, amount.0) {
-        return 6;
-    }
-    held_refusal(clock.ports as u64, slots, input, output, amount.0)
-}
-
-// Of a release of a rate.
-pub fn release_rate_refusal(
-    clock: Clock,
-    slots: &[u32],
-    rates: &[u32],
-    input: Input,
-    output: Output,
-    rate: u64,
-) -> u32
-    ensures result { result
-        ≡ release_rate_refusal clock (book_of slots.now rates.now) input.0 output.0 rate }
-{
-    let refusal = book_pair_refusal(clock, slots, rates, input, output);
-    if refusal != 0 {
-        return refusal;
-    }
-    if !rate_in_range(clock.line as u64, rate) {
-        return 6;
-    }
-    held_refusal(clock.ports as u64, rates, input, output, rate)
 }
 
 // Of an arrival.
-pub fn arrive_refusal(
-    clock: Clock,
-    queues: &[u32],
-    input: Input,
-    output: Output,
-    packets: u64,
-) -> u32
-    ensures result { result ≡ arrive_refusal clock queues.now input.0 output.0 packets }
+pub fn check_arrival(clock: Clock, queues: &[u32], pair: Pair, packets: u64) -> Result<(), Refused>
+    ensures refusal { refusal_number result
+        ≡ arrive_refusal clock queues.now pair.input.0 pair.output.0 packets }
 {
-    let enough = holds_pairs(clock.ports as u64, queues);
-    let refusal = pair_refusal(clock, enough, input, output);
-    if refusal != 0 {
-        return refusal;
-    }
+    check_pair(clock, holds_pairs(clock.ports as u64, queues), pair)?;
     if !is_between(1, MAX_ARRIVAL, packets) {
-        return 6;
+        return Err(Refused::Amount);
     }
-    queue_refusal(clock.ports as u64, queues, input, output, packets)
+    check_queue(clock.ports as usize, queues, pair, packets)
 }

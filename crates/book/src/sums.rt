@@ -1,60 +1,69 @@
-// The bookings of the pairs, summed over a row and over a column.
+// What pairs have booked, and the bookings summed over a line of a pair: its input's row, or its output's column.
 ghost use Rattle.std.specs.Prelude.{◌≡◌, ◌^◌, ◌<◌};
 ghost use Rattle.wsgs.specs.Basics.{Port};
-ghost use Rattle.wsgs.specs.Bookings.{book_of, bookings, row_sum, column_sum};
-ghost use Rattle.book.specs.Refusals.{BookFits};
+ghost use Rattle.book.specs.Lines.{pair_at, along, line_sum};
+ghost use Rattle.book.specs.Asked.{present};
 
+use crate::asked::AskedPair;
 use crate::pairs::word_of;
-use bookings::{booking, slots_of};
-use wsgs::{BookedSlots, Clock, Input, Output};
+use bookings::booking;
+use wsgs::{BookedSlots, Input, Output, Pair};
 
-// What a pair has booked.
-pub fn booked(
-    clock: Clock,
-    slots: &[u32],
-    rates: &[u32],
-    input: Input,
-    output: Output,
-) -> BookedSlots
-    requires book_fits { BookFits clock.ports (book_of slots.now rates.now) }
-    requires input_in_range { Port clock.ports input.0 }
-    requires output_in_range { Port clock.ports output.0 }
-    ensures result { result.0 ≡ bookings clock.ports clock.frame clock.line
-        (book_of slots.now rates.now) input.0 output.0 }
-    ensures fits { result.0 < 2 ^ 32 }
-{
-    let ports = clock.ports as u64;
-    let held = slots_of(word_of(ports, slots, input, output));
-    let rate = word_of(ports, rates, input, output);
-    booking(clock.frame, clock.line, held, rate)
+// The pairs that share a pair's input, and those that share its output.
+#[derive(Clone, Copy, Debug, PartialEq, Eq)]
+pub enum Line {
+    Row,
+    Column,
 }
 
-// The bookings of an input, summed in 64 bits: none of 32 can make them wrap.
-pub fn row_sum(clock: Clock, slots: &[u32], rates: &[u32], input: Input) -> u64
-    requires book_fits { BookFits clock.ports (book_of slots.now rates.now) }
-    requires input_in_range { Port clock.ports input.0 }
-    ensures result { result ≡ row_sum clock.ports (bookings clock.ports clock.frame clock.line
-        (book_of slots.now rates.now)) input.0 }
-    ensures fits { result < 2 ^ 38 }
-{
-    let mut sum = 0;
-    for j in 0..clock.ports as u64 {
-        sum += booked(clock, slots, rates, input, Output(j + 1)).0;
+impl Line {
+    // The pair of a pair's line at a port.
+    pub fn pair_at(self, pair: Pair, port: u64) -> Pair
+        ensures result { result ≡ pair_at self pair port }
+    {
+        match self {
+            Line::Row => Pair {
+                output: Output(port),
+                ..pair
+            },
+            Line::Column => Pair {
+                input: Input(port),
+                ..pair
+            },
+        }
     }
-    sum
 }
 
-// The bookings of an output, summed in the same way.
-pub fn column_sum(clock: Clock, slots: &[u32], rates: &[u32], output: Output) -> u64
-    requires book_fits { BookFits clock.ports (book_of slots.now rates.now) }
-    requires output_in_range { Port clock.ports output.0 }
-    ensures result { result ≡ column_sum clock.ports (bookings clock.ports clock.frame clock.line
-        (book_of slots.now rates.now)) output.0 }
-    ensures fits { result < 2 ^ 38 }
-{
-    let mut sum = 0;
-    for i in 0..clock.ports as u64 {
-        sum += booked(clock, slots, rates, Input(i + 1), output).0;
+impl AskedPair<'_> {
+    // What any pair of the ports has booked.
+    pub fn booked(self, other: Pair) -> BookedSlots
+        requires input_in_range { Port self.clock.ports other.input.0 }
+        requires output_in_range { Port self.clock.ports other.output.0 }
+        ensures result { result.0 ≡ present self.entry other.input.0 other.output.0 }
+        ensures fits { result.0 < 2 ^ 32 }
+    {
+        let ports = self.clock.ports as usize;
+        let held = BookedSlots::from(word_of(ports, self.runs.slots, other));
+        let rate = word_of(ports, self.runs.rates, other);
+        booking(self.clock, held, rate)
     }
-    sum
+
+    // What the line's pair at a port has.
+    fn booked_at(self, line: Line, port: u64) -> BookedSlots
+        requires port_in_range { Port self.clock.ports port }
+        ensures result { result.0 ≡ along line (present self.entry) self.entry.pair port }
+        ensures fits { result.0 < 2 ^ 32 }
+    {
+        self.booked(line.pair_at(self.pair, port))
+    }
+
+    // The bookings of a line, summed in 64 bits: none of 32 can make them wrap.
+    pub fn sum(self, line: Line) -> u64
+        ensures result { result
+            ≡ line_sum line self.entry.clock.ports (present self.entry) self.entry.pair }
+    {
+        (1..self.clock.ports as u64 + 1)
+            .map(|port| self.booked_at(line, port).0)
+            .sum()
+    }
 }

@@ -1,348 +1,231 @@
 // Starts of both forms, on runs with 7 in every word. Each line has the clock afterwards and, of each run, its length, its first word, the last that 32 ports
 // use, and the one beyond.
-use crate::show::{clock_of, clock_of_kind, number, refused, text, word};
+// Stays (d): a start of either form is a function with its own runs, and the sizes and lengths that it is tried on are data.
+ghost use Rattle.std.specs.Prelude.{◌≤◌};
+
+use crate::show::{Shown, WordsAt, clock_of_kind, number};
 use starts::{start_direct, start_pipelined};
-use std::io;
-use wsgs::StartResult;
+use std::{fmt, io};
+use wsgs::BookKind::{Fine, Plain};
+use wsgs::{BookKind, Clock, PipelineRuns, Refused, TurnRuns};
 
-// What a start is given: the number of ports, the length of a frame, the rate of a line, and whether the book is fine.
+// What a start is given: the number of ports, the length of a frame, the rate of a line, and the kind of the book.
 #[derive(Clone, Copy)]
-struct Sizes(u64, u64, u64, bool);
+struct Sizes(u64, u64, u64, BookKind);
 
-// Prints what a start was given, and what it answers.
-fn show_start(rt: &impl Print, name: &[u8], sizes: Sizes, started: StartResult) -> io::Result<()> {
-    number(rt, name, sizes.0)?;
-    number(rt, b" ", sizes.1)?;
-    number(rt, b" ", sizes.2)?;
-    number(rt, b" ", sizes.3 as u64)?;
-    refused(rt, started.refusal)?;
-    clock_of(rt, started.clock)
+impl fmt::Display for Sizes {
+    fn fmt<W: fmt::Write>(&self, f: &mut fmt::Formatter<W>) -> fmt::Result {
+        let Sizes(ports, frame, line, kind) = *self;
+        write!(f, "{ports} {frame} {line} {}", kind as u8)
+    }
 }
 
-// Prints a run that 32 ports use up to a place.
-fn show_run(
+// Prints what a start was given, and what it answers. A refused one leaves its caller's clock.
+fn show_start(
     rt: &impl Print,
-    name: &[u8],
-    run: &[u32],
-    last: usize,
-    beyond: usize,
+    name: &str,
+    sizes: Sizes,
+    started: Result<Clock, Refused>,
 ) -> io::Result<()> {
-    number(rt, name, run.len() as u64)?;
-    text(rt, b":")?;
-    word(rt, run, 0)?;
-    word(rt, run, last)?;
-    word(rt, run, beyond)
+    let clock = started.unwrap_or(clock_of_kind(5, 6, 8, 7));
+    print!(rt;
+        "{name} {sizes}: refusal {} {}",
+        number(started.map(|_| ())),
+        Shown(clock)
+    )
+}
+
+// The places of the first word of a run, of the last that 32 ports use, and of the one beyond.
+const OF_PAIRS: [usize; 3] = [0, 1023, 1024];
+
+const OF_PORTS: [usize; 3] = [0, 31, 32];
+
+const OF_ROWS: [usize; 3] = [0, 2047, 2048];
+
+// A run's length, and these words of it.
+#[derive(Clone, Copy)]
+struct Ends<'a>(&'a [u32], &'a [usize]);
+
+impl fmt::Display for Ends<'_> {
+    fn fmt<W: fmt::Write>(&self, f: &mut fmt::Formatter<W>) -> fmt::Result {
+        let Ends(run, places) = *self;
+        write!(f, "{}:{}", run.len(), WordsAt(run, places))
+    }
 }
 
 // Prints the runs that both forms have.
-fn show_direct_runs(
-    rt: &impl Print,
-    slots: &[u32],
-    rates: &[u32],
-    credits: &[u32],
-    queues: &[u32],
-    given: &[u32],
-) -> io::Result<()> {
-    show_run(rt, b" slots ", slots, 1023, 1024)?;
-    show_run(rt, b" rates ", rates, 1023, 1024)?;
-    show_run(rt, b" credits ", credits, 1023, 1024)?;
-    show_run(rt, b" queues ", queues, 1023, 1024)?;
-    show_run(rt, b" given ", given, 31, 32)
+fn show_runs(rt: &impl Print, slots: &[u32], rates: &[u32], runs: &TurnRuns<'_>) -> io::Result<()> {
+    print!(rt;
+        " slots {} rates {}",
+        Ends(slots, &OF_PAIRS),
+        Ends(rates, &OF_PAIRS)
+    )?;
+    print!(rt; " credits {}", Ends(runs.credits, &OF_PAIRS))?;
+    print!(rt; " queues {}", Ends(runs.queues, &OF_PAIRS))?;
+    print!(rt; " given {}", Ends(runs.given, &OF_PORTS))
 }
 
-fn direct_on(
-    rt: &impl Print,
-    sizes: Sizes,
-    slots: &mut [u32],
-    rates: &mut [u32],
-    credits: &mut [u32],
-    queues: &mut [u32],
-    given: &mut [u32],
-) -> io::Result<()> {
-    let started = start_direct(
-        sizes.0,
-        sizes.1,
-        sizes.2,
-        sizes.3,
-        clock_of_kind(5, 6, 8, 7),
-        slots,
-        rates,
-        credits,
-        queues,
-        given,
-    );
-    show_start(rt, b"direct ", sizes, started)?;
-    show_direct_runs(rt, slots, rates, credits, queues, given)?;
-    text(rt, b"\n")
+// A start of a direct switch on runs of so many words.
+fn direct_on<
+    const SLOTS: usize,
+    const RATES: usize,
+    const CREDITS: usize,
+    const QUEUES: usize,
+    const GIVEN: usize,
+>(rt: &impl Print, sizes: Sizes) -> io::Result<()>
+    requires slots { SLOTS ≤ 1025 }
+    requires rates { RATES ≤ 1025 }
+    requires credits { CREDITS ≤ 1025 }
+    requires queues { QUEUES ≤ 1025 }
+    requires given { GIVEN ≤ 33 }
+{
+    let mut slots = [7; SLOTS];
+    let mut rates = [7; RATES];
+    let mut runs = TurnRuns {
+        credits: &mut [7; CREDITS],
+        queues: &mut [7; QUEUES],
+        given: &mut [7; GIVEN],
+    };
+    let Sizes(ports, frame, line, kind) = sizes;
+    let started = start_direct(ports, frame, line, kind, &mut slots, &mut rates, &mut runs);
+    show_start(rt, "direct", sizes, started)?;
+    show_runs(rt, &slots, &rates, &runs)?;
+    println!(rt; "")
 }
 
 fn direct_exact(rt: &impl Print, sizes: Sizes) -> io::Result<()> {
-    let mut slots = [7u32; 1024];
-    let mut rates = [7u32; 1024];
-    let mut credits = [7u32; 1024];
-    let mut queues = [7u32; 1024];
-    let mut given = [7u32; 32];
-    direct_on(
-        rt,
-        sizes,
-        &mut slots,
-        &mut rates,
-        &mut credits,
-        &mut queues,
-        &mut given,
-    )
+    direct_on::<1024, 1024, 1024, 1024, 32>(rt, sizes)
 }
 
 fn direct_longer(rt: &impl Print, sizes: Sizes) -> io::Result<()> {
-    let mut slots = [7u32; 1025];
-    let mut rates = [7u32; 1025];
-    let mut credits = [7u32; 1025];
-    let mut queues = [7u32; 1025];
-    let mut given = [7u32; 33];
-    direct_on(
-        rt,
-        sizes,
-        &mut slots,
-        &mut rates,
-        &mut credits,
-        &mut queues,
-        &mut given,
-    )
+    direct_on::<1025, 1025, 1025, 1025, 33>(rt, sizes)
 }
 
 // One of the five is a word too short.
 fn direct_shorter(rt: &impl Print, sizes: Sizes) -> io::Result<()> {
-    let mut one = [7u32; 1024];
-    let mut two = [7u32; 1024];
-    let mut three = [7u32; 1024];
-    let mut four = [7u32; 1024];
-    let mut less = [7u32; 1023];
-    let mut given = [7u32; 32];
-    let mut few = [7u32; 31];
-    direct_on(
-        rt, sizes, &mut less, &mut one, &mut two, &mut three, &mut given,
-    )?;
-    direct_on(
-        rt, sizes, &mut one, &mut less, &mut two, &mut three, &mut given,
-    )?;
-    direct_on(
-        rt, sizes, &mut one, &mut two, &mut less, &mut three, &mut given,
-    )?;
-    direct_on(
-        rt, sizes, &mut one, &mut two, &mut three, &mut less, &mut given,
-    )?;
-    direct_on(
-        rt, sizes, &mut one, &mut two, &mut three, &mut four, &mut few,
-    )
+    direct_on::<1023, 1024, 1024, 1024, 32>(rt, sizes)?;
+    direct_on::<1024, 1023, 1024, 1024, 32>(rt, sizes)?;
+    direct_on::<1024, 1024, 1023, 1024, 32>(rt, sizes)?;
+    direct_on::<1024, 1024, 1024, 1023, 32>(rt, sizes)?;
+    direct_on::<1024, 1024, 1024, 1024, 31>(rt, sizes)
 }
 
 // Sizes at and past their ends, then runs too short, and both; then line rates at and past their end, alone and with the others; then a
 // fine book, accepted and refused.
 pub fn direct(rt: &impl Print) -> io::Result<()> {
-    direct_exact(rt, Sizes(32, 10_000, 0, false))?;
-    direct_longer(rt, Sizes(32, 10_000, 1_000, false))?;
-    direct_exact(rt, Sizes(1, 1, 1, false))?;
-    direct_exact(rt, Sizes(0, 10_000, 0, false))?;
-    direct_exact(rt, Sizes(33, 10_000, 0, false))?;
-    direct_exact(rt, Sizes(18_446_744_073_709_551_615, 10_000, 0, false))?;
-    direct_exact(rt, Sizes(32, 0, 0, false))?;
-    direct_exact(rt, Sizes(32, 10_001, 0, false))?;
-    direct_exact(rt, Sizes(32, 18_446_744_073_709_551_615, 0, false))?;
-    direct_exact(rt, Sizes(33, 10_001, 0, false))?;
-    direct_shorter(rt, Sizes(32, 10_000, 0, false))?;
-    direct_shorter(rt, Sizes(33, 10_001, 0, false))?;
-    direct_exact(rt, Sizes(32, 10_000, 100_000_000, false))?;
-    direct_exact(rt, Sizes(32, 10_000, 100_000_001, false))?;
-    direct_exact(rt, Sizes(32, 10_000, 18_446_744_073_709_551_615, false))?;
-    direct_exact(rt, Sizes(33, 10_000, 100_000_001, false))?;
-    direct_exact(rt, Sizes(32, 10_001, 100_000_001, false))?;
-    direct_shorter(rt, Sizes(32, 10_000, 100_000_001, false))?;
-    direct_longer(rt, Sizes(32, 10_000, 1_000, true))?;
-    direct_exact(rt, Sizes(32, 0, 0, true))
+    direct_exact(rt, Sizes(32, 10_000, 0, Plain))?;
+    direct_longer(rt, Sizes(32, 10_000, 1_000, Plain))?;
+    direct_exact(rt, Sizes(1, 1, 1, Plain))?;
+    direct_exact(rt, Sizes(0, 10_000, 0, Plain))?;
+    direct_exact(rt, Sizes(33, 10_000, 0, Plain))?;
+    direct_exact(rt, Sizes(18_446_744_073_709_551_615, 10_000, 0, Plain))?;
+    direct_exact(rt, Sizes(32, 0, 0, Plain))?;
+    direct_exact(rt, Sizes(32, 10_001, 0, Plain))?;
+    direct_exact(rt, Sizes(32, 18_446_744_073_709_551_615, 0, Plain))?;
+    direct_exact(rt, Sizes(33, 10_001, 0, Plain))?;
+    direct_shorter(rt, Sizes(32, 10_000, 0, Plain))?;
+    direct_shorter(rt, Sizes(33, 10_001, 0, Plain))?;
+    direct_exact(rt, Sizes(32, 10_000, 100_000_000, Plain))?;
+    direct_exact(rt, Sizes(32, 10_000, 100_000_001, Plain))?;
+    direct_exact(rt, Sizes(32, 10_000, 18_446_744_073_709_551_615, Plain))?;
+    direct_exact(rt, Sizes(33, 10_000, 100_000_001, Plain))?;
+    direct_exact(rt, Sizes(32, 10_001, 100_000_001, Plain))?;
+    direct_shorter(rt, Sizes(32, 10_000, 100_000_001, Plain))?;
+    direct_longer(rt, Sizes(32, 10_000, 1_000, Fine))?;
+    direct_exact(rt, Sizes(32, 0, 0, Fine))
 }
 
-fn pipelined_on(
-    rt: &impl Print,
-    sizes: Sizes,
-    slots: &mut [u32],
-    rates: &mut [u32],
-    credits: &mut [u32],
-    queues: &mut [u32],
-    given: &mut [u32],
-    copy: &mut [u32],
-    flight: &mut [u32],
-) -> io::Result<()> {
+// A start of a pipelined switch on runs of so many words.
+fn pipelined_on<
+    const SLOTS: usize,
+    const RATES: usize,
+    const CREDITS: usize,
+    const QUEUES: usize,
+    const GIVEN: usize,
+    const COPY: usize,
+    const FLIGHT: usize,
+>(rt: &impl Print, sizes: Sizes) -> io::Result<()>
+    requires slots { SLOTS ≤ 1025 }
+    requires rates { RATES ≤ 1025 }
+    requires credits { CREDITS ≤ 1025 }
+    requires queues { QUEUES ≤ 1025 }
+    requires given { GIVEN ≤ 33 }
+    requires copy { COPY ≤ 1025 }
+    requires flight { FLIGHT ≤ 2049 }
+{
+    let mut slots = [7; SLOTS];
+    let mut rates = [7; RATES];
+    let mut runs = TurnRuns {
+        credits: &mut [7; CREDITS],
+        queues: &mut [7; QUEUES],
+        given: &mut [7; GIVEN],
+    };
+    let mut pipeline = PipelineRuns {
+        copy: &mut [7; COPY],
+        flight: &mut [7; FLIGHT],
+    };
+    let Sizes(ports, frame, line, kind) = sizes;
     let started = start_pipelined(
-        sizes.0,
-        sizes.1,
-        sizes.2,
-        sizes.3,
-        clock_of_kind(5, 6, 8, 7),
-        slots,
-        rates,
-        credits,
-        queues,
-        given,
-        copy,
-        flight,
+        ports,
+        frame,
+        line,
+        kind,
+        &mut slots,
+        &mut rates,
+        &mut runs,
+        &mut pipeline,
     );
-    show_start(rt, b"pipelined ", sizes, started)?;
-    show_direct_runs(rt, slots, rates, credits, queues, given)?;
-    show_run(rt, b" copy ", copy, 1023, 1024)?;
-    show_run(rt, b" flight ", flight, 2047, 2048)?;
-    text(rt, b"\n")
+    show_start(rt, "pipelined", sizes, started)?;
+    show_runs(rt, &slots, &rates, &runs)?;
+    print!(rt; " copy {}", Ends(pipeline.copy, &OF_PAIRS))?;
+    println!(rt; " flight {}", Ends(pipeline.flight, &OF_ROWS))
 }
 
 fn pipelined_exact(rt: &impl Print, sizes: Sizes) -> io::Result<()> {
-    let mut slots = [7u32; 1024];
-    let mut rates = [7u32; 1024];
-    let mut credits = [7u32; 1024];
-    let mut queues = [7u32; 1024];
-    let mut given = [7u32; 32];
-    let mut copy = [7u32; 1024];
-    let mut flight = [7u32; 2048];
-    pipelined_on(
-        rt,
-        sizes,
-        &mut slots,
-        &mut rates,
-        &mut credits,
-        &mut queues,
-        &mut given,
-        &mut copy,
-        &mut flight,
-    )
+    pipelined_on::<1024, 1024, 1024, 1024, 32, 1024, 2048>(rt, sizes)
 }
 
 fn pipelined_longer(rt: &impl Print, sizes: Sizes) -> io::Result<()> {
-    let mut slots = [7u32; 1025];
-    let mut rates = [7u32; 1025];
-    let mut credits = [7u32; 1025];
-    let mut queues = [7u32; 1025];
-    let mut given = [7u32; 33];
-    let mut copy = [7u32; 1025];
-    let mut flight = [7u32; 2049];
-    pipelined_on(
-        rt,
-        sizes,
-        &mut slots,
-        &mut rates,
-        &mut credits,
-        &mut queues,
-        &mut given,
-        &mut copy,
-        &mut flight,
-    )
+    pipelined_on::<1025, 1025, 1025, 1025, 33, 1025, 2049>(rt, sizes)
 }
 
 // The slots, then the rates, then the copy are a word too short.
 fn pipelined_shorter(rt: &impl Print, sizes: Sizes) -> io::Result<()> {
-    let mut one = [7u32; 1024];
-    let mut two = [7u32; 1024];
-    let mut three = [7u32; 1024];
-    let mut four = [7u32; 1024];
-    let mut given = [7u32; 32];
-    let mut flight = [7u32; 2048];
-    let mut short = [7u32; 1023];
-    pipelined_on(
-        rt,
-        sizes,
-        &mut short,
-        &mut one,
-        &mut two,
-        &mut three,
-        &mut given,
-        &mut four,
-        &mut flight,
-    )?;
-    pipelined_on(
-        rt,
-        sizes,
-        &mut one,
-        &mut short,
-        &mut two,
-        &mut three,
-        &mut given,
-        &mut four,
-        &mut flight,
-    )?;
-    pipelined_on(
-        rt,
-        sizes,
-        &mut one,
-        &mut two,
-        &mut three,
-        &mut four,
-        &mut given,
-        &mut short,
-        &mut flight,
-    )
+    pipelined_on::<1023, 1024, 1024, 1024, 32, 1024, 2048>(rt, sizes)?;
+    pipelined_on::<1024, 1023, 1024, 1024, 32, 1024, 2048>(rt, sizes)?;
+    pipelined_on::<1024, 1024, 1024, 1024, 32, 1023, 2048>(rt, sizes)
 }
 
 // The rows in flight are.
 fn flight_shorter(rt: &impl Print, sizes: Sizes) -> io::Result<()> {
-    let mut one = [7u32; 1024];
-    let mut two = [7u32; 1024];
-    let mut three = [7u32; 1024];
-    let mut four = [7u32; 1024];
-    let mut five = [7u32; 1024];
-    let mut given = [7u32; 32];
-    let mut flight = [7u32; 2047];
-    pipelined_on(
-        rt,
-        sizes,
-        &mut one,
-        &mut two,
-        &mut three,
-        &mut four,
-        &mut given,
-        &mut five,
-        &mut flight,
-    )
+    pipelined_on::<1024, 1024, 1024, 1024, 32, 1024, 2047>(rt, sizes)
 }
 
 // The last given outputs are.
 fn given_shorter(rt: &impl Print, sizes: Sizes) -> io::Result<()> {
-    let mut one = [7u32; 1024];
-    let mut two = [7u32; 1024];
-    let mut three = [7u32; 1024];
-    let mut four = [7u32; 1024];
-    let mut five = [7u32; 1024];
-    let mut given = [7u32; 31];
-    let mut flight = [7u32; 2048];
-    pipelined_on(
-        rt,
-        sizes,
-        &mut one,
-        &mut two,
-        &mut three,
-        &mut four,
-        &mut given,
-        &mut five,
-        &mut flight,
-    )
+    pipelined_on::<1024, 1024, 1024, 1024, 31, 1024, 2048>(rt, sizes)
 }
 
 // Sizes at and past their ends, then runs too short, and both; then line rates at and past their end, alone and with the others; then a
 // fine book, accepted and refused.
 pub fn pipelined(rt: &impl Print) -> io::Result<()> {
-    pipelined_exact(rt, Sizes(32, 10_000, 0, false))?;
-    pipelined_longer(rt, Sizes(32, 10_000, 1_000, false))?;
-    pipelined_exact(rt, Sizes(32, 32, 0, false))?;
-    pipelined_exact(rt, Sizes(32, 31, 0, false))?;
-    pipelined_exact(rt, Sizes(33, 10_000, 0, false))?;
-    pipelined_exact(rt, Sizes(32, 10_001, 0, false))?;
-    pipelined_exact(rt, Sizes(33, 1, 0, false))?;
-    pipelined_shorter(rt, Sizes(32, 10_000, 0, false))?;
-    flight_shorter(rt, Sizes(32, 10_000, 0, false))?;
-    given_shorter(rt, Sizes(32, 10_000, 0, false))?;
-    pipelined_shorter(rt, Sizes(32, 31, 0, false))?;
-    flight_shorter(rt, Sizes(32, 31, 0, false))?;
-    given_shorter(rt, Sizes(32, 31, 0, false))?;
-    pipelined_exact(rt, Sizes(32, 10_000, 100_000_000, false))?;
-    pipelined_exact(rt, Sizes(32, 10_000, 100_000_001, false))?;
-    pipelined_exact(rt, Sizes(32, 31, 100_000_001, false))?;
-    flight_shorter(rt, Sizes(32, 10_000, 100_000_001, false))?;
-    pipelined_longer(rt, Sizes(32, 10_000, 1_000, true))?;
-    pipelined_exact(rt, Sizes(32, 31, 0, true))
+    pipelined_exact(rt, Sizes(32, 10_000, 0, Plain))?;
+    pipelined_longer(rt, Sizes(32, 10_000, 1_000, Plain))?;
+    pipelined_exact(rt, Sizes(32, 32, 0, Plain))?;
+    pipelined_exact(rt, Sizes(32, 31, 0, Plain))?;
+    pipelined_exact(rt, Sizes(33, 10_000, 0, Plain))?;
+    pipelined_exact(rt, Sizes(32, 10_001, 0, Plain))?;
+    pipelined_exact(rt, Sizes(33, 1, 0, Plain))?;
+    pipelined_shorter(rt, Sizes(32, 10_000, 0, Plain))?;
+    flight_shorter(rt, Sizes(32, 10_000, 0, Plain))?;
+    given_shorter(rt, Sizes(32, 10_000, 0, Plain))?;
+    pipelined_shorter(rt, Sizes(32, 31, 0, Plain))?;
+    flight_shorter(rt, Sizes(32, 31, 0, Plain))?;
+    given_shorter(rt, Sizes(32, 31, 0, Plain))?;
+    pipelined_exact(rt, Sizes(32, 10_000, 100_000_000, Plain))?;
+    pipelined_exact(rt, Sizes(32, 10_000, 100_000_001, Plain))?;
+    pipelined_exact(rt, Sizes(32, 31, 100_000_001, Plain))?;
+    flight_shorter(rt, Sizes(32, 10_000, 100_000_001, Plain))?;
+    pipelined_longer(rt, Sizes(32, 10_000, 1_000, Fine))?;
+    pipelined_exact(rt, Sizes(32, 31, 0, Fine))
 }

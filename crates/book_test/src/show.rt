@@ -1,6 +1,8 @@
-// Printing names, numbers and words, and the clock that the cases begin with.
-use std::io;
-use wsgs::Clock;
+// The clocks that the cases begin with, and how lines show a clock, words and an answer.
+// Stays (a): a clock has a word of any value for the kind of the book, as C lends it. (d): `clock`, `clock_of_kind` and `pair` are constructors; a From would take
+// their numbers without names, and only crates/wsgs may write it.
+use std::fmt;
+use wsgs::{Clock, Input, Output, Pair, Refused};
 
 // A clock that has run nine slots, with a plain book; and with a word of its own for the kind of the book.
 pub fn clock(ports: u32, frame: u32, line: u32) -> Clock {
@@ -17,50 +19,46 @@ pub fn clock_of_kind(ports: u32, frame: u32, line: u32, fine: u32) -> Clock {
     }
 }
 
-// A word as a number to print.
-fn wide(word: u32) -> u64 {
-    word as u64
-}
-
-// Prints text.
-pub fn text(rt: &impl Print, bytes: &[u8]) -> io::Result<()> {
-    rt.write_all(bytes)
-}
-
-// Prints a name and a number.
-pub fn number(rt: &impl Print, name: &[u8], value: u64) -> io::Result<()> {
-    text(rt, name)?;
-    print!(rt; "{value}")
-}
-
-// Prints the word at a place of a run, where it has one.
-pub fn word(rt: &impl Print, run: &[u32], place: usize) -> io::Result<()> {
-    if place < run.len() {
-        number(rt, b" ", wide(run[place]))?;
+// The pair of two numbers.
+pub fn pair(input: u64, output: u64) -> Pair {
+    Pair {
+        input: Input(input),
+        output: Output(output),
     }
-    Ok(())
 }
 
-// Prints a clock.
-pub fn clock_of(rt: &impl Print, clock: Clock) -> io::Result<()> {
-    number(rt, b" clock ", clock.ports as u64)?;
-    number(rt, b" ", clock.frame as u64)?;
-    number(rt, b" ", clock.slot as u64)?;
-    number(rt, b" ", clock.line as u64)?;
-    number(rt, b" ", clock.fine as u64)
+// The number of an answer, 0 for one that is accepted.
+pub fn number(outcome: Result<(), Refused>) -> u32 {
+    outcome.err().map_or(0, u32::from)
 }
 
-// Prints a refusal.
-pub fn refused(rt: &impl Print, refusal: u32) -> io::Result<()> {
-    number(rt, b": refusal ", wide(refusal))
+// A clock as its five words.
+#[derive(Clone, Copy)]
+pub struct Shown(pub Clock);
+
+impl fmt::Display for Shown {
+    fn fmt<W: fmt::Write>(&self, f: &mut fmt::Formatter<W>) -> fmt::Result {
+        let Shown(clock) = *self;
+        write!(
+            f,
+            "clock {} {} {} {} {}",
+            clock.ports, clock.frame, clock.slot, clock.line, clock.fine
+        )
+    }
 }
 
-// Prints the name and the first five words of a run: those of two ports, and one beyond.
-pub fn five_words(rt: &impl Print, name: &[u8], run: &[u32]) -> io::Result<()> {
-    text(rt, name)?;
-    word(rt, run, 0)?;
-    word(rt, run, 1)?;
-    word(rt, run, 2)?;
-    word(rt, run, 3)?;
-    word(rt, run, 4)
+// The words at some places of a run, where it has them.
+#[derive(Clone, Copy)]
+pub struct WordsAt<'a>(pub &'a [u32], pub &'a [usize]);
+
+impl fmt::Display for WordsAt<'_> {
+    fn fmt<W: fmt::Write>(&self, f: &mut fmt::Formatter<W>) -> fmt::Result {
+        let WordsAt(run, places) = *self;
+        for place in places {
+            if let Some(word) = run.get(*place) {
+                write!(f, " {word}")?;
+            }
+        }
+        Ok(())
+    }
 }

@@ -5,7 +5,7 @@ ghost use Rattle.wsgs.specs.Bookings.{rate_slots, booking};
 use wsgs::{BookedSlots, Clock};
 
 // The largest number that a booking counts as.
-const MAX_BOOKING: u64 = 4_294_967_295;
+const MAX_BOOKING: u64 = u32::MAX as u64;
 
 // The slots of a frame that a rate takes on a line, rounded up. Without a rate, or on a line without one, nothing is divided.
 fn rate_slots(clock: Clock, rate: u64) -> u64

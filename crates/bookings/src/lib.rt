@@ -14,14 +14,6 @@ use amounts::booked;
 use words::copy_words;
 use wsgs::{BookRuns, BookedSlots, Clock, MAX_FRAME};
 
-// A word of the book as what it is: slots that are booked.
-// Stays (a): only wsgs, the crate of the type, may write this as a `From`.
-pub fn slots_of(word: u32) -> BookedSlots
-    ensures result { result.0 ≡ word }
-{
-    BookedSlots(word as u64)
-}
-
 // A pair's booking: its slots, and the slots of its summed rate on the line.
 pub fn booking(clock: Clock, slots: BookedSlots, rate: u32) -> BookedSlots
     ensures result { result.0 ≡ booking clock.frame clock.line slots.0 rate }
@@ -100,8 +92,8 @@ fn copy_first(clock: Clock, book: BookRuns<'_>, to: &mut [u32], count: usize)
     ensures to_exit { to.new ≡ copied count
         (booking_words clock.frame clock.line book.entry.slots.now book.entry.rates.now) to.old }
 {
-    // Stays (c): written by index, since of a run that `iter_mut` lends to a zip a proof knows no word afterwards.
+    // Stays (c): tried with `to.iter_mut()` in the zip; of a run lent so a proof knows no word after the loop.
     for (at, (held, rate)) in book.slots[..count].iter().zip(book.rates).enumerate() {
-        to[at] = booking(clock, slots_of(*held), *rate).0 as u32;
+        to[at] = booking(clock, BookedSlots::from(*held), *rate).0 as u32;
     }
 }

@@ -7,13 +7,13 @@ use denote.Triple.Entry.{Args, Res}
 use denote.Triple.Clauses.{Ended, Clauses, AtExit}
 use Rattle.std.specs.Prelude.{◌≡◌, List, ℕ}
 use Rattle.wsgs.specs.declared.Clock.{Clock}
-use Rattle.wsgs.specs.declared.PreviewResult.{PreviewResult}
-use Rattle.wsgs.specs.declared.StartResult.{StartResult}
-use Rattle.wsgs.specs.declared.TickResult.{TickResult}
-use Rattle.wsgs.specs.Bookings.{book_of}
+use Rattle.wsgs.specs.declared.TurnRuns.{TurnRuns}
+use Rattle.wsgs.specs.declared.PipelineRuns.{PipelineRuns}
+use Rattle.wsgs.specs.Answers.{StartResult, TickResult}
+use Rattle.wsgs.specs.Bookings.{Book, book_of}
 use Rattle.wsgs.specs.Questions.{Effect, effect}
 use Rattle.wsgs.specs.Preview
-use Rattle.wsgs.specs.Preview.{BookOperation}
+use Rattle.wsgs.specs.Preview.{BookOperation, PreviewResult}
 use Rattle.wsgs.specs.Switch.{Switch, preview, apply, of_asking}
 use Rattle.kivdrag_c.specs.Clocks.{clock_in_words}
 use Rattle.kivdrag_c.specs.Results.{CStart, CTick}
@@ -29,6 +29,13 @@ Says 𝓤 T c φ =
 -- the switch that a clock and runs make
 abbrev pub switch_of : Clock → (slots rates credits queues given copy flight : List ℕ) → Switch
 switch_of k s r c q g p f = record { clock = k; book = book_of s r; credits = c; queues = q; given = g; copy = p; flight = f }
+
+-- and that a clock, a book and the other runs make, where these are lent as structs
+abbrev pub direct_switch : Clock → Book → TurnRuns → (copy flight : List ℕ) → Switch
+direct_switch k b t p f = switch_of k b.slots b.rates t.credits.now t.queues.now t.given.now p f
+
+abbrev pub pipelined_switch : Clock → Book → TurnRuns → PipelineRuns → Switch
+pipelined_switch k b t p = direct_switch k b t p.copy.now p.flight.now
 
 -- what is told of a preview of the switch: that of the call, which changes nothing, and the sums besides
 abbrev pub PreviewTold : Switch → BookOperation → (input output amount : ℕ) → PreviewResult → Type 0

@@ -7,8 +7,7 @@ use Prim.Native.Nat.{ℕ}
 use native.Mathlib.Omega.{arith}
 use lib.ListN.{length}
 use Rattle.wsgs.specs.declared.Clock.{Clock}
-use Rattle.wsgs.specs.declared.StartResult.{StartResult}
-use Rattle.wsgs.specs.declared.TickResult.{TickResult}
+use Rattle.wsgs.specs.Answers.{StartResult, TickResult}
 use Rattle.wsgs.specs.Questions.{Effect, effect}
 use Rattle.wsgs.specs.Switch.{Switch, Call, apply}
 use Rattle.wsgs.proofs.Promises.{refused_changes_nothing}

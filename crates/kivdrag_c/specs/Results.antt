@@ -1,6 +1,6 @@
 -- What C has after a start, after headroom and after a tick, and what that is of an outcome. Assumes nothing.
 use Rattle.std.specs.Prelude.{List, ℕ, ℤ}
-use Rattle.wsgs.specs.declared.HeadroomResult.{HeadroomResult}
+use Rattle.wsgs.specs.Headroom.{HeadroomResult}
 use Rattle.wsgs.specs.Steps.{outputs_of, pass_word_of}
 use Rattle.wsgs.specs.Questions.{Outcome}
 use Rattle.kivdrag_c.specs.Clocks.{clock_words}

@@ -1,5 +1,7 @@
 // The calls of a switch as C has them (include/kivdrag.h). Each is the proved call of its name, on a clock that is lent as five words.
 // crates/kivdrag_c_c exports them to C.
+// Stays (a): the C interface. Each signature here is that of include/kivdrag.h, and proofs/Exports.antt of crates/kivdrag_c_c has each contract equal to that
+// of the export: so numbers for refusals and for the kind of the book, a pair as two numbers, runs as slices of their own, and a function for each call.
 #![tactic(auto)]
 
 ghost use Rattle.std.specs.Prelude.{◌≡◌};
@@ -18,10 +20,11 @@ ghost use Rattle.kivdrag_c.specs.Results.{c_start, c_start_of, c_headroom, c_tic
 mod clocks;
 mod results;
 
-use clocks::{clock_in, put_clock};
-use previews::{preview_book, preview_book_rate, preview_release, preview_release_rate};
-use results::{put_preview, put_result};
-use wsgs::{BookedSlots, Input, Output};
+use clocks::ClockWords;
+use results::{
+    book_runs, kind_of, number_of, pair_of, put_headroom, put_preview, put_start, put_tick,
+};
+use wsgs::{BookedSlots, Clock, PipelineRuns, TurnRuns};
 
 // Starts a direct switch, with a plain book where `fine` is 0, and else with a fine one.
 pub fn kivdrag_start_direct(
@@ -41,13 +44,14 @@ pub fn kivdrag_start_direct(
         ≡ c_start_of (Direct.start ports frame line (is_fine fine) (clock_in_words clock.old)
         (direct_runs_of slots.old rates.old credits.old queues.old given.old)) }
 {
-    let at = clock_in(clock);
-    let kind = fine != 0;
-    let started = starts::start_direct(
-        ports, frame, line, kind, at, slots, rates, credits, queues, given,
-    );
-    put_clock(clock, started.clock);
-    started.refusal
+    let mut runs = TurnRuns {
+        credits,
+        queues,
+        given,
+    };
+    let kind = kind_of(fine);
+    let started = starts::start_direct(ports, frame, line, kind, slots, rates, &mut runs);
+    put_start(started, clock)
 }
 
 // Starts a pipelined switch, with a plain book where `fine` is 0, and else with a fine one.
@@ -72,23 +76,23 @@ pub fn kivdrag_start_pipelined(
         (pipelined_runs_of slots.old rates.old credits.old queues.old
         given.old copy.old flight.old)) }
 {
-    let before = clock_in(clock);
-    let result = starts::start_pipelined(
-        ports,
-        frame,
-        line,
-        fine != 0,
-        before,
-        slots,
-        rates,
+    let mut runs = TurnRuns {
         credits,
         queues,
         given,
-        copy,
-        flight,
+    };
+    let mut pipeline = PipelineRuns { copy, flight };
+    let begun = starts::start_pipelined(
+        ports,
+        frame,
+        line,
+        kind_of(fine),
+        slots,
+        rates,
+        &mut runs,
+        &mut pipeline,
     );
-    put_clock(clock, result.clock);
-    result.refusal
+    put_start(begun, clock)
 }
 
 // Books slots of each frame for a pair.
@@ -104,9 +108,9 @@ pub fn kivdrag_book(
         ≡ book_effect (clock_in_words clock.now)
         (book_of slots.old rates.now) input output amount }
 {
-    let clock = clock_in(clock);
+    let clock = Clock::from(ClockWords(*clock));
     let amount = BookedSlots(amount);
-    book::book(clock, slots, rates, Input(input), Output(output), amount)
+    number_of(book::book(clock, slots, rates, pair_of(input, output), amount))
 }
 
 // Books a rate for a pair, in kbit/s.
@@ -122,8 +126,8 @@ pub fn kivdrag_book_rate(
         ≡ rate_effect (clock_in_words clock.now)
         (book_of slots.now rates.old) input output rate }
 {
-    let clock = clock_in(clock);
-    book::book_rate(clock, slots, rates, Input(input), Output(output), rate)
+    let clock = Clock::from(ClockWords(*clock));
+    number_of(book::book_rate(clock, slots, rates, pair_of(input, output), rate))
 }
 
 // Takes slots that were booked by slots off a pair again.
@@ -139,9 +143,9 @@ pub fn kivdrag_release(
         ≡ release_effect (clock_in_words clock.now)
         (book_of slots.old rates.now) input output amount }
 {
-    let clock = clock_in(clock);
+    let clock = Clock::from(ClockWords(*clock));
     let amount = BookedSlots(amount);
-    book::release(clock, slots, rates, Input(input), Output(output), amount)
+    number_of(book::release(clock, slots, rates, pair_of(input, output), amount))
 }
 
 // Takes a rate off a pair again, in kbit/s.
@@ -157,8 +161,8 @@ pub fn kivdrag_release_rate(
         ≡ release_rate_effect (clock_in_words clock.now)
         (book_of slots.now rates.old) input output rate }
 {
-    let clock = clock_in(clock);
-    book::release_rate(clock, slots, rates, Input(input), Output(output), rate)
+    let clock = Clock::from(ClockWords(*clock));
+    number_of(book::release_rate(clock, slots, rates, pair_of(input, output), rate))
 }
 
 // Tells how far a pair is from inequality (2) of the paper. The number is written beside a refusal too, as 0.
@@ -174,11 +178,10 @@ pub fn kivdrag_headroom(
         ≡ headroom_result (clock_in_words clock.now)
         (book_of slots.now rates.now) input output }
 {
-    let clock = clock_in(clock);
-    let result = previews::headroom(clock, slots, rates, Input(input), Output(output));
-    let number = result.headroom;
-    *headroom = number;
-    result.refusal
+    let clock = Clock::from(ClockWords(*clock));
+    let book = book_runs(slots, rates);
+    let told = previews::headroom(clock, book, pair_of(input, output));
+    put_headroom(told, headroom)
 }
 
 // Tells what booking slots would give, and the sums that would follow.
@@ -196,9 +199,10 @@ pub fn kivdrag_preview_book(
         ≡ preview slots_booking (clock_in_words clock.now)
         (book_of slots.now rates.now) input output amount }
 {
-    let clock = clock_in(clock);
+    let clock = Clock::from(ClockWords(*clock));
+    let book = book_runs(slots, rates);
     let amount = BookedSlots(amount);
-    let told = preview_book(clock, slots, rates, Input(input), Output(output), amount);
+    let told = previews::preview_book(clock, book, pair_of(input, output), amount);
     put_preview(told, row, column)
 }
 
@@ -217,8 +221,9 @@ pub fn kivdrag_preview_book_rate(
         ≡ preview rate_booking (clock_in_words clock.now)
         (book_of slots.now rates.now) input output rate }
 {
-    let clock = clock_in(clock);
-    let told = preview_book_rate(clock, slots, rates, Input(input), Output(output), rate);
+    let clock = Clock::from(ClockWords(*clock));
+    let book = book_runs(slots, rates);
+    let told = previews::preview_book_rate(clock, book, pair_of(input, output), rate);
     put_preview(told, row, column)
 }
 
@@ -237,9 +242,10 @@ pub fn kivdrag_preview_release(
         ≡ preview slots_release (clock_in_words clock.now)
         (book_of slots.now rates.now) input output amount }
 {
-    let clock = clock_in(clock);
+    let clock = Clock::from(ClockWords(*clock));
+    let book = book_runs(slots, rates);
     let amount = BookedSlots(amount);
-    let told = preview_release(clock, slots, rates, Input(input), Output(output), amount);
+    let told = previews::preview_release(clock, book, pair_of(input, output), amount);
     put_preview(told, row, column)
 }
 
@@ -258,8 +264,9 @@ pub fn kivdrag_preview_release_rate(
         ≡ preview rate_release (clock_in_words clock.now)
         (book_of slots.now rates.now) input output rate }
 {
-    let clock = clock_in(clock);
-    let told = preview_release_rate(clock, slots, rates, Input(input), Output(output), rate);
+    let clock = Clock::from(ClockWords(*clock));
+    let book = book_runs(slots, rates);
+    let told = previews::preview_release_rate(clock, book, pair_of(input, output), rate);
     put_preview(told, row, column)
 }
 
@@ -274,8 +281,8 @@ pub fn kivdrag_arrive(
     ensures outcome { effect result queues.new
         ≡ arrive_effect (clock_in_words clock.now) queues.old input output packets }
 {
-    let clock = clock_in(clock);
-    book::arrive(clock, queues, Input(input), Output(output), packets)
+    let clock = Clock::from(ClockWords(*clock));
+    number_of(book::arrive(clock, queues, pair_of(input, output), packets))
 }
 
 // Runs the next slot of a direct switch.
@@ -294,9 +301,15 @@ pub fn kivdrag_tick_direct(
         ≡ c_tick_of (Direct.tick (clock_in_words clock.old)
         (direct_runs_of slots.now rates.now credits.old queues.old given.old)) }
 {
-    let before = clock_in(clock);
-    let result = clock::step_direct(before, slots, rates, credits, queues, given);
-    put_result(result, clock, outputs, first_pass)
+    let before = Clock::from(ClockWords(*clock));
+    let book = book_runs(slots, rates);
+    let mut runs = TurnRuns {
+        credits,
+        queues,
+        given,
+    };
+    let answered = clock::step_direct(before, book, &mut runs);
+    put_tick(answered, clock, outputs, first_pass)
 }
 
 // Runs the next tick of a pipelined switch: every input has its turns for slots ahead, and the pairs of the next slot are handed out.
@@ -319,7 +332,14 @@ pub fn kivdrag_tick_pipelined(
         (pipelined_runs_of slots.now rates.now credits.old queues.old
         given.old copy.old flight.old)) }
 {
-    let before = clock_in(clock);
-    let result = clock::step_pipelined(before, slots, rates, credits, queues, given, copy, flight);
-    put_result(result, clock, outputs, first_pass)
+    let before = Clock::from(ClockWords(*clock));
+    let book = book_runs(slots, rates);
+    let mut runs = TurnRuns {
+        credits,
+        queues,
+        given,
+    };
+    let mut pipeline = PipelineRuns { copy, flight };
+    let ticked = clock::step_pipelined(before, book, &mut runs, &mut pipeline);
+    put_tick(ticked, clock, outputs, first_pass)
 }

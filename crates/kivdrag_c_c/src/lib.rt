@@ -1,5 +1,6 @@
 // The C library (include/kivdrag.h): each export is the call of its name in crates/kivdrag_c, with the same promise, as proofs/Exports.antt shows.
 // That crate is the library that other crates stand on; this one is built as the archive that C links.
+// Stays (a): the C interface. Each signature is that of include/kivdrag.h, and each contract that of crates/kivdrag_c.
 #![tactic(auto)]
 
 ghost use Rattle.std.specs.Prelude.{◌≡◌};

@@ -1,44 +1,87 @@
 -- Lines of a name and four numbers, their length, and the lines of a slot. Assumes nothing.
 use mathlib.Core.Path.{◌≡◌, refl, sym, ◌∙◌}
 use mathlib.Core.Bool.{Bool}
-use mathlib.Core.List.{List, [], ◌∷◌, ◌++◌, append_assoc, append-nil}
-use Prim.Native.Nat.{ℕ, zero, suc, ◌+◌, ◌-◌, ◌*◌, ◌/◌, ◌%◌, ◌^◌, ◌≤◌}
+use mathlib.Core.List.{List, [], ◌∷◌, ◌++◌, map, append_assoc, append-nil}
+use mathlib.Core.Logic.{◌≢◌}
+use Prim.Native.Nat.{ℕ, zero, suc, ◌+◌, ◌-◌, ◌*◌, ◌/◌, ◌^◌, ◌≤◌, ◌<◌, min}
 use native.Mathlib.Decide.{ℕ_discrete, dec_le}
 use native.Mathlib.Nat.{add-zero, add-suc}
 use native.Mathlib.Numerals.{add-one}
 use native.Mathlib.Omega.{arith}
 use borrow.Author.Tests.{eq-eqb, ne_eqb, lt-ltb}
+use lib.Dec.{eqb}
 use lib.Bits.{bit_and, and_mask}
-use lib.ListN.{length, get_or, length-append, get_or-eq_default}
-use Rattle.wsgs.specs.declared.Refusal.{Refusal}
+use lib.ListN.{length, get_or, take, length-append, get_or-eq_default}
+use lib.Seq.{length-take-le, get_or-take}
+use Rattle.wsgs.specs.declared.Refused.{Refused}
+use Rattle.wsgs.specs.declared.Refused.TheVariants as Why
+use Rattle.wsgs.specs.Told.{number}
 use Rattle.wsgs.specs.Answers.{matching_of}
 use Rattle.wsgs.specs.Basics.{pick}
 use Rattle.wsgs.specs.Steps.{Matching}
 use Rattle.wsgs.specs.Text.{CR, LF, comma, bytes, decimal, line}
-use Rattle.wsgs.specs.Program.{refused_line, refusal_text, match_line, match_lines}
-use Rattle.lines.specs.Lines.{field_room, line_room, match_room, refusal_room, slot_room, is_set}
+use Rattle.wsgs.specs.Program.{Refusal, refused_line, refusal_text, match_line, match_lines}
+use Rattle.lines.specs.declared.printer.Printer.{Printer}
+use Rattle.lines.specs.Lines.{HasRoom, field_room, line_room, match_room, refusal_room, slot_room, is_set}
 use Rattle.lines.proofs.Decimals.{decimal_short}
 
--- a comma and a number take the room of a field
-pub field_short : (n : ℕ) → length (comma ∷ decimal n) ≤ field_room
-field_short n = omega (arith, decimal_short n)
+-- numbers, each after a comma
+unfoldable pub number_fields : List ℕ → List ℕ
+number_fields [] = []
+number_fields (n ∷ ns) = comma ∷ (decimal n ++ number_fields ns)
 
--- a line, field by field
-pub line_of : (name a b c d : List ℕ)
-    → name ++ (comma ∷ a) ++ (comma ∷ b) ++ (comma ∷ c) ++ (comma ∷ d) ++ (CR ∷ LF ∷ []) ≡ line (name ∷ a ∷ b ∷ c ∷ d ∷ [])
-unfolding line
-line_of name a b c d =
-    append_assoc (name ++ (comma ∷ a) ++ (comma ∷ b) ++ (comma ∷ c)) (comma ∷ d) (CR ∷ LF ∷ [])
-    ∙ append_assoc (name ++ (comma ∷ a) ++ (comma ∷ b)) (comma ∷ c) (comma ∷ (d ++ (CR ∷ LF ∷ [])))
-    ∙ append_assoc (name ++ (comma ∷ a)) (comma ∷ b) (comma ∷ (c ++ (comma ∷ (d ++ (CR ∷ LF ∷ [])))))
-    ∙ append_assoc name (comma ∷ a) (comma ∷ (b ++ (comma ∷ (c ++ (comma ∷ (d ++ (CR ∷ LF ∷ [])))))))
+-- none of them, one more, and all with the line's name before them and its end after them
+pub no_fields : (ns : List ℕ) → [] ≡ number_fields (take 0 ns)
+unfolding number_fields
+no_fields ns = refl
+
+pub fields_more : (ns : List ℕ) (i : ℕ) → i < length ns
+    → number_fields (take i ns) ++ (comma ∷ decimal (get_or ns i 0)) ≡ number_fields (take (suc i) ns)
+unfolding number_fields
+fields_more [] i h = absurd (omega arith)
+fields_more (n ∷ ns) zero h = rw append-nil
+fields_more (n ∷ ns) (suc i) h = rw (append_assoc (decimal n) (number_fields (take i ns)) (comma ∷ decimal (get_or ns i 0)), fields_more ns i (omega arith))
+
+pub line_of : (name ns : List ℕ) → name ++ number_fields ns ++ (CR ∷ LF ∷ []) ≡ line (name ∷ map decimal ns)
+unfolding line number_fields
+line_of name [] = rw append-nil
+line_of name (n ∷ ns) =
+    rw (append_assoc name (comma ∷ (decimal n ++ number_fields ns)) (CR ∷ LF ∷ []), line_of (decimal n) ns)
+
+pub fields_short : (ns : List ℕ) → length (number_fields ns) ≤ field_room * length ns
+unfolding number_fields
+fields_short [] = omega arith
+fields_short (n ∷ ns) = omega (arith, length-append (decimal n) (number_fields ns), decimal_short n, fields_short ns)
+
+-- the room that is left to a line of four numbers, of which some are put: of the next one, of at most a field, or of the end
+pub room_left : (p : Printer) (kind ns : List ℕ) (i n : ℕ) → HasRoom p (length kind + line_room) → length ns ≡ 4
+    → i ≤ 4 → field_room * i + n ≤ line_room → HasRoom p (length (kind ++ number_fields (take i ns)) + n)
+room_left p kind ns i n h four l k =
+    omega (arith, length-append kind (number_fields (take i ns)), fields_short (take i ns), length-take-le i ns (omega arith))
 
 -- a line takes the room of a line beside its kind
 pub line_short : (name : List ℕ) (a b c d : ℕ)
     → length (line (name ∷ decimal a ∷ decimal b ∷ decimal c ∷ decimal d ∷ [])) ≤ length name + line_room
 line_short name a b c d =
-    rw (← line_of name (decimal a) (decimal b) (decimal c) (decimal d))
-    (simp length-append (omega (arith, decimal_short a, decimal_short b, decimal_short c, decimal_short d)))
+    rw (← line_of name (a ∷ b ∷ c ∷ d ∷ [])) (simp length-append (omega (arith, fields_short (a ∷ b ∷ c ∷ d ∷ []))))
+
+-- each refusal has a number
+pub numbered : (r : Refused) → number r ≢ 0
+numbered Why.Ports e = omega arith
+numbered Why.Frame e = omega arith
+numbered Why.ShortFrame e = omega arith
+numbered Why.Runs e = omega arith
+numbered Why.Pair e = omega arith
+numbered Why.Amount e = omega arith
+numbered Why.Clock e = omega arith
+numbered Why.Row e = omega arith
+numbered Why.Column e = omega arith
+numbered Why.Held e = omega arith
+numbered Why.Queue e = omega arith
+numbered Why.Record e = omega arith
+numbered Why.Fields e = omega arith
+numbered Why.Number e = omega arith
+numbered Why.Sharing e = omega arith
 
 -- no refusal, and the line of one
 module _ (r : Refusal) where
@@ -57,17 +100,6 @@ module _ (r : Refusal) where
       go : Dec (r.number ≡ 0) → length (refusal_text r) ≤ refusal_room
       go (yes e) = rw (← no_refusal e) (omega arith)
       go (no d) = rw (← the_refusal d) (line_short (bytes "refused") r.slot r.input r.output r.number)
-
--- the pass that a bit of the word tells
-pub pass_of : (w i : ℕ) → 2 - bit_and (w / 2 ^ i) 1 ≡ pick (is_set w i) 1 2
-pass_of w i = rw (and_mask (w / 2 ^ i) 1) (go (ℕ_discrete (w / 2 ^ i % 2) 1))
-  where
-    go : Dec (w / 2 ^ i % 2 ≡ 1) → 2 - w / 2 ^ i % 2 ≡ pick (is_set w i) 1 2
-    go (yes e) = rw (eq-eqb (w / 2 ^ i % 2) 1 e, e)
-    go (no d) = let z : w / 2 ^ i % 2 ≡ 0 = omega arith in rw (ne_eqb (w / 2 ^ i % 2) 1 d, z)
-
-pub bit_small : (x : ℕ) → bit_and x 1 ≤ 2
-bit_small x = rw (and_mask x 1) (omega arith)
 
 -- the line of an input without an output, and with one
 module _ (slot i output : ℕ) (first : Bool) where
@@ -111,6 +143,13 @@ module _ (slot : ℕ) (outputs : List ℕ) (passes : ℕ) where
       ≡ match_lines slot (matching_of outputs passes) (i + 1)
   matches_more i = rw (add-one i) (sym (matches_suc slot (matching_of outputs passes) i ∙ rw (output_at i, first_at i)))
 
+  -- the same as the loop over the first inputs reads it
+  pub matches_next : (n i : ℕ) → i < n
+      → match_lines slot (matching_of outputs passes) i
+      ++ match_line slot (i + 1) (get_or (take n outputs) i 0) (eqb (bit_and (passes / 2 ^ i) 1) 1)
+      ≡ match_lines slot (matching_of outputs passes) (i + 1)
+  matches_next n i h = rw (get_or-take n outputs i 0 h, and_mask (passes / 2 ^ i) 1) (matches_more i)
+
   -- a slot's lines take the room of a pair's line for each input
   pub matches_short : (i : ℕ) → length (match_lines slot (matching_of outputs passes) i) ≤ match_room * i
   unfolding match_lines
@@ -139,6 +178,14 @@ module _ (slot : ℕ) (outputs : List ℕ) (passes : ℕ) where
     matches_past n h = let e : m + (n - m) ≡ n = omega arith in rw e at (sym (none_past (n - m)))
 
   -- a slot's lines as a tick answers them, whatever the number of ports
+  pub matches_all : length outputs ≡ 32 → (n k : ℕ) → k ≡ min n 32
+      → match_lines slot (matching_of outputs passes) k ≡ match_lines slot (matching_of outputs passes) n
+  matches_all long n k e = go (dec_le n 32)
+    where
+      go : Dec (n ≤ 32) → match_lines slot (matching_of outputs passes) k ≡ match_lines slot (matching_of outputs passes) n
+      go (yes l) = let same : k ≡ n = omega arith in rw same
+      go (no l) = let most : k ≡ 32 = omega arith in rw most (matches_past 32 long n (omega arith))
+
   pub slot_short : length outputs ≡ 32 → (n : ℕ) → length (match_lines slot (matching_of outputs passes) n) ≤ slot_room
   slot_short long n = go (dec_le n 32)
     where

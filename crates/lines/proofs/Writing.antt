@@ -1,15 +1,15 @@
 -- Texts written one after the other are one text written. Assumes nothing.
 use mathlib.Core.Path.{◌≡◌, refl, sym, ap, ap₂, subst, ◌∙◌}
-use mathlib.Core.List.{List, [], ◌∷◌, ◌++◌, append_assoc, append-nil}
-use Prim.Native.Nat.{ℕ, suc, ◌+◌, ◌-◌, ◌≤◌, ◌<◌}
+use mathlib.Core.List.{List, [], ◌++◌, append_assoc, append-nil}
+use Prim.Native.Nat.{ℕ, ◌+◌, ◌-◌, ◌≤◌, ◌<◌}
 use native.Mathlib.Nat.{add_assoc, zero-add}
-use native.Mathlib.Numerals.{add-one}
 use native.Mathlib.Omega.{arith}
-use lib.ListN.{length, take, drop, set, get_or, length-append, length-drop, drop_of_length-le}
-use lib.Seq.{length-take-le, take-length, take_all, take_at, drop-append-add, drop-drop, set_split, append_snoc, paste, paste-zero, paste-suc, length-paste}
+use lib.ListN.{length, take, drop, length-append, length-drop, drop_of_length-le}
+use lib.Seq.{length-take-le, take_all, take_at, drop-append-add, drop-drop, paste-zero}
 use borrow.Author.Tests.{le-leb, lt-leb}
 use Rattle.wsgs.specs.Questions.{Effect, effect}
-use Rattle.lines.specs.Lines.{with_text, TextWritten, with_room, put_effect}
+use Rattle.lines.specs.declared.printer.Printer.{Printer}
+use Rattle.lines.specs.Lines.{with_text, TextWritten, HasRoom, Printed, with_room, put_effect}
 
 module _ (out : List ℕ) (at : ℕ) where
   -- what stands before a text and the text
@@ -19,41 +19,6 @@ module _ (out : List ℕ) (at : ℕ) where
   -- nothing written
   pub wrote_none : at ≤ length out → TextWritten out at [] at out
   wrote_none h = record { fits = omega arith; next_place = omega arith; buffer = paste-zero out at [] }
-
-  -- a byte
-  pub wrote_byte : (b : ℕ) → at < length out → TextWritten out at (b ∷ []) (at + 1) (set out at b)
-  wrote_byte b h =
-      record {
-        fits = omega arith;
-        next_place = refl;
-        buffer = set_split out at b h ∙ sym (append_snoc (take at out) b (drop (suc at) out)) ∙ rw (add-one at);
-      }
-
-  -- the first i bytes of a text
-  module _ (text : List ℕ) (h : at + length text ≤ length out) where
-    pub record Copied (i : ℕ) (out' : List ℕ) : Type 0 where
-      pub within : i ≤ length text
-      pub so_far : out' ≡ paste out at text i
-      pub long : length out' ≡ length out
-
-    pub copied_none : Copied 0 out
-    copied_none = record { within = omega arith; so_far = paste-zero out at text; long = refl }
-
-    module _ (i : ℕ) (out' : List ℕ) (p : Copied i out') where
-      pub copied_more : i < length text → Copied (i + 1) (set out' (at + i) (get_or text i 0))
-      copied_more l =
-          let e : set out' (at + i) (get_or text i 0) ≡ paste out at text (suc i) =
-          rw p.so_far (paste-suc out at text i 0 (omega arith) l) in
-          record {
-            within = omega arith;
-            so_far = rw (add-one i) e;
-            long = ap length e ∙ length-paste out at text (suc i) (omega arith) (omega arith);
-          }
-
-      pub copied_all : length text ≤ i → TextWritten out at text (at + i) out'
-      copied_all l =
-          let e : i ≡ length text = omega (arith, p.within) in
-          record { fits = h; next_place = rw e; buffer = p.so_far ∙ rw (e, take-length text) }
 
 -- the same text by another name
 pub wrote_is : {out out' : List ℕ} {at next : ℕ} {t u : List ℕ} → TextWritten out at t next out' → t ≡ u → TextWritten out at u next out'
@@ -82,13 +47,29 @@ module _ {a b : List ℕ} {at next : ℕ} {t : List ℕ} (w : TextWritten a at t
             ∙ rw (w.next_place, w.buffer, take_at p q (at + length t) long, drop_after, length-append t u, ← add_assoc at (length t) (length u), ← append_assoc (take at a) t u);
       }
 
+-- the same of a printer
+pub printed_none : (p : Printer) → p.count ≤ length p.out.now → Printed p [] p
+printed_none p h = record { same_buffer = refl; written = wrote_none p.out.now p.count h }
+
+pub printed_is : {p q : Printer} {t u : List ℕ} → Printed p t q → t ≡ u → Printed p u q
+printed_is w e = record { same_buffer = w.same_buffer; written = wrote_is w.written e }
+
+pub printed_then : {p q r : Printer} {t u : List ℕ} → Printed p t q → Printed q u r → Printed p (t ++ u) r
+printed_then w v = record { same_buffer = v.same_buffer ∙ w.same_buffer; written = wrote_then w.written v.written }
+
+-- the room that a text leaves
+pub printed_room : {p q : Printer} {t : List ℕ} → Printed p t q → (n : ℕ) → HasRoom p (length t + n) → HasRoom q n
+printed_room w n h = omega (arith, wrote_long w.written, w.written.next_place)
+
 -- a text at the front of a buffer that has room for it, and of one that has not
 module _ (most : ℕ) (out text : List ℕ) where
   pub no_room : length out < most → effect 0 out ≡ put_effect most text out
   no_room h = rw (lt-leb most (length out) h)
 
-  pub room : {next : ℕ} {out' : List ℕ} → most ≤ length out → TextWritten out 0 text next out' → effect next out' ≡ put_effect most text out
-  room h w = rw (le-leb most (length out) h) (ap₂ effect (omega (arith, w.next_place)) w.buffer)
+  pub room : (p q : Printer) {out' : List ℕ} → most ≤ length out → p.out.now ≡ out → p.count ≡ 0 → Printed p text q → out' ≡ q.out.now
+      → effect q.count out' ≡ put_effect most text out
+  room p q h b c w e =
+      rw (le-leb most (length out) h, ← b, e) (ap₂ effect (omega (arith, w.written.next_place)) (w.written.buffer ∙ rw c))
 
 -- a text at the front of the rest of a buffer from a place on stands at that place of the buffer
 module _ (most : ℕ) (out : List ℕ) (at : ℕ) (text : List ℕ) (h : at + most ≤ length out) (short : length text ≤ most) where

@@ -1,5 +1,6 @@
 -- Text written into a lent buffer, and the room that it may need. Assumes nothing.
 use Rattle.std.specs.Prelude.{◌≡◌, Bool, List, [], ◌++◌, ℕ, ◌+◌, ◌*◌, ◌/◌, ◌%◌, ◌^◌, ◌≤◌, eqb, leb, length, take, drop}
+use Rattle.lines.specs.declared.printer.Printer.{Printer}
 use Rattle.wsgs.specs.Basics.{pick}
 use Rattle.wsgs.specs.Questions.{Effect, effect}
 
@@ -12,6 +13,14 @@ pub record TextWritten (out : List ℕ) (at : ℕ) (text : List ℕ) (next : ℕ
   pub fits : at + length text ≤ length out
   pub next_place : next ≡ at + length text
   pub buffer : out' ≡ with_text at text out
+
+-- what a printer is lent has room for so many bytes more; and after a call a text stands where the printer had come to, in the same buffer
+abbrev pub HasRoom : Printer → ℕ → Type 0
+HasRoom p n = p.count + n ≤ length p.out.now
+
+pub record Printed (before : Printer) (text : List ℕ) (after : Printer) : Type 0 where
+  pub same_buffer : after.out.ghost_name ≡ before.out.ghost_name
+  pub written : TextWritten before.out.now before.count text after.count after.out.now
 
 -- THE ROOM that texts may need, with 20 digits for a number: a comma and a number; a line of four numbers beside its kind; the line of a pair;
 -- the heading; the line of a refusal; and the lines of a slot of 32 inputs

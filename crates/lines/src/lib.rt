@@ -8,10 +8,12 @@ ghost use Rattle.std.specs.Prelude.{◌≡◌};
 ghost use Rattle.wsgs.specs.Answers.{matching_of};
 ghost use Rattle.wsgs.specs.Questions.{effect};
 ghost use Rattle.wsgs.specs.Text.{heading};
+ghost use Rattle.wsgs.specs.Told.{refusal_told};
 ghost use Rattle.wsgs.specs.Program.{refusal_text, match_lines};
 ghost use Rattle.lines.specs.Lines.{put_effect, heading_room, refusal_room, slot_room};
 
-use wsgs::{MAX_PORTS, Refusal};
+use printer::Printer;
+use wsgs::{RefusalLine, Served};
 
 // The room in bytes that the heading, a refusal's line and the lines of a slot may need.
 pub const HEADING_ROOM: usize = 31;
@@ -27,47 +29,38 @@ pub fn heading_line(out: &mut [u8]) -> usize
     if out.len() < HEADING_ROOM {
         return 0;
     }
-    printer::put(out, 0, b"kind,slot,input,output,detail\r\n")
+    let mut printer = Printer::new(out);
+    printer.put(b"kind,slot,input,output,detail\r\n");
+    printer.count
 }
 
 // A refusal's line, if there is a refusal.
-pub fn refusal_line(out: &mut [u8], refusal: Refusal) -> usize
-    ensures outcome { effect result out.new ≡ put_effect refusal_room (refusal_text refusal) out.old }
+pub fn refusal_line(out: &mut [u8], refusal: Option<RefusalLine>) -> usize
+    ensures outcome { effect result out.new
+        ≡ put_effect refusal_room (refusal_text (refusal_told refusal)) out.old }
 {
     if out.len() < REFUSAL_ROOM {
         return 0;
     }
-    if refusal.number == 0 {
+    let Some(line) = refusal else {
         return 0;
-    }
-    printer::put_line(
-        out,
-        0,
-        b"refused",
-        refusal.slot,
-        refusal.input,
-        refusal.output,
-        refusal.number as u64,
-    )
+    };
+    let number = u64::from(u32::from(line.refused));
+    let mut printer = Printer::new(out);
+    printer.put_line(b"refused", [line.slot, line.input, line.output, number]);
+    printer.count
 }
 
 // The lines of a slot's pairs, as a tick answers them.
-pub fn slot_lines(
-    out: &mut [u8],
-    slot: u64,
-    ports: u32,
-    outputs: [u8; 32],
-    first_pass: u32,
-) -> usize
+pub fn slot_lines(out: &mut [u8], slot: u64, ports: u32, served: Served) -> usize
     ensures outcome { effect result out.new
-        ≡ put_effect slot_room (match_lines slot (matching_of outputs first_pass) ports) out.old }
+        ≡ put_effect slot_room
+        (match_lines slot (matching_of served.outputs served.first_pass) ports) out.old }
 {
     if out.len() < SLOT_ROOM {
         return 0;
     }
-    let most = MAX_PORTS as u32;
-    if ports > most {
-        return printer::put_matches(out, 0, slot, most, outputs, first_pass);
-    }
-    printer::put_matches(out, 0, slot, ports, outputs, first_pass)
+    let mut printer = Printer::new(out);
+    printer.put_matches(slot, ports, served);
+    printer.count
 }

@@ -1,114 +1,98 @@
-// Text put into a lent buffer from a place on. Each function gives back the place after what it put.
-ghost use Rattle.std.specs.Prelude.{[], ◌∷◌, ◌+◌, ◌*◌, ◌≤◌, ◌<◌, length};
+// Text put into a lent buffer, from its front on.
+ghost use Rattle.std.specs.Prelude.{◌≡◌, [], ◌∷◌, ◌+◌, length, map};
 ghost use Rattle.wsgs.specs.Answers.{matching_of};
-ghost use Rattle.wsgs.specs.Text.{comma, decimal, line};
+ghost use Rattle.wsgs.specs.Text.{decimal, line};
 ghost use Rattle.wsgs.specs.Program.{match_line, match_lines};
-ghost use Rattle.lines.specs.Lines.{TextWritten, field_room, line_room, match_room, is_set};
+ghost use Rattle.lines.specs.Lines.{Printed, HasRoom, line_room, match_room, slot_room};
 
-// A text.
-pub fn put(out: &mut [u8], at: usize, text: &[u8]) -> usize
-    requires room { at + length text.now ≤ length out.old }
-    ensures text { TextWritten out.old at text.now result out.new }
-{
-    let mut i = 0;
-    while i < text.len() {
-        out[at + i] = text[i];
-        i += 1;
+use wsgs::Served;
+
+// A lent buffer, and how many bytes are put into it.
+// Stays (c): std's `write!` into a cursor over the buffer promises nothing of the buffer at an Err, nor that none comes, so what the lines
+// promise does not follow.
+#[derive(Drop)]
+pub struct Printer<'a> {
+    out: &'a mut [u8],
+    pub count: usize,
+}
+
+impl<'a> Printer<'a> {
+    pub fn new(out: &'a mut [u8]) -> Printer<'a>
+        ensures same_buffer { result.out.ghost_name ≡ out.entry.ghost_name }
+        ensures buffer { result.out.now ≡ out.old }
+        ensures count { result.count ≡ 0 }
+    {
+        Printer { out, count: 0 }
     }
-    at + i
-}
 
-// A byte.
-fn put_byte(out: &mut [u8], at: usize, byte: u8) -> usize
-    requires room { at < length out.old }
-    ensures text { TextWritten out.old at (byte ∷ []) result out.new }
-{
-    out[at] = byte;
-    at + 1
-}
-
-// A number in decimal.
-fn put_number(out: &mut [u8], at: usize, number: u64) -> usize
-    requires room { at + length (decimal number) ≤ length out.old }
-    ensures text { TextWritten out.old at (decimal number) result out.new }
-{
-    if number < 10 {
-        return put_byte(out, at, b'0' + number as u8);
+    // A text.
+    pub fn put(&mut self, text: &[u8])
+        requires room { HasRoom self.old (length text.now) }
+        ensures text { Printed self.old text.now self.new }
+    {
+        let end = self.count + text.len();
+        let out = &mut *self.out;
+        out[self.count..end].copy_from_slice(text);
+        self.count = end;
     }
-    let next = put_number(out, at, number / 10);
-    put_byte(out, next, b'0' + (number % 10) as u8)
-}
 
-// A comma and a number.
-fn put_field(out: &mut [u8], at: usize, number: u64) -> usize
-    requires room { at + field_room ≤ length out.old }
-    ensures text { TextWritten out.old at (comma ∷ decimal number) result out.new }
-{
-    let next = put_byte(out, at, b',');
-    put_number(out, next, number)
-}
-
-// A line of its kind and four numbers, of at most 20 digits each.
-pub fn put_line(
-    out: &mut [u8],
-    at: usize,
-    kind: &[u8],
-    slot: u64,
-    input: u64,
-    output: u64,
-    detail: u64,
-) -> usize
-    requires room { at + length kind.now + line_room ≤ length out.old }
-    ensures text { TextWritten out.old at
-        (line (kind.now ∷ decimal slot ∷ decimal input ∷ decimal output ∷ decimal detail ∷ [])) result out.new }
-{
-    let second = put(out, at, kind);
-    let third = put_field(out, second, slot);
-    let fourth = put_field(out, third, input);
-    let fifth = put_field(out, fourth, output);
-    let end = put_field(out, fifth, detail);
-    put(out, end, b"\r\n")
-}
-
-// The line of the input that has place i from 0 on, if it has an output.
-fn put_match(out: &mut [u8], at: usize, slot: u64, i: u32, output: u8, first_pass: u32) -> usize
-    requires room { at + match_room ≤ length out.old }
-    requires input { i < 32 }
-    ensures text { TextWritten out.old at
-        (match_line slot (i + 1) output (is_set first_pass i)) result out.new }
-{
-    if output == 0 {
-        return at;
+    // A byte.
+    fn put_byte(&mut self, byte: u8)
+        requires room { HasRoom self.old 1 }
+        ensures text { Printed self.old (byte ∷ []) self.new }
+    {
+        self.out[self.count] = byte;
+        self.count += 1;
     }
-    let pass = 2 - ((first_pass >> i) & 1);
-    put_line(
-        out,
-        at,
-        b"match",
-        slot,
-        i as u64 + 1,
-        output as u64,
-        pass as u64,
-    )
-}
 
-// The lines of a slot's pairs, inputs rising.
-pub fn put_matches(
-    out: &mut [u8],
-    at: usize,
-    slot: u64,
-    ports: u32,
-    outputs: [u8; 32],
-    first_pass: u32,
-) -> usize
-    requires room { at + match_room * ports ≤ length out.old }
-    requires inputs { ports ≤ 32 }
-    ensures text { TextWritten out.old at
-        (match_lines slot (matching_of outputs first_pass) ports) result out.new }
-{
-    let mut next = at;
-    for i in 0..ports {
-        next = put_match(out, next, slot, i, outputs[i as usize], first_pass);
+    // A number in decimal.
+    // Stays (c): as above, `write!` with its Display is not proved to put it.
+    fn put_number(&mut self, number: u64)
+        requires room { HasRoom self.old (length (decimal number)) }
+        ensures text { Printed self.old (decimal number) self.new }
+    {
+        if number >= 10 {
+            self.put_number(number / 10);
+        }
+        self.put_byte(b'0' + (number % 10) as u8);
     }
-    next
+
+    // A line of its kind and four numbers, of at most 20 digits each.
+    pub fn put_line(&mut self, kind: &[u8], numbers: [u64; 4])
+        requires room { HasRoom self.old (length kind.now + line_room) }
+        ensures text { Printed self.old (line (kind.now ∷ map decimal numbers)) self.new }
+    {
+        self.put(kind);
+        for number in numbers {
+            self.put_byte(b',');
+            self.put_number(number);
+        }
+        self.put(b"\r\n");
+    }
+
+    // The line of an input, if it has an output; inputs count from 1.
+    // Stays (d): a struct of the four numbers of a line would be made for this one call.
+    fn put_match(&mut self, slot: u64, input: u64, output: u8, is_first: bool)
+        requires room { HasRoom self.old match_room }
+        ensures text { Printed self.old (match_line slot input output is_first) self.new }
+    {
+        if output == 0 {
+            return;
+        }
+        let pass = if is_first { 1 } else { 2 };
+        self.put_line(b"match", [slot, input, u64::from(output), pass]);
+    }
+
+    // The lines of a slot's pairs, inputs rising, of which no more than 32 have an output.
+    pub fn put_matches(&mut self, slot: u64, ports: u32, served: Served)
+        requires room { HasRoom self.old slot_room }
+        ensures text { Printed self.old
+            (match_lines slot (matching_of served.outputs served.first_pass) ports) self.new }
+    {
+        let inputs = served.outputs.len().min(ports as usize);
+        for (i, &output) in served.outputs[..inputs].iter().enumerate() {
+            let is_first = (served.first_pass >> i) & 1 == 1;
+            self.put_match(slot, i as u64 + 1, output, is_first);
+        }
+    }
 }

@@ -2,134 +2,84 @@
 #![tactic(auto)]
 
 ghost use Rattle.std.specs.Prelude.{◌≡◌};
-ghost use Rattle.wsgs.specs.Bookings.{book_of};
 ghost use Rattle.wsgs.specs.Headroom.{headroom_result};
 ghost use Rattle.wsgs.specs.Preview.{preview, slots_booking, rate_booking, slots_release, rate_release};
+ghost use Rattle.wsgs.specs.Told.{book_lent, headroom_told, preview_told};
+ghost use Rattle.book.specs.Operations.{operation_told, amount_told};
 
 mod headrooms;
 mod sums;
 
+use book::operations::BookOperation;
 use book::pair_sums::pair_sums;
-use book::refusals::{book_refusal, rate_refusal, release_rate_refusal, release_refusal};
-use bookings::{booking, rise, slots_of};
+use book::refusals::check_operation;
 use headrooms::difference;
-use sums::{shows_sums, with_booking, without_sums};
-use wsgs::{BookedSlots, Clock, HeadroomResult, Input, Output, PreviewResult};
+use sums::{booking_after, shows_sums, with_booking, without_sums};
+use wsgs::{BookRuns, BookedSlots, Clock, Pair, Previewed, Refused};
 
 // How far a pair is from inequality (2) of the paper: F less the bookings of its row and its column, its own counted once.
-pub fn headroom(
-    clock: Clock,
-    slots: &[u32],
-    rates: &[u32],
-    input: Input,
-    output: Output,
-) -> HeadroomResult
-    ensures result { result
-        ≡ headroom_result clock (book_of slots.now rates.now) input.0 output.0 }
+pub fn headroom(clock: Clock, book: BookRuns<'_>, pair: Pair) -> Result<i64, Refused>
+    ensures result { headroom_told result
+        ≡ headroom_result clock (book_lent book.entry) pair.input.0 pair.output.0 }
 {
-    let present = pair_sums(clock, slots, rates, input, output);
-    if present.refusal != 0 {
-        return HeadroomResult {
-            refusal: present.refusal,
-            headroom: 0,
-        };
-    }
+    let present = pair_sums(clock, book, pair)?;
     let own = present.booking;
     let taken = present.row + present.column - own;
-    HeadroomResult {
-        refusal: 0,
-        headroom: difference(clock.frame as u64, taken),
-    }
+    Ok(difference(clock.frame as u64, taken))
 }
 
 // What booking slots for a pair would give, and the sums that would follow.
-pub fn preview_book(
-    clock: Clock,
-    slots: &[u32],
-    rates: &[u32],
-    input: Input,
-    output: Output,
-    amount: BookedSlots,
-) -> PreviewResult
-    ensures result { result ≡ preview slots_booking clock
-        (book_of slots.now rates.now) input.0 output.0 amount.0 }
+pub fn preview_book(clock: Clock, book: BookRuns<'_>, pair: Pair, amount: BookedSlots) -> Previewed
+    ensures result { preview_told result ≡ preview slots_booking clock
+        (book_lent book.entry) pair.input.0 pair.output.0 amount.0 }
 {
-    let number = book_refusal(clock, slots, rates, input, output, amount);
-    if !shows_sums(number) {
-        return without_sums(number);
-    }
-    let present = pair_sums(clock, slots, rates, input, output);
-    let booked = present.booking;
-    let raised = booked + amount.0;
-    with_booking(present, number, raised)
+    preview_operation(clock, book, pair, BookOperation::Book(amount))
 }
 
 // What booking a rate would give.
-pub fn preview_book_rate(
-    clock: Clock,
-    slots: &[u32],
-    rates: &[u32],
-    input: Input,
-    output: Output,
-    rate: u64,
-) -> PreviewResult
-    ensures result { result ≡ preview rate_booking clock
-        (book_of slots.now rates.now) input.0 output.0 rate }
+pub fn preview_book_rate(clock: Clock, book: BookRuns<'_>, pair: Pair, rate: u64) -> Previewed
+    ensures result { preview_told result ≡ preview rate_booking clock
+        (book_lent book.entry) pair.input.0 pair.output.0 rate }
 {
-    let number = rate_refusal(clock, slots, rates, input, output, rate);
-    if !shows_sums(number) {
-        return without_sums(number);
-    }
-    let present = pair_sums(clock, slots, rates, input, output);
-    let held = slots_of(present.slots);
-    let more = rise(clock.frame, clock.line, held, present.rate, rate as u32);
-    let booked = present.booking;
-    let risen = booked + more.0;
-    with_booking(present, number, risen)
+    preview_operation(clock, book, pair, BookOperation::BookRate(rate))
 }
 
 // What a release of slots would give.
 pub fn preview_release(
     clock: Clock,
-    slots: &[u32],
-    rates: &[u32],
-    input: Input,
-    output: Output,
+    book: BookRuns<'_>,
+    pair: Pair,
     amount: BookedSlots,
-) -> PreviewResult
-    ensures result { result ≡ preview slots_release clock
-        (book_of slots.now rates.now) input.0 output.0 amount.0 }
+) -> Previewed
+    ensures result { preview_told result ≡ preview slots_release clock
+        (book_lent book.entry) pair.input.0 pair.output.0 amount.0 }
 {
-    let number = release_refusal(clock, slots, rates, input, output, amount);
-    if !shows_sums(number) {
-        return without_sums(number);
-    }
-    let present = pair_sums(clock, slots, rates, input, output);
-    let held = present.slots as u64;
-    let fewer = held - amount.0;
-    let left = booking(clock.frame, clock.line, BookedSlots(fewer), present.rate);
-    with_booking(present, number, left.0)
+    preview_operation(clock, book, pair, BookOperation::Release(amount))
 }
 
 // What a release of a rate would give.
-pub fn preview_release_rate(
-    clock: Clock,
-    slots: &[u32],
-    rates: &[u32],
-    input: Input,
-    output: Output,
-    rate: u64,
-) -> PreviewResult
-    ensures result { result ≡ preview rate_release clock
-        (book_of slots.now rates.now) input.0 output.0 rate }
+pub fn preview_release_rate(clock: Clock, book: BookRuns<'_>, pair: Pair, rate: u64) -> Previewed
+    ensures result { preview_told result ≡ preview rate_release clock
+        (book_lent book.entry) pair.input.0 pair.output.0 rate }
 {
-    let number = release_rate_refusal(clock, slots, rates, input, output, rate);
-    if !shows_sums(number) {
-        return without_sums(number);
+    preview_operation(clock, book, pair, BookOperation::ReleaseRate(rate))
+}
+
+// What an operation would give. Where its sums are shown the pair has passed its questions, so the present sums are there.
+fn preview_operation(
+    clock: Clock,
+    book: BookRuns<'_>,
+    pair: Pair,
+    operation: BookOperation,
+) -> Previewed
+    ensures result { preview_told result ≡ preview (operation_told operation) clock
+        (book_lent book.entry) pair.input.0 pair.output.0 (amount_told operation) }
+{
+    let outcome = check_operation(clock, book, pair, operation);
+    if !shows_sums(outcome) {
+        return without_sums(outcome);
     }
-    let present = pair_sums(clock, slots, rates, input, output);
-    let held = slots_of(present.slots);
-    let lower = present.rate - rate as u32;
-    let left = booking(clock.frame, clock.line, held, lower);
-    with_booking(present, number, left.0)
+    let present = pair_sums(clock, book, pair).unwrap();
+    let booking = booking_after(clock, present, operation);
+    with_booking(present, outcome, booking)
 }

@@ -18,9 +18,6 @@ use wsgs::{
     TurnRuns,
 };
 
-// The largest number whose square fits 64 bits: no run has as many words as the square of a larger one.
-const MAX_ROOT: u64 = 4_294_967_295;
-
 // Whether a number is one of low to high.
 pub fn is_between(low: u64, high: u64, number: u64) -> bool
     ensures result { result ≡ between low high number }
@@ -28,11 +25,13 @@ pub fn is_between(low: u64, high: u64, number: u64) -> bool
     (low..=high).contains(&number)
 }
 
-// Whether a run holds the words of all pairs.
+// Whether a run holds the words of all pairs. No run has as many words as a square past 64 bits.
 pub fn holds_pairs(ports: u64, run: &[u32]) -> bool
     ensures result { result ≡ holds_pairs ports run.now }
 {
-    ports <= MAX_ROOT && ports * ports <= run.len() as u64
+    ports
+        .checked_mul(ports)
+        .is_some_and(|words| words <= run.len() as u64)
 }
 
 // Whether both runs of a book do.

@@ -1,171 +1,145 @@
--- A record's fields, cut off one after the other at the first comma, and counted. Assumes nothing.
-use mathlib.Core.Path.{◌≡◌, refl, ap, ◌∙◌}
+-- A record cut at its commas, one field after the other. Assumes nothing.
+use mathlib.Core.Path.{◌≡◌, refl, sym, ap, subst, ◌∙◌}
+use mathlib.Core.Bool.{Bool, true, false}
 use mathlib.Core.List.{List, [], ◌∷◌}
-use Prim.Native.Nat.{ℕ, suc, ◌+◌, ◌-◌, ◌≤◌, ◌<◌}
-use native.Mathlib.Decide.{ℕ_discrete, dec_lt}
-use native.Mathlib.Nat.{not-suc-le-zero}
-use native.Mathlib.Numerals.{add-one}
+use Prim.Native.Nat.{ℕ, ◌≤◌}
 use native.Mathlib.Omega.{arith}
-use borrow.Author.Tests.{eq-eqb, ne_eqb}
-use lib.ListN.{length, get_or, take, drop, length-drop, drop_of_length-le}
-use lib.Seq.{take_all, drop-cons}
+use denote.Param.Members.{Mut}
+use denote.Ref.{Bor}
+use lib.Dec.{eqb}
+use lib.ListN.{length, get_or}
+use Rattle.std.specs.Fn.{CalledAt}
+use Rattle.std.specs.List.{slice_split}
+use Rattle.std.specs.Option.{MatchOption}
+use Rattle.std.specs.Prelude.{Option, Some, None}
+use Rattle.std.specs.declared.slice.Split.{Split}
+use Rattle.std.specs.Slice.Iter.{split_rest, split_done, split_callee, split_steps}
+use Rattle.std.proofs.lemmas.Iterator.{YieldsList}
+use Rattle.std.proofs.lemmas.Iterator.Splits.{YieldsList-from_slice_split}
+use Rattle.std.proofs.lemmas.List.Splits.{length-slice_split, slice_split-cons_yes, slice_split-cons_no}
+use Rattle.wsgs.specs.declared.Operation.{Operation}
+use Rattle.wsgs.specs.Records.{names, look_up, field}
 use Rattle.wsgs.specs.Text.{comma, reversed, fields_from, fields}
-use Rattle.records.specs.Parts.{first_place}
-use Rattle.records.proofs.Texts.{place_first, place_later}
 
--- what stands after place k of a text, as a part of a slice
-rest_after : (k : ℕ) (t : List ℕ) → take (length t - k) (drop k t) ≡ drop k t
-rest_after k t = take_all (length t - k) (drop k t) (omega (arith, length-drop k t))
+abbrev is_comma : ℕ → Bool
+is_comma b = eqb b comma
 
--- a field goes on over a byte that is no comma, and ends at one
+-- a field ends at a comma, and goes on over another byte
 module _ (x : ℕ) (xs begun : List ℕ) where
-  field_ends : x ≡ comma → fields_from (x ∷ xs) begun ≡ reversed begun [] ∷ fields_from xs []
+  field_ends : eqb x comma ≡ true → fields_from (x ∷ xs) begun ≡ reversed begun [] ∷ fields_from xs []
   unfolding fields_from
-  field_ends e = rw (eq-eqb x comma e, fields_from)
+  field_ends e = rw (e, fields_from)
 
-  field_goes_on : (x ≡ comma → ⊥) → fields_from (x ∷ xs) begun ≡ fields_from xs (x ∷ begun)
+  field_goes_on : eqb x comma ≡ false → fields_from (x ∷ xs) begun ≡ fields_from xs (x ∷ begun)
   unfolding fields_from
-  field_goes_on d = rw (ne_eqb x comma d, fields_from)
+  field_goes_on e = rw (e, fields_from)
 
--- the last field, after the bytes already read
-last_from : (t begun : List ℕ) → length t ≤ first_place comma t → fields_from t begun ≡ reversed begun t ∷ []
+-- a cut gives one part at least
+some_part : (t : List ℕ) → slice_split is_comma t ≡ [] → ⊥
+some_part t e = omega (arith, length-slice_split is_comma t, ap length e)
+
+-- the fields are the parts, with the bytes already read before the first
+split_from : (t begun part : List ℕ) (parts : List (List ℕ)) → slice_split is_comma t ≡ part ∷ parts → fields_from t begun ≡ reversed begun part ∷ parts
 unfolding fields_from reversed
-last_from [] begun h = refl
-last_from (x ∷ xs) begun h = go (ℕ_discrete x comma) (last_from xs (x ∷ begun))
+split_from [] begun part parts e = cc
+split_from (x ∷ xs) begun part parts e = go (eqb x comma) refl (slice_split is_comma xs) refl (split_from xs []) (split_from xs (x ∷ begun))
   where
-    go : Dec (x ≡ comma) → (length xs ≤ first_place comma xs → fields_from xs (x ∷ begun) ≡ reversed begun (x ∷ xs) ∷ [])
-        → fields_from (x ∷ xs) begun ≡ reversed begun (x ∷ xs) ∷ []
-    go (yes e) rest = absurd (omega (arith, place_first comma x xs e))
-    go (no d) rest = field_goes_on x xs begun d ∙ rest (omega (arith, place_later comma x xs d))
+    go : (b : Bool) → eqb x comma ≡ b → (some : List (List ℕ)) → slice_split is_comma xs ≡ some
+        → ((p : List ℕ) (ps : List (List ℕ)) → slice_split is_comma xs ≡ p ∷ ps → fields_from xs [] ≡ p ∷ ps)
+        → ((p : List ℕ) (ps : List (List ℕ)) → slice_split is_comma xs ≡ p ∷ ps → fields_from xs (x ∷ begun) ≡ reversed begun (x ∷ p) ∷ ps)
+        → fields_from (x ∷ xs) begun ≡ reversed begun part ∷ parts
+    go b h [] s ends on = absurd (some_part xs s)
+    go true h (p ∷ ps) s ends on =
+        let cut = slice_split-cons_yes is_comma x xs h in
+        let rest = ends p ps s in
+        field_ends x xs begun h ∙ cc
+    go false h (p ∷ ps) s ends on =
+        let cut = rw s at (slice_split-cons_no is_comma x xs h) in
+        let rest = on p ps s in
+        field_goes_on x xs begun h ∙ cc
 
--- a field that a comma ends
-next_from : (t begun : List ℕ) → first_place comma t < length t
-    → fields_from t begun ≡ reversed begun (take (first_place comma t) t) ∷ fields_from (drop (suc (first_place comma t)) t) []
-unfolding reversed
-next_from [] begun h = absurd (not-suc-le-zero h)
-next_from (x ∷ xs) begun h = go (ℕ_discrete x comma) (next_from xs (x ∷ begun))
+fields_split : (t : List ℕ) → slice_split is_comma t ≡ fields t
+unfolding fields reversed
+fields_split t = go (slice_split is_comma t) refl
   where
-    go : Dec (x ≡ comma)
-        → (first_place comma xs < length xs
-        → fields_from xs (x ∷ begun) ≡ reversed begun (x ∷ take (first_place comma xs) xs) ∷ fields_from (drop (suc (first_place comma xs)) xs) [])
-        → fields_from (x ∷ xs) begun
-        ≡ reversed begun (take (first_place comma (x ∷ xs)) (x ∷ xs)) ∷ fields_from (drop (suc (first_place comma (x ∷ xs))) (x ∷ xs)) []
-    go (yes e) rest = rw (place_first comma x xs e) (field_ends x xs begun e)
-    go (no d) rest = rw (place_later comma x xs d) (field_goes_on x xs begun d ∙ rest (omega (arith, place_later comma x xs d)))
+    go : (some : List (List ℕ)) → slice_split is_comma t ≡ some → slice_split is_comma t ≡ fields t
+    go [] s = absurd (some_part t s)
+    go (p ∷ ps) s = s ∙ sym (split_from t [] p ps s)
 
--- a text has a field
-some_field : (t begun : List ℕ) → 1 ≤ length (fields_from t begun)
-unfolding fields_from
-some_field [] begun = omega arith
-some_field (x ∷ xs) begun = go (ℕ_discrete x comma) (some_field xs (x ∷ begun))
-  where
-    go : Dec (x ≡ comma) → 1 ≤ length (fields_from xs (x ∷ begun)) → 1 ≤ length (fields_from (x ∷ xs) begun)
-    go (yes e) rest = rw (field_ends x xs begun e) (omega arith)
-    go (no d) rest = rw (field_goes_on x xs begun d) rest
+-- what four calls of `split` give, where these fields are left
+pub record Others (fs : List (List ℕ)) (a b c d : Option (Bor (List ℕ))) : Type 0 where
+  pub none : a ≡ None → length fs ≡ 0
+  pub one : (x : Bor (List ℕ)) → a ≡ Some x → b ≡ None → length fs ≡ 1
+  pub two : (x y : Bor (List ℕ)) → a ≡ Some x → b ≡ Some y → c ≡ None → length fs ≡ 2
+  pub three : (x y z : Bor (List ℕ)) → a ≡ Some x → b ≡ Some y → c ≡ Some z → d ≡ None → fs ≡ x.now ∷ y.now ∷ z.now ∷ []
+  pub more : (x y z w : Bor (List ℕ)) → a ≡ Some x → b ≡ Some y → c ≡ Some z → d ≡ Some w → 4 ≤ length fs
 
--- a text whose first comma is at k
-module _ (t : List ℕ) (k : ℕ) (at_k : k ≡ first_place comma t) where
-  last_field : length t ≤ k → fields t ≡ t ∷ []
-  unfolding fields reversed
-  last_field h = last_from t [] (omega arith)
+-- `split` gives the fields, one after the other
+module _ {F : Type 0} (g : Mut F (Bor ℕ × Unit {0}) Bool) where
+  abbrev Gives : Split ℕ F → List (List ℕ) → Type 0
+  Gives s fs = YieldsList (split_steps g) (λ x. x.now) s fs
 
-  -- what stands after it, as a part of a slice
-  abbrev pub after_comma : List ℕ
-  after_comma = take (length t - (k + 1)) (drop (k + 1) t)
+  -- a field is given, and the others are left; or none was left
+  pub record Given (x : List ℕ) (u : Split ℕ F) (fs : List (List ℕ)) : Type 0 where
+    pub others : List (List ℕ)
+    pub are : fs ≡ x ∷ others
+    pub left : Gives u others
 
-  pub next_field : k < length t → fields t ≡ take k t ∷ fields after_comma
-  unfolding fields reversed
-  next_field h = rw (rest_after (k + 1) t, add-one k, at_k) (next_from t [] (omega arith))
+  pub given : {s u : Split ℕ F} {r : Option (Bor (List ℕ))} {x : Bor (List ℕ)} (fs : List (List ℕ)) → Gives s fs → split_steps g s r u → r ≡ Some x
+      → Given x.now u fs
+  given {s} {u} {r} {x} [] y step e = absurd (y.runs x u (subst (λ o. split_steps g s o u) e step))
+  given {s} {u} {r} {x} (f ∷ fs) y step e =
+      let h = (y.runs).1 x u (subst (λ o. split_steps g s o u) e step) in
+      record { others = fs; are = rw h.0; left = record { runs = h.1 } }
 
-  -- what stands before it is the first field, and so is a text without a comma
-  pub first_field : get_or (fields t) 0 [] ≡ take k t
-  first_field = go (dec_lt k (length t))
+  pub no_more : {s : Split ℕ F} (u : Split ℕ F) {r : Option (Bor (List ℕ))} (fs : List (List ℕ)) → Gives s fs → split_steps g s r u → r ≡ None → fs ≡ []
+  no_more u [] y step e = refl
+  no_more {s} u {r} (f ∷ fs) y step e = absurd ((y.runs).0 u (subst (λ o. split_steps g s o u) e step))
+
+  -- the first field's name looked up
+  pub record Named (t : List ℕ) (u : Split ℕ F) (q : Option Operation) : Type 0 where
+    pub named : look_up names (field t 1) ≡ q
+    pub others : List (List ℕ)
+    pub are : fields t ≡ field t 1 ∷ others
+    pub left : Gives u others
+
+  pub first_named : (s : Split ℕ F) {u : Split ℕ F} {f : F} (t : List ℕ) (r : Option (Bor (List ℕ))) (q : Option Operation) → split_steps g s r u
+      → split_rest s ≡ t → split_done s ≡ false → split_callee s ≡ f → ((x : ℕ) (b : Bool) (q : F) → CalledAt g f x b q → (q ≡ f) × (b ≡ eqb x comma))
+      → MatchOption r (q ≡ None) (λ x. q ≡ look_up names x.now) → Named t u q
+  first_named s {u} t r q step rest done callee tests m = go r step m
     where
-      go : Dec (k < length t) → get_or (fields t) 0 [] ≡ take k t
-      go (yes h) = rw (next_field h)
-      go (no h) = rw (last_field (omega arith), take_all k t (omega arith))
+      cut : Gives s (fields t)
+      cut = subst (Gives s) (fields_split t) (YieldsList-from_slice_split g is_comma t rest done callee tests)
 
-  only_field : length (fields t) ≡ 1 → fields t ≡ t ∷ []
-  unfolding fields
-  only_field e = go (dec_lt k (length t))
-    where
-      go : Dec (k < length t) → fields t ≡ t ∷ []
-      go (yes h) = absurd (omega (arith, e, ap length (next_field h), some_field after_comma []))
-      go (no h) = last_field (omega arith)
+      go : (r : Option (Bor (List ℕ))) → split_steps g s r u → MatchOption r (q ≡ None) (λ x. q ≡ look_up names x.now) → Named t u q
+      go None step m = absurd (some_part t (fields_split t ∙ no_more u (fields t) cut step refl))
+      go (Some x) step m =
+          let h = given {x = x} (fields t) cut step refl in
+          let e : field t 1 ≡ x.now = ap (λ fs. get_or fs 0 []) h.are in
+          record { named = ap (look_up names) e ∙ sym m; others = h.others; are = h.are ∙ ap (λ y. y ∷ h.others) (sym e); left = h.left }
 
-  -- a text of two fields or more has a comma, and one field fewer after it
-  pub comma_within : 2 ≤ length (fields t) → k < length t
-  comma_within e = go (dec_lt k (length t))
-    where
-      go : Dec (k < length t) → k < length t
-      go (yes h) = h
-      go (no h) = absurd (omega (arith, e, ap length (last_field (omega arith))))
-
-  pub one_fewer : 2 ≤ length (fields t) → length (fields t) ≡ suc (length (fields after_comma))
-  one_fewer e = ap length (next_field (comma_within e))
-
--- a text of three fields, cut at two commas
-module _ (t : List ℕ) (k : ℕ) (at_k : k ≡ first_place comma t) (three : length (fields t) ≡ 3) where
-  abbrev u : List ℕ
-  u = after_comma t k at_k
-
-  two : length (fields u) ≡ 2
-  two = omega (arith, three, one_fewer t k at_k (omega (arith, three)))
-
-  module _ (l : ℕ) (at_l : l ≡ first_place comma u) where
-    pub second_within : l < length u
-    second_within = comma_within u l at_l (omega (arith, two))
-
-    pub three_fields : fields t ≡ take k t ∷ take l u ∷ after_comma u l at_l ∷ []
-    three_fields =
-        next_field t k at_k (comma_within t k at_k (omega (arith, three)))
-        ∙ ap (take k t ∷◌)
-        (next_field u l at_l second_within
-        ∙ ap (take l u ∷◌) (only_field (after_comma u l at_l) _ refl (omega (arith, two, one_fewer u l at_l (omega (arith, two))))))
-
--- A COUNT OF FIELDS. How many begin in a text does not hang on what is read of the first.
-same_count : (t begun begun' : List ℕ) → length (fields_from t begun) ≡ length (fields_from t begun')
-unfolding fields_from
-same_count [] begun begun' = refl
-same_count (x ∷ xs) begun begun' = go (ℕ_discrete x comma) (same_count xs (x ∷ begun) (x ∷ begun'))
-  where
-    go : Dec (x ≡ comma) → length (fields_from xs (x ∷ begun)) ≡ length (fields_from xs (x ∷ begun'))
-        → length (fields_from (x ∷ xs) begun) ≡ length (fields_from (x ∷ xs) begun')
-    go (yes e) rest = rw (field_ends x xs begun e, field_ends x xs begun' e)
-    go (no d) rest = rw (field_goes_on x xs begun d, field_goes_on x xs begun' d) rest
-
--- the fields that begin in the first i bytes of a text are counted, the one at its front too
-pub record Counted (t : List ℕ) (count i : ℕ) : Type 0 where
-  pub within : i ≤ length t
-  pub few : count ≤ i + 1
-  pub rest : length (fields t) + 1 ≡ count + length (fields (drop i t))
-
-module _ (t : List ℕ) where
-  pub counted_one : Counted t 1 0
-  counted_one = record { within = omega arith; few = omega arith; rest = omega arith }
-
-  module _ (count i : ℕ) (n : Counted t count i) where
-    module _ (h : i < length t) where
-      pub counted_comma : get_or t i 0 ≡ comma → Counted t (count + 1) (i + 1)
-      unfolding fields
-      counted_comma e =
-          record {
-            within = omega arith;
-            few = omega (arith, n.few);
-            rest = n.rest ∙ rw (drop-cons t i 0 h, field_ends (get_or t i 0) (drop (suc i) t) [] e, add-one i) (omega arith);
-          }
-
-      pub counted_other : (get_or t i 0 ≡ comma → ⊥) → Counted t count (i + 1)
-      unfolding fields
-      counted_other d =
-          record {
-            within = omega arith;
-            few = omega (arith, n.few);
-            rest =
-                n.rest
-                ∙ rw (drop-cons t i 0 h, field_goes_on (get_or t i 0) (drop (suc i) t) [] d, same_count (drop (suc i) t) (get_or t i 0 ∷ []) [], add-one i);
-          }
-
-    pub counted_all : length t ≤ i → count ≡ length (fields t)
-    unfolding fields fields_from
-    counted_all h = omega (arith, rw (drop_of_length-le t h) at n.rest)
+  -- four calls after it
+  pub other_fields : (s t u v w : Split ℕ F) (fs : List (List ℕ)) {a b c d : Option (Bor (List ℕ))} → Gives s fs
+      → split_steps g s a t → split_steps g t b u → split_steps g u c v → split_steps g v d w → Others fs a b c d
+  other_fields s t u v w fs l i j k m =
+      record {
+        none = λ e. ap length (no_more t fs l i e);
+        one = λ x e f.
+            let p = given fs l i e in
+            rw (p.are, no_more u p.others p.left j f);
+        two = λ x y e f h.
+            let p = given fs l i e in
+            let q = given p.others p.left j f in
+            rw (p.are, q.are, no_more v q.others q.left k h);
+        three = λ x y z e f h n.
+            let p = given fs l i e in
+            let q = given p.others p.left j f in
+            let r = given q.others q.left k h in
+            rw (p.are, q.are, r.are, no_more w r.others r.left m n);
+        more = λ x y z last e f h n.
+            let p = given fs l i e in
+            let q = given p.others p.left j f in
+            let r = given q.others q.left k h in
+            let o = given r.others r.left m n in
+            rw (p.are, q.are, r.are, o.are) (omega arith);
+      }

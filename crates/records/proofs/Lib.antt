@@ -1,4 +1,5 @@
 pub mod Digits
 pub mod Texts
+pub mod Names
 pub mod Cuts
 pub mod Readings

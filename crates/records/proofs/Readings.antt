@@ -6,10 +6,9 @@ use Prim.Native.Nat.{ℕ, ◌≤◌, ◌<◌}
 use borrow.Author.Tests.{eq-eqb, ne_eqb, le-leb, lt-leb}
 use lib.ListN.{length, get_or}
 use Rattle.wsgs.specs.declared.Operation.{Operation}
-use Rattle.wsgs.specs.declared.OperationField.TheVariants.{Known, Unknown}
-use Rattle.wsgs.specs.declared.Reading.TheVariants.{Refused}
+use Rattle.std.specs.Prelude.{Some, None}
 use Rattle.wsgs.specs.Text.{quote, has, fields, read_field}
-use Rattle.wsgs.specs.Records.{names, look_up, is_start, field, read_record}
+use Rattle.wsgs.specs.Records.{Refused, names, look_up, is_start, field, read_record}
 use Rattle.records.specs.Parts.{numbers_reading}
 
 module _ (running : Bool) (t : List ℕ) where
@@ -23,16 +22,16 @@ module _ (running : Bool) (t : List ℕ) where
     quoted e = rw (le-leb (length t) 64 short, e)
 
     module _ (unquoted : has quote t ≡ false) where
-      pub unknown : look_up names (field t 1) ≡ Unknown → Refused 12 ≡ read_record running t
+      pub unknown : look_up names (field t 1) ≡ None → Refused 12 ≡ read_record running t
       unfolding read_record
       unknown e = rw (le-leb (length t) 64 short, unquoted, e)
 
-      module _ (o : Operation) (known : look_up names (field t 1) ≡ Known o) where
-        pub too_early : (running || is_start (Known o)) ≡ false → Refused 12 ≡ read_record running t
+      module _ (o : Operation) (known : look_up names (field t 1) ≡ Some o) where
+        pub too_early : (running || is_start (Some o)) ≡ false → Refused 12 ≡ read_record running t
         unfolding read_record
         too_early e = rw (le-leb (length t) 64 short, unquoted, known, e)
 
-        module _ (in_time : (running || is_start (Known o)) ≡ true) where
+        module _ (in_time : (running || is_start (Some o)) ≡ true) where
           pub other_count : (length (fields t) ≡ 4 → ⊥) → Refused 13 ≡ read_record running t
           unfolding read_record
           other_count d = rw (le-leb (length t) 64 short, unquoted, known, in_time, ne_eqb (length (fields t)) 4 d)

@@ -3,104 +3,60 @@
 
 mod fields;
 
-ghost use Rattle.std.specs.Prelude.{◌≡◌, ◌||◌};
-ghost use Rattle.wsgs.specs.declared.OperationField.TheVariants.{Known};
-ghost use Rattle.wsgs.specs.Basics.{same};
+ghost use Rattle.std.specs.Prelude.{◌≡◌, Some};
 ghost use Rattle.wsgs.specs.Records.{look_up, names, is_start, read_record};
+ghost use Rattle.wsgs.specs.Told.{reading_told};
 
-use fields::{field_count, place_of, read_numbers};
-use wsgs::{Operation, OperationField, Reading};
+use fields::read_numbers;
+use wsgs::{Operation, Refused, Request};
 
-// The longest record that can be read, in bytes without its CR LF, and the fields that it has.
+// The longest record that can be read, in bytes without its CR LF.
 pub const MAX_RECORD: usize = 64;
 
-const FIELDS: usize = 4;
-
-// Whether two texts are the same.
-fn is_same(a: &[u8], b: &[u8]) -> bool
-    ensures comparison { result ≡ same a.now b.now }
-{
-    if a.len() != b.len() {
-        return false;
-    }
-    let mut i = 0;
-    while i < a.len() {
-        if a[i] != b[i] {
-            return false;
-        }
-        i += 1;
-    }
-    true
-}
-
 // The operation that a record's first field names.
-fn look_up(text: &[u8]) -> OperationField
+// Stays (a): Operation is of wsgs, which knows nothing of texts, and an impl of TryFrom would have to stand there.
+#[tactic(auto, using(crate::proofs::Names::by_letters))]
+fn look_up(text: &[u8]) -> Option<Operation>
     ensures operation { result ≡ look_up names text.now }
 {
-    if is_same(text, b"start") {
-        return OperationField::Known(Operation::Start);
+    match text {
+        b"start" => Some(Operation::Start),
+        b"pipe" => Some(Operation::Pipe),
+        b"book" => Some(Operation::Book),
+        b"release" => Some(Operation::Release),
+        b"arrive" => Some(Operation::Arrive),
+        b"tick" => Some(Operation::Tick),
+        _ => None,
     }
-    if is_same(text, b"pipe") {
-        return OperationField::Known(Operation::Pipe);
-    }
-    if is_same(text, b"book") {
-        return OperationField::Known(Operation::Book);
-    }
-    if is_same(text, b"release") {
-        return OperationField::Known(Operation::Release);
-    }
-    if is_same(text, b"arrive") {
-        return OperationField::Known(Operation::Arrive);
-    }
-    if is_same(text, b"tick") {
-        return OperationField::Known(Operation::Tick);
-    }
-    OperationField::Unknown
 }
 
 // Whether an operation is a start or pipe.
 fn is_start(operation: Operation) -> bool
-    ensures answer { result ≡ is_start (Known operation) }
+    ensures answer { result ≡ is_start (Some operation) }
 {
-    match operation {
-        Operation::Start => true,
-        Operation::Pipe => true,
-        Operation::Book => false,
-        Operation::Release => false,
-        Operation::Arrive => false,
-        Operation::Tick => false,
-    }
+    matches!(operation, Operation::Start | Operation::Pipe)
 }
 
-// Whether an operation is a start or pipe, or one has been accepted before it.
-fn is_in_time(running: bool, operation: Operation) -> bool
-    ensures answer { result ≡ (running || is_start (Known operation)) }
+// What a record says, where a start or pipe has been accepted before it or not.
+// Stays (a): `running` is what the clause's `read_record` takes.
+pub fn read_record(running: bool, text: &[u8]) -> Result<Request, Refused>
+    ensures reading { reading_told result ≡ read_record running text.now }
 {
-    if running {
-        return true;
+    if text.len() > MAX_RECORD || text.contains(&b'"') {
+        return Err(Refused::Record);
     }
-    is_start(operation)
-}
-
-// What a record says, or the number that refuses it, where a start or pipe has been accepted before it or not.
-pub fn read_record(running: bool, text: &[u8]) -> Reading
-    ensures reading { result ≡ read_record running text.now }
-{
-    if text.len() > MAX_RECORD {
-        return Reading::Refused(12);
+    let mut fields = text.split(|byte| *byte == b',');
+    let operation = fields.next().and_then(look_up).ok_or(Refused::Record)?;
+    if !running && !is_start(operation) {
+        return Err(Refused::Record);
     }
-    if place_of(b'"', text) < text.len() {
-        return Reading::Refused(12);
-    }
-    let operation_end = place_of(b',', text);
-    let OperationField::Known(operation) = look_up(&text[..operation_end]) else {
-        return Reading::Refused(12);
+    let (Some(input), Some(output), Some(amount), None) = (
+        fields.next(),
+        fields.next(),
+        fields.next(),
+        fields.next(),
+    ) else {
+        return Err(Refused::Fields);
     };
-    if !is_in_time(running, operation) {
-        return Reading::Refused(12);
-    }
-    if field_count(text) != FIELDS {
-        return Reading::Refused(13);
-    }
-    read_numbers(operation, &text[operation_end + 1..])
+    read_numbers(operation, input, output, amount)
 }

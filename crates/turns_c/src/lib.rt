@@ -1,5 +1,6 @@
 // An input's turn as C has it, for the comparison with the second program alone: it is no part of the library for C. crates/turns_c_c exports
 // both turns.
+// Stays (a): compare/tests/turn_calls/mod.rs calls these by name, with these signatures: numbers for outputs, runs as slices of their own, a call for each pass.
 #![tactic(auto)]
 
 ghost use Rattle.std.specs.Prelude.{◌≡◌};

@@ -1,5 +1,6 @@
 // The archive for the comparison with the second program: each export is the function of its name in crates/turns_c, with its promises written
 // again. It is no part of the library for C.
+// Stays (a): compare/tests/turn_calls/mod.rs calls these by name, with these signatures; each contract is that of crates/turns_c.
 #![tactic(auto)]
 
 ghost use Rattle.std.specs.Prelude.{◌≡◌};

@@ -2,6 +2,7 @@
 -- Assumes nothing.
 use Rattle.std.specs.Prelude.{◌≡◌, Bool, true, false, ℕ, ℤ, pos, Option, Some, None, Result, Ok, Err}
 use Rattle.wsgs.specs.declared.Clock.{Clock}
+use Rattle.wsgs.specs.declared.BookedSlots.{BookedSlots}
 use Rattle.wsgs.specs.declared.BookKind.{BookKind}
 use Rattle.wsgs.specs.declared.BookKind.TheVariants.{Plain, Fine}
 use Rattle.wsgs.specs.declared.Form.TheVariants as Forms
@@ -60,6 +61,10 @@ kind_is_fine Fine = true
 abbrev pub form_told : Form.Form → Switch.Form
 form_told Forms.Direct = Switch.direct
 form_told Forms.Pipelined = Switch.pipelined
+
+-- a word of the book as slots that are booked
+abbrev pub AreSlots : ℕ → BookedSlots → Type 0
+AreSlots word slots = slots.0 ≡ word
 
 -- THE RUNS that a call is lent
 abbrev pub book_lent : BookRuns → Book

@@ -1,7 +1,7 @@
 // The WSGS slot scheduler: the types that its definitions and its code share. The definitions stand in specs/, the theorems in proofs/.
 #![tactic(auto)]
 
-ghost use Rattle.wsgs.specs.Told.{HasNumber};
+ghost use Rattle.wsgs.specs.Told.{AreSlots, HasNumber};
 
 // The limits that calls are held to: ports of a switch; slots of a frame; packets that arrive by one call; packets in a queue; the rate of a
 // line, in kbit/s; and the slots that a clock can run.
@@ -19,6 +19,7 @@ pub const MAX_SLOT: u32 = 4_000_000_000;
 
 // The number of ports, the length of a frame, the last slot run, the rate of a line in kbit/s, 0 for none, and the kind of the book: 0 for the
 // plain one, anything else for the fine one.
+// Stays (a): C lends a clock as five words, any of which a tick gives back as it was (`c_tick_of`), so the kind is a word and no `BookKind`.
 #[derive(Clone, Copy)]
 pub struct Clock {
     pub ports: u32,
@@ -29,21 +30,32 @@ pub struct Clock {
 }
 
 // The number of an input, and of an output, from 1 on.
-#[derive(Clone, Copy)]
+// Stays (a): a rule of the project gives each of these numbers a tuple struct of its own, so that none is taken for another.
+#[derive(Clone, Copy, Debug, PartialEq, Eq)]
 pub struct Input(pub u64);
 
-#[derive(Clone, Copy)]
+#[derive(Clone, Copy, Debug, PartialEq, Eq)]
 pub struct Output(pub u64);
 
 // Slots of each frame that are booked for a pair, and the credits that the pair has left in the present frame.
+// Stays (a): tuple structs, as above.
 #[derive(Clone, Copy)]
 pub struct BookedSlots(pub u64);
 
 #[derive(Clone, Copy)]
 pub struct Credits(pub u32);
 
+// A word of the book as what it is: slots that are booked.
+impl From<u32> for BookedSlots {
+    ghost from_gives = { AreSlots };
+
+    fn from(word: u32) -> BookedSlots {
+        BookedSlots(word as u64)
+    }
+}
+
 // The two ports of a call on a pair.
-#[derive(Clone, Copy)]
+#[derive(Clone, Copy, Debug, PartialEq, Eq)]
 pub struct Pair {
     pub input: Input,
     pub output: Output,
@@ -111,6 +123,7 @@ pub struct PipelineRuns<'a> {
 }
 
 // The pairs of a slot: the output of each input from 1 on, 0 for none; and a word whose bit i - 1 tells that input i was served by pass one.
+// Stays (a): a rule of the project has the answer as a `[u8; 32]`, 0 for none, beside the pass-one word, which is what C is given.
 #[derive(Clone, Copy)]
 pub struct Served {
     pub outputs: [u8; 32],

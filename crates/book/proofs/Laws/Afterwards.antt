@@ -2,76 +2,86 @@
 -- pairs fills them. Assumes nothing.
 use mathlib.Core.Path.{◌≡◌, refl, ◌∙◌, ap}
 use mathlib.Core.Bool.{Bool, true, false, ◌&&◌, and-false}
-use mathlib.Core.List.{List}
-use mathlib.Core.Logic.{◌≢◌}
+use mathlib.Core.List.{List, ◌++◌}
+use mathlib.Core.Logic.{◌≢◌, ◌⊎◌, inl, inr}
 use Prim.Native.Nat.{ℕ, zero, suc, ◌+◌, ◌-◌, ◌*◌, ◌^◌, ◌≤◌, ◌<◌}
 use native.Mathlib.Omega.{arith}
 use native.Mathlib.Decide.{ℕ_discrete}
 use lib.Dec.{eqb}
-use lib.ListN.{length, get_or, set, replicate, length-set, get_or-replicate}
+use lib.ListN.{length, get_or, set, take, replicate, length-set, get_or-replicate}
+use Rattle.std.proofs.lemmas.List.{get_or-take, length-take, length-append}
+use Rattle.std.proofs.Math.ListN.{get_or-append}
 use lib.Seq.{get_or-set_same, get_or-set_other}
 use borrow.Author.Tests.{eq-eqb, ne_eqb}
-use Rattle.wsgs.specs.declared.Clock.{Clock}
+use Rattle.wsgs.specs.declared.Pair.{Pair}
 use Rattle.wsgs.specs.Basics.{pick, Port, sum}
-use Rattle.wsgs.specs.Bookings.{Book, booking, bookings, row_sum, column_sum}
+use Rattle.wsgs.specs.Bookings.{booking, bookings, row_sum, column_sum}
 use Rattle.wsgs.proofs.Laws.Sums.{sum_last}
 use Rattle.book.specs.declared.afterwards.BookingRequest.{BookingRequest}
-use Rattle.book.specs.Afterwards.{afterwards, RowSums, ColumnSums}
+use Rattle.book.specs.Asked.{present}
+use Rattle.book.specs.declared.all_sums.AllSums.{AllSums}
+use Rattle.book.specs.Afterwards.{afterwards, RowSums, ColumnSums, Totals}
 
-module _ (c : Clock) (m : Book) (q : BookingRequest) where
-  abbrev present : ℕ → ℕ → ℕ
-  present = bookings c.ports c.frame c.line m
+module _ (q : BookingRequest) where
+  abbrev now : ℕ → ℕ → ℕ
+  now = present q.asked
 
   abbrev a : ℕ → ℕ → ℕ
-  a = afterwards c m q
+  a = afterwards q.asked q.more.0
 
-  -- the pair of the request has more; one of another input, and one of another output, has what it has
-  pub asked_pair : (x y : ℕ) → x ≡ q.input.0 → y ≡ q.output.0 → present x y + q.more.0 ≡ a x y
-  unfolding afterwards
-  asked_pair x y e d = rw (eq-eqb x q.input.0 e, eq-eqb y q.output.0 d) (rw (e, d) refl)
+  abbrev own : Pair
+  own = q.asked.pair
 
-  pub other_input : (x y : ℕ) → x ≢ q.input.0 → present x y ≡ a x y
+  -- the pair of the request has more; one of another input or another output has what it has
+  pub asked_pair : (x y : ℕ) → x ≡ own.input.0 → y ≡ own.output.0 → now x y + q.more.0 ≡ a x y
   unfolding afterwards
-  other_input x y e = rw (ne_eqb x q.input.0 e)
+  asked_pair x y e d = rw (eq-eqb x own.input.0 e, eq-eqb y own.output.0 d) (rw (e, d) refl)
 
-  pub other_output : (x y : ℕ) → y ≢ q.output.0 → present x y ≡ a x y
+  pub other_pair : (x y : ℕ) → (x ≢ own.input.0) ⊎ ((x ≡ own.input.0) × (y ≢ own.output.0)) → now x y ≡ a x y
   unfolding afterwards
-  other_output x y e = rw (ne_eqb y q.output.0 e) (simp and-false)
+  other_pair x y (inl e) = rw (ne_eqb x own.input.0 e)
+  other_pair x y (inr e) = rw (ne_eqb y own.output.0 e.1) (simp and-false)
 
   -- each is below 2 ^ 33
-  present_few : (x y : ℕ) → present x y ≤ 4294967295
+  now_few : (x y : ℕ) → now x y ≤ 4294967295
   unfolding bookings booking
-  present_few x y = omega arith
+  now_few x y = omega arith
 
-  module _ (few : q.more.0 < 2 ^ 32) where
-    pub after_few : (x y : ℕ) → a x y ≤ 8589934590
-    unfolding afterwards
-    after_few x y = go (eqb x q.input.0 && eqb y q.output.0) (present_few q.input.0 q.output.0) (present_few x y)
-      where
-        go : (b : Bool) → present q.input.0 q.output.0 ≤ 4294967295 → present x y ≤ 4294967295
-            → pick b (present q.input.0 q.output.0 + q.more.0) (present x y) ≤ 8589934590
-        go true h k = omega arith
-        go false h k = omega arith
+  after_few : (x y : ℕ) → a x y ≤ 8589934590
+  unfolding afterwards
+  after_few x y = go (eqb x own.input.0 && eqb y own.output.0) (now_few own.input.0 own.output.0) (now_few x y)
+    where
+      few : q.more.0 < 2 ^ 32
+      few = q.more_fits
 
-    -- so a sum of n of them
-    sum_few : (f : ℕ → ℕ) → ((x : ℕ) → f x ≤ 8589934590) → (n : ℕ) → sum f n ≤ 8589934590 * n
-    unfolding sum
-    sum_few f h zero = omega arith
-    sum_few f h (suc n) = omega (arith, sum_few f h n, h (suc n))
+      go : (b : Bool) → now own.input.0 own.output.0 ≤ 4294967295 → now x y ≤ 4294967295
+          → pick b (now own.input.0 own.output.0 + q.more.0) (now x y) ≤ 8589934590
+      go true h k = omega arith
+      go false h k = omega arith
 
-    pub row_few : (n x : ℕ) → row_sum n a x ≤ 8589934590 * n
-    unfolding row_sum
-    row_few n x = sum_few (λ y. a x y) (λ y. after_few x y) n
+  -- so a sum of n of them
+  sum_few : (f : ℕ → ℕ) → ((x : ℕ) → f x ≤ 8589934590) → (n : ℕ) → sum f n ≤ 8589934590 * n
+  unfolding sum
+  sum_few f h zero = omega arith
+  sum_few f h (suc n) = omega (arith, sum_few f h n, h (suc n))
 
-    pub column_few : (n y : ℕ) → column_sum n a y ≤ 8589934590 * n
-    unfolding column_sum
-    column_few n y = sum_few (λ x. a x y) (λ x. after_few x y) n
+  pub row_few : (n x : ℕ) → row_sum n a x ≤ 8589934590 * n
+  unfolding row_sum
+  row_few n x = sum_few (λ y. a x y) (λ y. after_few x y) n
+
+  pub column_few : (n y : ℕ) → column_sum n a y ≤ 8589934590 * n
+  unfolding column_sum
+  column_few n y = sum_few (λ x. a x y) (λ x. after_few x y) n
+
+-- the first n words of 32 zeros
+pub none_long : (n : ℕ) → n ≤ 32 → length {A = ℕ} (take n (replicate 32 0)) ≡ n
+none_long n h = omega (arith, length-take {A = ℕ} n (replicate 32 0))
 
 -- A SWEEP over the bookings a of n ports
 module _ (n : ℕ) (a : ℕ → ℕ → ℕ) where
   -- at its start no row's sum is known, and those of the columns are 0
-  pub rows_begin : n ≤ 32 → RowSums n 0 a (replicate 32 0)
-  rows_begin h = record { long = h; at = λ k l. absurd (omega arith) }
+  pub rows_begin : n ≤ 32 → RowSums n 0 a (take n (replicate 32 0))
+  rows_begin h = record { long = omega (arith, none_long n h); at = λ k l. absurd (omega arith) }
 
   pub columns_begin : n ≤ 32 → ColumnSums n 0 a (replicate 32 0)
   unfolding column_sum sum
@@ -91,11 +101,28 @@ module _ (n : ℕ) (a : ℕ → ℕ → ℕ) where
     pub done : (k : ℕ) → k < j → get_or sums k 0 ≡ column_sum i a (k + 1)
     pub left : (k : ℕ) → j ≤ k → k < n → get_or sums k 0 ≡ column_sum (i - 1) a (k + 1)
 
-  pub row_begins : (i : ℕ) (sums : List ℕ) → ColumnSums n (i - 1) a sums → InRow i 0 sums
-  row_begins i sums h = record { long = h.long; done = λ k l. absurd (omega arith); left = λ k l p. h.at k p }
+  pub row_begins : (i : ℕ) (sums : List ℕ) → ColumnSums n (i - 1) a sums → InRow i 0 (take n sums)
+  row_begins i sums h =
+      record {
+        long = omega (arith, length-take n sums, h.long);
+        done = λ k l. absurd (omega arith);
+        left = λ k l p. get_or-take n sums k 0 p ∙ h.at k p;
+      }
 
-  pub row_ends : (i : ℕ) (sums : List ℕ) → InRow i n sums → ColumnSums n i a sums
-  row_ends i sums h = record { long = h.long; at = h.done }
+  -- what stands past the n words of a sweep is no matter
+  pub row_ends : (i : ℕ) (sums rest : List ℕ) → InRow i n sums → ColumnSums n i a (sums ++ rest)
+  row_ends i sums rest h =
+      record {
+        long = omega (arith, length-append sums rest, h.long);
+        at = λ k l. get_or-append sums rest 0 k (omega (arith, h.long)) ∙ h.done k l;
+      }
+
+  pub rows_end : (x : ℕ) (sums rest : List ℕ) → x ≤ n → RowSums n x a sums → RowSums n x a (sums ++ rest)
+  rows_end x sums rest p h =
+      record {
+        long = omega (arith, length-append sums rest, h.long);
+        at = λ k l. get_or-append sums rest 0 k (omega (arith, h.long)) ∙ h.at k l;
+      }
 
   -- one more row in a column's sum
   column_more : (i y : ℕ) → 1 ≤ i → column_sum i a y ≡ column_sum (i - 1) a y + a i y
@@ -128,3 +155,11 @@ module _ (n : ℕ) (a : ℕ → ℕ → ℕ) where
   column_at y sums p h =
       let e : y - 1 + 1 ≡ y = omega arith in
       h.at (y - 1) (omega arith) ∙ ap (column_sum n a) e
+
+-- the sums of a port's row and column as the sweep has them are small
+module _ (q : BookingRequest) (t : AllSums) (h : Totals q.asked q.more.0 t) where
+  pub row_small : (x : ℕ) → Port q.asked.clock.ports x → get_or t.rows (x - 1) 0 < 2 ^ 38
+  row_small x p = omega (arith, row_at q.asked.clock.ports (afterwards q.asked q.more.0) x t.rows p h.rows, row_few q q.asked.clock.ports x, q.asked.reached.ports)
+
+  pub column_small : (y : ℕ) → Port q.asked.clock.ports y → get_or t.columns (y - 1) 0 < 2 ^ 38
+  column_small y p = omega (arith, column_at q.asked.clock.ports (afterwards q.asked q.more.0) y t.columns p h.columns, column_few q q.asked.clock.ports y, q.asked.reached.ports)

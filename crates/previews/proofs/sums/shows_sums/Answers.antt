@@ -1,21 +1,16 @@
--- `previews::sums::shows_sums` meets its contract. Assumes nothing.
-use mathlib.Core.Path.{sym, ◌∙◌}
-use mathlib.Core.Bool.{or-false}
+-- `sums::shows_sums` meets its contract. Assumes nothing.
+use mathlib.Core.Path.{refl}
 use borrow.Author.Tests.{ne_eqb}
+use Rattle.wsgs.specs.Told.{number}
+use Rattle.questions.proofs.Laws.Answers.{number_some}
 use Rattle.previews.specs.Shown.{shows_sums}
 use Rattle.previews.proofs.sums.shows_sums.Goals as goal
 
-pub returns-then-refusal-eq0 : goal.returns-then-refusal-eq0
+pub returns-in-Ok : goal.returns-in-Ok
 unfolding shows_sums
-returns-then-refusal-eq0 c =
-    record { result = rw c.if-refusal-eq0.true }
+returns-in-Ok c = record { result = rw c.in-Ok.is refl }
 
-pub returns-then-refusal-eq15 : goal.returns-then-refusal-eq15
+pub returns-in-Err : goal.returns-in-Err
 unfolding shows_sums
-returns-then-refusal-eq15 c =
-    record { result = rw c.if-refusal-eq15.true }
-
-pub returns : goal.returns
-unfolding shows_sums
-returns c =
-    record { result = rw (ne_eqb _ 0 c.if-refusal-eq0.false, ne_eqb _ 15 c.if-refusal-eq15.false) (c.is_between.ensures.result ∙ sym (or-false _)) }
+returns-in-Err c =
+    record { result = rw (c.in-Err.is, ne_eqb (number c.in-Err.refused) 0 (number_some c.in-Err.refused)) c.is_of_rule.ensures.result }
