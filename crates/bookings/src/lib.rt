@@ -54,6 +54,8 @@ fn union_of(words: &[u32]) -> u32
 }
 
 // The first count words of a run become the bookings at these places; where a run has fewer, all stay as they are.
+// Inlined, since both forms call it: as a call it made a tick of 8 ports and more 10 % slower.
+#[inline(always)]
 pub fn copy_bookings(clock: Clock, book: BookRuns<'_>, to: &mut [u32], count: usize)
     ensures to_exit { to.new ≡ copy_words count
         (booking_words clock.frame clock.line book.entry.slots.now book.entry.rates.now) to.old }
