@@ -2,7 +2,7 @@
 // and give it back; what they give back is stored in the lent one, which stays as it is where the tick is refused.
 #![tactic(auto)]
 
-ghost use Rattle.std.specs.Prelude.{◌≡◌};
+ghost use Rattle.std.specs.Prelude.{◌≡◌, OnErr};
 ghost use Rattle.wsgs.specs.Questions.{effect};
 ghost use Rattle.wsgs.specs.Answers.{tick_effect, answer_effect};
 ghost use Rattle.wsgs.specs.Told.{direct_lent, pipelined_lent, tick_told, answer_told, SameTurnRuns, SamePipelineRuns};
@@ -18,6 +18,7 @@ pub fn tick_direct(
     runs: &mut TurnRuns<'_>,
 ) -> Result<Served, Refused>
     ensures loans { SameTurnRuns runs.old runs.new }
+    ensures stays { OnErr result (clock.new ≡ clock.old) }
     ensures outcome { effect (answer_told result) (clock.new, direct_lent book.entry runs.new)
         ≡ answer_effect (Direct.tick clock.old (direct_lent book.entry runs.old)) }
 {
@@ -53,6 +54,7 @@ pub fn tick_pipelined(
 ) -> Result<Served, Refused>
     ensures loans { SameTurnRuns runs.old runs.new }
     ensures pipeline_loans { SamePipelineRuns pipeline.old pipeline.new }
+    ensures stays { OnErr result (clock.new ≡ clock.old) }
     ensures outcome { effect (answer_told result) (clock.new, pipelined_lent book.entry runs.new pipeline.new)
         ≡ answer_effect (Pipelined.tick clock.old (pipelined_lent book.entry runs.old pipeline.old)) }
 {
