@@ -32,8 +32,7 @@ switch_of k s r c q g p f = record { clock = k; book = book_of s r; credits = c;
 
 -- and that a clock, a book and the other runs make, where these are lent as structs
 abbrev pub direct_switch : Clock → Book → TurnRuns → (copy flight : List ℕ) → Switch
-direct_switch k b t p f =
-    record { clock = k; book = b; credits = t.credits.now; queues = t.queues.now; given = t.given.now; copy = p; flight = f }
+direct_switch k b t p f = switch_of k b.slots b.rates t.credits.now t.queues.now t.given.now p f
 
 abbrev pub pipelined_switch : Clock → Book → TurnRuns → PipelineRuns → Switch
 pipelined_switch k b t p = direct_switch k b t p.copy.now p.flight.now

@@ -5,18 +5,20 @@ use mathlib.Core.List.{List, [], ◌++◌}
 use Prim.Native.Nat.{ℕ, zero, suc, ◌+◌, ◌-◌, ◌*◌, ◌≤◌, ◌<◌}
 use native.Mathlib.Decide.{ℕ_discrete}
 use native.Mathlib.Omega.{arith}
-use lib.Dec.{eqb}
-use lib.ListN.{length, get_or}
+use native.Mathlib.Nat.{add-zero}
+use lib.Dec.{eqb, ltb}
+use lib.ListN.{length, get_or, take, drop, length-drop}
+use lib.Seq.{take_all}
+use Rattle.std.proofs.lemmas.List.{get_or-drop}
 use Rattle.wsgs.specs.declared.Operation.TheVariants.{Start, Pipe, Book, Release, Arrive, Tick}
-use Rattle.wsgs.specs.declared.Reading.{Reading}
-use Rattle.wsgs.specs.declared.Reading.TheVariants.{Request, Refused}
+use Rattle.wsgs.specs.Records.{Reading, Request, Refused}
 use Rattle.wsgs.specs.Basics.{pick, between}
 use Rattle.wsgs.specs.Text.{LF}
 use Rattle.wsgs.specs.Program.{Machine, run_slot, obey}
 use Rattle.wsgs.proofs.Laws.Tests.{in_range}
 use Rattle.lines.specs.Lines.{TextWritten}
-use Rattle.lines.proofs.Writing.{wrote_none, wrote_then, wrote_long}
-use Rattle.events.specs.Feeding.{State, kept_reading, record_end, record_step, slot_step, byte_step, has_work, most_steps, FeedOutcome, goes_on, next_step, next_taken, step, steps, work, fed}
+use Rattle.lines.proofs.Writing.{wrote_none, wrote_is, wrote_then, wrote_long, wrote_rest}
+use Rattle.events.specs.Feeding.{State, StepOutcome, kept_reading, record_end, record_step, slot_step, byte_step, has_work, most_steps, FeedOutcome, goes_on, next_step, next_taken, step, steps, work, fed}
 use Rattle.events.specs.View.{feed_effect, StepWritten}
 use Rattle.events.proofs.Feeding.{Ready, ready, byte_there, step_slot, step_byte}
 use Rattle.events.proofs.Whole.{end_read, end_heading, byte_ends, byte_more}
@@ -172,6 +174,34 @@ module _ (room : ℕ) (block : List ℕ) where
         rw (ap (work room block) (sym (rest_goes room block first g)))
         (omega (arith, no_more_work (work room block (step room block first)) (step room block first), less_work room block first g, ap (λ n. n * 10001) all))
 
+-- A STEP ON THE REST of a block and of an output is one at their places
+module _ (block : List ℕ) (s : State) (k : ℕ) where
+  step_rest : next_step (drop k block) s 0 ≡ next_step block s k
+  unfolding next_step
+  step_rest = go (ltb 0 s.slots_left) refl
+    where
+      go : (b : Bool) → ltb 0 s.slots_left ≡ b → next_step (drop k block) s 0 ≡ next_step block s k
+      go true h = rw (h, next_step)
+      go false h = rw (h, next_step) (ap (byte_step s) (get_or-drop k block 0 0 ∙ ap (λ n. get_or block n 0) (add-zero k)))
+
+  taken_rest : k + next_taken s 0 ≡ next_taken s k
+  taken_rest = go (ltb 0 s.slots_left)
+    where
+      go : (b : Bool) → k + pick b 0 1 ≡ pick b k (k + 1)
+      go true = add-zero k
+      go false = refl
+
+  module _ {out part : List ℕ} {done count : ℕ} {s' : State} (within : k ≤ length block) (room : done ≤ length out)
+      (w : StepWritten (next_step (take (length block - k) (drop k block)) s 0) s' (take (length out - done) (drop done out)) 0 count part) where
+    placed : StepWritten (next_step block s k) s' out done (done + count) (take done out ++ (part ++ drop (length out - done) (drop done out)))
+    placed =
+        let rest : take (length block - k) (drop k block) ≡ drop k block = take_all (length block - k) (drop k block) (omega (arith, length-drop k block)) in
+        let is = ap (λ b. next_step b s 0) rest ∙ step_rest in
+        record {
+          state = w.state ∙ ap (λ (o : StepOutcome). o.state) is;
+          text = wrote_is (wrote_rest out done room w.text) (ap (λ (o : StepOutcome). o.printed) is);
+        }
+
 -- THE LOOP: what is written so far, and what the rest of the call does
 module _ (block : List ℕ) (s₀ : State) (out₀ : List ℕ) where
   abbrev room₀ : ℕ
@@ -207,18 +237,25 @@ module _ (block : List ℕ) (s₀ : State) (out₀ : List ℕ) where
     pub so_far_ready : test ≡ true → Ready s.slots_left (length block - taken) (length s.buffer) (length out - done)
     so_far_ready t = ready _ _ _ _ t
 
-    module _ (t : test ≡ true) {s' : State} {out' : List ℕ} {next taken' : ℕ} (w : StepWritten (next_step block s taken) s' out done next out')
-        (e : taken' ≡ next_taken s taken) where
-      pub so_far_less : most_steps s'.slots_left (length block - taken') < most_steps s.slots_left (length block - taken)
-      so_far_less = rw (ap (λ (s : State). s.slots_left) w.state, e) (less_work room₀ block here (sym tested ∙ t))
+    module _ (t : test ≡ true) {s' : State} {part : List ℕ} {count took : ℕ}
+        (w : StepWritten (next_step (take (length block - taken) (drop taken block)) s 0) s' (take (length out - done) (drop done out)) 0 count part)
+        (e : took ≡ next_taken s 0) where
+      at_place : StepWritten (next_step block s taken) s' out done (done + count) (take done out ++ (part ++ drop (length out - done) (drop done out)))
+      at_place = placed block s taken h.within so_far_room w
 
-      pub so_far_more : SoFar s' taken' next out'
+      taken_is : taken + took ≡ next_taken s taken
+      taken_is = rw e (taken_rest block s taken)
+
+      pub so_far_less : most_steps s'.slots_left (length block - (taken + took)) < most_steps s.slots_left (length block - taken)
+      so_far_less = rw (ap (λ (s : State). s.slots_left) at_place.state, taken_is) (less_work room₀ block here (sym tested ∙ t))
+
+      pub so_far_more : SoFar s' (taken + took) (done + count) (take done out ++ (part ++ drop (length out - done) (drop done out)))
       so_far_more =
           record {
             text = h.text ++ (next_step block s taken).printed;
-            within = rw e (step_within room₀ block here h.within (sym tested ∙ t));
-            wrote = wrote_then h.wrote w.text;
-            same = rw (w.state, e) (rest_goes room₀ block here (sym tested ∙ t) ∙ h.same);
+            within = rw taken_is (step_within room₀ block here h.within (sym tested ∙ t));
+            wrote = wrote_then h.wrote at_place.text;
+            same = rw (at_place.state, taken_is) (rest_goes room₀ block here (sym tested ∙ t) ∙ h.same);
           }
 
     -- where it ends

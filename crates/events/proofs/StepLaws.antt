@@ -1,108 +1,125 @@
 -- What a byte, the end of a record and a slot leave, as the code has it. Assumes nothing.
-use mathlib.Core.Path.{◌≡◌, sym, ap, subst⁻¹, ◌∙◌}
+use mathlib.Core.Path.{◌≡◌, refl, sym, ap, subst⁻¹, ◌∙◌}
 use mathlib.Core.Bool.{Bool, true, false, ◌&&◌, and-false, and-true}
-use mathlib.Core.List.{List}
-use Prim.Native.Nat.{ℕ, ◌+◌, ◌-◌, ◌≤◌, ◌<◌, min}
-use borrow.Author.Tests.{lt-ltb, le-ltb, le-leb, lt-leb}
+use mathlib.Core.List.{List, []}
+use Prim.Native.Nat.{ℕ, suc, ◌+◌, ◌-◌, ◌≤◌, ◌<◌, min}
+use native.Mathlib.Omega.{arith}
+use borrow.Author.Tests.{lt-ltb, le-ltb, le-leb, lt-leb, ne_eqb}
 use lib.Dec.{eqb, ltb, leb}
-use lib.ListN.{length, get_or, take}
-use Rattle.wsgs.specs.declared.Reading.{Reading}
+use lib.ListN.{length, get_or, take, drop}
+use Rattle.std.specs.Prelude.{Some, Result, Ok, Err}
+use Rattle.std.specs.Option.{is_some}
+use Rattle.std.specs.Result.{result_err, result_unwrap_or}
+use Rattle.wsgs.specs.declared.RefusalLine.{RefusalLine}
 use Rattle.wsgs.specs.Basics.{pick}
-use Rattle.wsgs.specs.Bookings.{Book}
 use Rattle.wsgs.specs.Text.{LF}
-use Rattle.wsgs.specs.Records.{read_record}
-use Rattle.wsgs.specs.Program.{RecordOutcome, SlotOutcome, obey, run_slot, refusal_text, slot_text}
+use Rattle.wsgs.specs.Records.{Reading, read_record}
+use Rattle.wsgs.specs.Answers.{matching_of}
+use Rattle.wsgs.specs.Questions.{effect}
+use Rattle.wsgs.specs.Program.{RecordOutcome, SlotOutcome, obey, run_slot, refusal_text, slot_text, match_lines}
 use Rattle.wsgs.specs.Program
-use Rattle.lines.specs.Lines.{TextWritten, slot_room}
-use Rattle.lines.proofs.Writing.{wrote_none, wrote_is}
+use Rattle.wsgs.specs.Told.{number, refusal_told}
+use Rattle.lines.proofs.Printing.{numbered, refusal_short}
+use Rattle.lines.specs.Lines.{TextWritten, slot_room, refusal_room, put_effect}
+
+use Rattle.lines.proofs.Writing.{wrote_none, wrote_is, wrote_front, wrote_rest}
 use Rattle.machine.specs.declared.RecordResult.{RecordResult}
+use Rattle.machine.specs.declared.SlotPairs.{SlotPairs}
 use Rattle.machine.specs.declared.SlotResult.{SlotResult}
-use Rattle.machine.specs.View.{machine_of, record_outcome_of, slot_outcome_of}
+use Rattle.machine.specs.declared.SwitchRuns.{SwitchRuns}
+use Rattle.machine.specs.View.{machine_of, refusal_in, record_outcome_of, slot_outcome_of}
 use Rattle.events.specs.declared.Progress.{Progress}
-use Rattle.events.specs.Feeding.{kept_bytes, State, kept_reading, StepOutcome, with_machine, ended, appended, slots_after, slot_step, record_step, record_end, byte_step, next_step, has_work}
-use Rattle.events.specs.View.{state_of, slot_result_text, ended_progress, moved_progress, StepWritten}
+use Rattle.events.specs.Feeding.{kept_bytes, State, kept_reading, StepOutcome, with_machine, ended, appended, slots_after, slot_step, record_step, record_end, byte_step, next_step, next_taken, has_work}
+use Rattle.events.specs.View.{state_of, ended_progress, moved_progress, StepWritten}
 use Rattle.events.proofs.Whole.{end_read, end_heading, byte_ends, byte_more}
 
 -- a step by another name
 step_is : {o o' : StepOutcome} {s : State} {out out' : List ℕ} {at next : ℕ} → o ≡ o' → StepWritten o' s out at next out' → StepWritten o s out at next out'
 step_is {s = s} {out = out} {out' = out'} {at = at} {next = next} e h = subst⁻¹ (λ (o : StepOutcome). StepWritten o s out at next out') e h
 
--- a state by its book
-abbrev state_with : Progress → List ℕ → Book → (credits queues given copy flight : List ℕ) → State
-state_with k b a c q g p f = state_of k b a.slots a.rates c q g p f
-
-module _ (k : Progress) (b : List ℕ) (a : Book) (c q g p f : List ℕ) where
+module _ (k : Progress) (b : List ℕ) (before : SwitchRuns) where
   abbrev S : State
-  S = state_with k b a c q g p f
+  S = state_of k b before
 
   abbrev M : Program.Machine
-  M = machine_of k.machine a.slots a.rates c q g p f
+  M = machine_of k.machine before
 
   -- THE END OF THE HEADING, and of any other record
-  pub heading_written : {out : List ℕ} {at : ℕ} (k' : Progress) (next : ℕ) → k.past_heading ≡ false → k' ≡ ended_progress k.machine 0 → next ≡ at
-      → at ≤ length out → StepWritten (record_end S) (state_with k' b a c q g p f) out at next out
-  heading_written {out = out} {at = at} k' next h e en l =
-      step_is (end_heading S h) (record { state = ap (λ (k : Progress). state_with k b a c q g p f) e; text = rw en (wrote_none out at l) })
+  pub heading_written : {out : List ℕ} (k' : Progress) → k.past_heading ≡ false → k' ≡ ended_progress k.machine 0
+      → StepWritten (record_end S) (state_of k' b before) out 0 0 out
+  heading_written {out = out} k' h e =
+      step_is (end_heading S h) (record { state = ap (λ (k : Progress). state_of k b before) e; text = wrote_none out 0 (omega arith) })
 
-  module _ {out out' : List ℕ} {at : ℕ} (r : RecordResult) (k' : Progress) (next end : ℕ) (a' : Book) (c' q' g' p' f' : List ℕ) where
-    obeyed_written : (reading : Reading) → record_outcome_of r a'.slots a'.rates c' q' g' p' f' ≡ obey M reading → TextWritten out at (refusal_text r.refusal) next out'
-        → k' ≡ ended_progress r.machine r.slots_left → end ≡ next → StepWritten (record_step S reading) (state_with k' b a' c' q' g' p' f') out at end out'
+  module _ {out out' : List ℕ} (after : SwitchRuns) (r : RecordResult) (k' : Progress) (count : ℕ) where
+    obeyed_written : (reading : Reading) → record_outcome_of r after ≡ obey M reading
+        → TextWritten out 0 (refusal_text (refusal_in r.outcome)) count out'
+        → k' ≡ ended_progress r.machine (result_unwrap_or r.outcome 0) → StepWritten (record_step S reading) (state_of k' b after) out 0 count out'
     unfolding record_step
-    obeyed_written reading e w ek el =
+    obeyed_written reading e w ek =
         record {
-          state = ap (λ (k : Progress). state_with k b a' c' q' g' p' f') ek ∙ ap (λ (o : RecordOutcome). ended S o.machine o.slots) e;
-          text = rw el (wrote_is w (ap (λ (o : RecordOutcome). refusal_text o.refusal) e));
+          state = ap (λ (k : Progress). state_of k b after) ek ∙ ap (λ (o : RecordOutcome). ended S o.machine o.slots) e;
+          text = wrote_is w (ap (λ (o : RecordOutcome). refusal_text o.refusal) e);
         }
 
-    pub record_written : (n : ℕ) (reading : Reading) → k.past_heading ≡ true → n ≡ min (k.count - 1) kept_bytes → reading ≡ read_record k.machine.running (take n b)
-        → record_outcome_of r a'.slots a'.rates c' q' g' p' f' ≡ obey M reading → TextWritten out at (refusal_text r.refusal) next out'
-        → k' ≡ ended_progress r.machine r.slots_left → end ≡ next → StepWritten (record_end S) (state_with k' b a' c' q' g' p' f') out at end out'
-    record_written n reading h en er e w ek el =
-        let is : reading ≡ kept_reading S = er ∙ ap (λ n. read_record k.machine.running (take n b)) en in
-        step_is (end_read S h ∙ ap (record_step S) (sym is)) (obeyed_written reading e w ek el)
+    pub record_written : (n : ℕ) (reading : Reading) → k.past_heading ≡ true → n ≡ min (k.count - 1) kept_bytes
+        → reading ≡ read_record (is_some k.machine.form) (take n b) → record_outcome_of r after ≡ obey M reading
+        → TextWritten out 0 (refusal_text (refusal_in r.outcome)) count out' → k' ≡ ended_progress r.machine (result_unwrap_or r.outcome 0)
+        → StepWritten (record_end S) (state_of k' b after) out 0 count out'
+    record_written n reading h en er e w ek =
+        let is : reading ≡ kept_reading S = er ∙ ap (λ n. read_record (is_some k.machine.form) (take n b)) en in
+        step_is (end_read S h ∙ ap (record_step S) (sym is)) (obeyed_written reading e w ek)
 
   -- A BYTE
   module _ (x : ℕ) where
-    pub byte_ended : {s : State} {out out' : List ℕ} {at next : ℕ} (is : Bool) → is ≡ (k.after_cr && eqb x LF) → is ≡ true
-        → StepWritten (record_end S) s out at next out' → StepWritten (byte_step S x) s out at next out'
-    byte_ended is e t h = step_is (byte_ends S x (sym e ∙ t)) h
+    pub byte_ended : {s : State} {out out' : List ℕ} {count : ℕ} → (k.after_cr && eqb x LF) ≡ true
+        → StepWritten (record_end S) s out 0 count out' → StepWritten (byte_step S x) s out 0 count out'
+    byte_ended t h = step_is (byte_ends S x t) h
 
-    pub byte_kept : {s : State} {out : List ℕ} {at : ℕ} (is : Bool) → is ≡ (k.after_cr && eqb x LF) → is ≡ false → s ≡ appended S x → at ≤ length out
-        → StepWritten (byte_step S x) s out at at out
-    byte_kept {out = out} {at = at} is e t h l = step_is (byte_more S x (sym e ∙ t)) (record { state = h; text = wrote_none out at l })
+    pub byte_kept : {s : State} {out : List ℕ} → (k.after_cr && eqb x LF) ≡ false → s ≡ appended S x → StepWritten (byte_step S x) s out 0 0 out
+    byte_kept {out = out} t h = step_is (byte_more S x t) (record { state = h; text = wrote_none out 0 (omega arith) })
 
   -- A SLOT
-  module _ {out out' : List ℕ} {at : ℕ} (r : SlotResult) (k' : Progress) (left next : ℕ) (c' q' g' p' f' : List ℕ) where
-    pub slot_written : slot_outcome_of r a.slots a.rates c' q' g' p' f' ≡ run_slot M → TextWritten out at (slot_result_text r) next out'
-        → left ≡ slots_after r.refusal.number k.slots_left → k' ≡ moved_progress k r.machine left
-        → StepWritten (slot_step S) (state_with k' b a c' q' g' p' f') out at next out'
+  module _ {out out' : List ℕ} (after : SwitchRuns) (r : SlotResult) (k' : Progress) (left count : ℕ) (is : slot_outcome_of r after ≡ run_slot M) where
+    slot_written : TextWritten out 0 (slot_text (slot_outcome_of r after)) count out' → left ≡ slots_after (refusal_in r.outcome).number k.slots_left
+        → k' ≡ moved_progress k r.machine left → StepWritten (slot_step S) (state_of k' b after) out 0 count out'
     unfolding slot_step
-    slot_written e w en ek =
+    slot_written w en ek =
         record {
           state =
-              ap (λ (k : Progress). state_with k b a c' q' g' p' f') (ek ∙ ap (moved_progress k r.machine) en)
-              ∙ ap (λ (o : SlotOutcome). with_machine S o.machine (slots_after o.refusal.number k.slots_left)) e;
-          text = wrote_is w (ap (λ (o : SlotOutcome). slot_text o) e);
+              ap (λ (k : Progress). state_of k b after) (ek ∙ ap (moved_progress k r.machine) en)
+              ∙ ap (λ (o : SlotOutcome). with_machine S o.machine (slots_after o.refusal.number k.slots_left)) is;
+          text = wrote_is w (ap (λ (o : SlotOutcome). slot_text o) is);
         }
 
+    -- its pairs, or its refusal
+    pub pairs_written : (pairs : SlotPairs) → r.outcome ≡ Ok pairs
+        → length (match_lines pairs.slot (matching_of pairs.served.outputs pairs.served.first_pass) r.machine.clock.ports) ≤ slot_room
+        → slot_room ≤ length out
+        → effect count out'
+        ≡ put_effect slot_room (match_lines pairs.slot (matching_of pairs.served.outputs pairs.served.first_pass) r.machine.clock.ports) out
+        → left ≡ k.slots_left - 1 → k' ≡ moved_progress k r.machine left → StepWritten (slot_step S) (state_of k' b after) out 0 count out'
+    pairs_written pairs e short room w l ek =
+        slot_written (wrote_is (wrote_front slot_room out _ room short w) (rw e)) (rw e l) ek
+
+    pub slot_refused : (line : RefusalLine) → r.outcome ≡ Err line → slot_room ≤ length out
+        → effect count out' ≡ put_effect refusal_room (refusal_text (refusal_told (Some line))) out
+        → left ≡ 0 → k' ≡ moved_progress k r.machine left → StepWritten (slot_step S) (state_of k' b after) out 0 count out'
+    slot_refused line e room w l ek =
+        let some : eqb (number line.refused) 0 ≡ false = ne_eqb (number line.refused) 0 (numbered line.refused) in
+        slot_written
+        (wrote_is (wrote_front refusal_room out _ (omega arith) (refusal_short (refusal_told (Some line))) w) (rw (e, some)))
+        (rw (e, some) l) ek
+
   -- A STEP
-  module _ (block : List ℕ) (taken : ℕ) {s : State} {out out' : List ℕ} {at next : ℕ} where
-    pub step_slot_written : 0 < k.slots_left → StepWritten (slot_step S) s out at next out' → StepWritten (next_step block S taken) s out at next out'
+  module _ (block : List ℕ) {s : State} {out out' : List ℕ} {count : ℕ} where
+    pub step_slot_written : 0 < k.slots_left → StepWritten (slot_step S) s out 0 count out' → StepWritten (next_step block S 0) s out 0 count out'
     unfolding next_step
     step_slot_written l h = step_is (rw (lt-ltb 0 k.slots_left l, next_step)) h
 
-    pub step_byte_written : k.slots_left ≤ 0 → StepWritten (byte_step S (get_or block taken 0)) s out at next out'
-        → StepWritten (next_step block S taken) s out at next out'
+    pub step_byte_written : k.slots_left ≤ 0 → StepWritten (byte_step S (get_or block 0 0)) s out 0 count out'
+        → StepWritten (next_step block S 0) s out 0 count out'
     unfolding next_step
     step_byte_written l h = step_is (rw (le-ltb 0 k.slots_left l, next_step)) h
-
--- the bytes taken after a step
-module _ (left taken : ℕ) where
-  pub slot_taken : 0 < left → taken ≡ pick (ltb 0 left) taken (taken + 1)
-  slot_taken l = rw (lt-ltb 0 left l)
-
-  pub byte_taken : left ≤ 0 → taken + 1 ≡ pick (ltb 0 left) taken (taken + 1)
-  byte_taken l = rw (le-ltb 0 left l)
 
 -- WHETHER THERE IS WORK, by the code's tests
 module _ (left bytes buffer room : ℕ) where

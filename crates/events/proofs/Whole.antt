@@ -7,11 +7,11 @@ use native.Mathlib.Omega.{arith}
 use borrow.Author.Tests.{eq-eqb, ne_eqb}
 use lib.Dec.{eqb}
 use lib.ListN.{length, replicate}
-use Rattle.wsgs.specs.declared.Reading.{Reading}
 use Rattle.wsgs.specs.Text.{CR, LF, drop_last, reversed, records_from, records, heading}
-use Rattle.wsgs.specs.Records.{read_record}
+use Rattle.wsgs.specs.Records.{Reading, read_record}
 use Rattle.wsgs.specs.Program.{Machine, Step, run_record, run_records, skip_heading, program}
 use Rattle.events.specs.Feeding.{kept_bytes, State, StepOutcome, after, ended, appended, record_step, kept_reading, record_end, byte_step, drained, finish, ending, Calls, FirstState}
+use Rattle.machine.specs.declared.SwitchRuns.{SwitchRuns}
 use Rattle.events.specs.View.{state_of, first_progress}
 use Rattle.events.proofs.Feeding.{after_after, drained_first, finish_byte, finish_none, calls_print}
 use Rattle.events.proofs.Kept.{Holds, holds_none, holds_more, reads_same}
@@ -174,7 +174,22 @@ module _ {s s' s'' : State} {input text end : List ℕ} (b : FirstState s) (c : 
       ∙ rw (b.machine, b.past_heading, b.after_CR))
 
 -- the program begins so, with runs for 32 ports
-pub first_state : (buffer : List ℕ) → kept_bytes ≤ length buffer
-    → let words : List ℕ = replicate 1024 0 in
-    FirstState (state_of first_progress buffer words words words words (replicate 32 0) words (replicate 2048 0))
-first_state buffer h = record { machine = refl; past_heading = refl; after_CR = refl; count = refl; buffer = h; slots_left = refl }
+pub record FreshRuns (r : SwitchRuns) : Type 0 where
+  pub slots : r.slots.now ≡ replicate 1024 0
+  pub rates : r.rates.now ≡ replicate 1024 0
+  pub credits : r.turns.credits.now ≡ replicate 1024 0
+  pub queues : r.turns.queues.now ≡ replicate 1024 0
+  pub given : r.turns.given.now ≡ replicate 32 0
+  pub copy : r.pipeline.copy.now ≡ replicate 1024 0
+  pub flight : r.pipeline.flight.now ≡ replicate 2048 0
+
+pub first_state : (buffer : List ℕ) (r : SwitchRuns) → kept_bytes ≤ length buffer → FreshRuns r → FirstState (state_of first_progress buffer r)
+first_state buffer r h f =
+    record {
+      machine = rw (f.slots, f.rates, f.credits, f.queues, f.given, f.copy, f.flight);
+      past_heading = refl;
+      after_CR = refl;
+      count = refl;
+      buffer = h;
+      slots_left = refl;
+    }

@@ -4,10 +4,9 @@ use Rattle.std.specs.Prelude.{◌≡◌, Bool, ◌&&◌, ◌||◌, eqb, leb, ltb
 use Rattle.std.proofs.Math.Bool.{true, false}
 use mathlib.Core.List.{List, [], ◌∷◌, ◌++◌}
 use Prim.Native.Nat.{ℕ, zero, suc, ◌+◌, ◌-◌, ◌*◌, ◌≤◌, min}
-use Rattle.wsgs.specs.declared.Reading.{Reading}
 use Rattle.wsgs.specs.Basics.{pick}
 use Rattle.wsgs.specs.Text.{CR, LF}
-use Rattle.wsgs.specs.Records.{read_record}
+use Rattle.wsgs.specs.Records.{Reading, read_record}
 use Rattle.wsgs.specs.Program.{Machine, RecordOutcome, obey, SlotOutcome, run_slot, refusal_text, slot_text, refused_line, match_lines, Step, run_slots, fresh}
 use Rattle.lines.specs.Lines.{slot_room}
 

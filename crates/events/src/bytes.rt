@@ -1,42 +1,28 @@
 // A byte of the input: one more of the record so far, or the end of the record.
-ghost use Rattle.std.specs.Prelude.{◌≡◌, ◌&&◌, List, ℕ, ◌+◌, ◌-◌, ◌≤◌, min, eqb, ltb, length, set};
+ghost use Rattle.std.specs.Prelude.{◌≡◌, ◌+◌, ◌≤◌, ltb, length, set};
 ghost use Rattle.wsgs.specs.Basics.{pick};
-ghost use Rattle.wsgs.specs.Text.{LF};
 ghost use Rattle.lines.specs.Lines.{refusal_room};
+ghost use Rattle.machine.specs.declared.SwitchRuns.{SwitchRuns};
+ghost use Rattle.machine.specs.View.{SameSwitchRuns};
 ghost use Rattle.events.specs.Feeding.{kept_bytes, most_counted, appended, record_end, byte_step};
 ghost use Rattle.events.specs.View.{state_of, ended_progress, StepWritten};
 
-use crate::printing::put_refusal;
-use crate::{ByteResult, KEPT_BYTES, MAX_COUNT, Progress};
-use machine::{Machine, obey};
+use crate::{FeedResult, KEPT_BYTES, MAX_COUNT, Progress};
+use lines::refusal_line;
+use machine::{Machine, SwitchRuns, obey};
 use records::read_record;
 
-// What is left where a record has ended.
-fn ended(machine: Machine, slots_left: u64, next: usize) -> ByteResult
-    ensures progress { result.progress ≡ ended_progress machine slots_left }
-    ensures place { result.next ≡ next }
+// What is kept where a record has ended.
+fn ended(machine: Machine, slots_left: u64) -> Progress
+    ensures progress { result ≡ ended_progress machine slots_left }
 {
-    let progress = Progress {
+    Progress {
         machine,
         past_heading: true,
         after_cr: false,
         count: 0,
         slots_left,
-    };
-    ByteResult { progress, next }
-}
-
-// How many bytes are kept of the record without its CR.
-fn kept_length(count: usize) -> usize
-    ensures length { result ≡ min (count - 1) kept_bytes }
-{
-    if count == 0 {
-        return 0;
     }
-    if count > KEPT_BYTES {
-        return KEPT_BYTES;
-    }
-    count - 1
 }
 
 // The end of a record: the heading is passed over, and any other record is obeyed.
@@ -44,38 +30,32 @@ fn end_record(
     progress: Progress,
     buffer: &[u8],
     out: &mut [u8],
-    at: usize,
-    slots: &mut [u32],
-    rates: &mut [u32],
-    credits: &mut [u32],
-    queues: &mut [u32],
-    given: &mut [u32],
-    copy: &mut [u32],
-    flight: &mut [u32],
-) -> ByteResult
+    runs: &mut SwitchRuns<'_>,
+) -> FeedResult
     requires buffer { kept_bytes ≤ length buffer.now }
-    requires room { at + refusal_room ≤ length out.old }
-    ensures outcome { StepWritten (record_end (state_of progress buffer.now
-        slots.old rates.old credits.old queues.old
-        given.old copy.old flight.old))
-        (state_of result.progress buffer.now
-        slots.new rates.new credits.new queues.new
-        given.new copy.new flight.new)
-        out.old at result.next out.new }
+    requires room { refusal_room ≤ length out.old }
+    ensures loans { SameSwitchRuns runs.old runs.new }
+    ensures taken { result.taken ≡ 1 }
+    ensures outcome { StepWritten (record_end (state_of progress buffer.now runs.old))
+        (state_of result.progress buffer.now runs.new) out.old 0 result.written out.new }
 {
     let machine = progress.machine;
     if !progress.past_heading {
-        return ended(machine, 0, at);
+        return FeedResult {
+            progress: ended(machine, 0),
+            taken: 1,
+            written: 0,
+        };
     }
-    let length = kept_length(progress.count);
-    let reading = read_record(machine.running, &buffer[..length]);
-    let obeyed = obey(
-        machine, reading, slots, rates, credits, queues, given, copy, flight,
-    );
-    let refusal = obeyed.refusal;
-    let next = put_refusal(out, at, refusal);
-    let after = obeyed.machine;
-    ended(after, obeyed.slots_left, next)
+    let kept = progress.count.saturating_sub(1).min(KEPT_BYTES);
+    let reading = read_record(machine.form.is_some(), &buffer[..kept]);
+    let obeyed = obey(machine, reading, runs);
+    let outcome = obeyed.outcome;
+    FeedResult {
+        progress: ended(obeyed.machine, outcome.unwrap_or(0)),
+        taken: 1,
+        written: refusal_line(out, outcome.err()),
+    }
 }
 
 // Keeps a byte of the record so far, if it is one of the first 65.
@@ -94,30 +74,24 @@ fn counted(count: usize) -> usize
     ensures count { result ≡ pick (ltb count most_counted) (count + 1) count }
 {
     if count < MAX_COUNT {
-        return count + 1;
+        count + 1
+    } else {
+        count
     }
-    count
 }
 
 // A byte more of the record so far.
-fn append(mut progress: Progress, byte: u8, buffer: &mut [u8]) -> Progress
+fn append(progress: Progress, byte: u8, buffer: &mut [u8]) -> Progress
     requires buffer { kept_bytes ≤ length buffer.old }
-    ensures state { (s t c q g p f : List ℕ)
-        → state_of result buffer.new s t c q g p f ≡ appended (state_of progress buffer.old s t c q g p f) byte }
+    ensures state { (r : SwitchRuns)
+        → state_of result buffer.new r ≡ appended (state_of progress buffer.old r) byte }
 {
-    let count = progress.count;
-    keep(buffer, count, byte);
-    let more = counted(count);
-    progress.count = more;
-    progress.after_cr = byte == b'\r';
-    progress
-}
-
-// Whether a byte ends the record: LF after CR.
-fn is_end(after_cr: bool, byte: u8) -> bool
-    ensures answer { result ≡ (after_cr && eqb byte LF) }
-{
-    after_cr && byte == b'\n'
+    keep(buffer, progress.count, byte);
+    Progress {
+        after_cr: byte == b'\r',
+        count: counted(progress.count),
+        ..progress
+    }
 }
 
 // A byte.
@@ -126,31 +100,21 @@ pub fn take_byte(
     byte: u8,
     buffer: &mut [u8],
     out: &mut [u8],
-    at: usize,
-    slots: &mut [u32],
-    rates: &mut [u32],
-    credits: &mut [u32],
-    queues: &mut [u32],
-    given: &mut [u32],
-    copy: &mut [u32],
-    flight: &mut [u32],
-) -> ByteResult
+    runs: &mut SwitchRuns<'_>,
+) -> FeedResult
     requires buffer { kept_bytes ≤ length buffer.old }
-    requires room { at + refusal_room ≤ length out.old }
-    ensures outcome { StepWritten (byte_step (state_of progress buffer.old
-        slots.old rates.old credits.old queues.old
-        given.old copy.old flight.old)
-        byte)
-        (state_of result.progress buffer.new
-        slots.new rates.new credits.new queues.new
-        given.new copy.new flight.new)
-        out.old at result.next out.new }
+    requires room { refusal_room ≤ length out.old }
+    ensures loans { SameSwitchRuns runs.old runs.new }
+    ensures taken { result.taken ≡ 1 }
+    ensures outcome { StepWritten (byte_step (state_of progress buffer.old runs.old) byte)
+        (state_of result.progress buffer.new runs.new) out.old 0 result.written out.new }
 {
-    if is_end(progress.after_cr, byte) {
-        return end_record(
-            progress, buffer, out, at, slots, rates, credits, queues, given, copy, flight,
-        );
+    if progress.after_cr && byte == b'\n' {
+        return end_record(progress, buffer, out, runs);
     }
-    let progress = append(progress, byte, buffer);
-    ByteResult { progress, next: at }
+    FeedResult {
+        progress: append(progress, byte, buffer),
+        taken: 1,
+        written: 0,
+    }
 }

@@ -2,17 +2,16 @@
 #![tactic(auto)]
 
 mod bytes;
-mod printing;
 mod steps;
 
 ghost use Rattle.std.specs.Prelude.{◌≡◌, length};
 ghost use Rattle.events.specs.Feeding.{has_work, fed};
-ghost use Rattle.events.specs.View.{state_of, feed_effect_of, feed_effect, first_progress};
+ghost use Rattle.events.specs.View.{lent_state, SameLent, feed_effect_of, feed_effect, first_progress};
 
 use lines::SLOT_ROOM;
-use machine::Machine;
+use machine::{Machine, SwitchRuns};
 use records::MAX_RECORD;
-use steps::{goes_on, step};
+use steps::step;
 use wsgs::Clock;
 
 // The bytes that are kept of a record, one more than the longest that can be read has; and the most that are counted.
@@ -20,7 +19,15 @@ pub const KEPT_BYTES: usize = MAX_RECORD + 1;
 
 const MAX_COUNT: usize = KEPT_BYTES + 1;
 
-// What is kept between two bytes beside the lent slices: the machine, whether the heading is past, whether the last byte of the record so far
+// What the program is lent: a buffer for the record so far, the output, and the runs of a switch.
+#[derive(Drop)]
+pub struct Lent<'a> {
+    pub buffer: &'a mut [u8],
+    pub out: &'a mut [u8],
+    pub runs: SwitchRuns<'a>,
+}
+
+// What is kept between two bytes beside what is lent: the machine, whether the heading is past, whether the last byte of the record so far
 // is a CR, how many bytes it has, counted up to 66, and the slots of a tick record that are still to run.
 #[derive(Clone, Copy)]
 pub struct Progress {
@@ -31,19 +38,13 @@ pub struct Progress {
     pub slots_left: u64,
 }
 
-// What a call of `feed` answers: what is kept, how many bytes of the block are taken, and how many are written into the output.
+// What a call of `feed` answers, and a step of it: what is kept, how many bytes of the block are taken, and how many are written into the
+// output.
 #[derive(Clone, Copy)]
 pub struct FeedResult {
     pub progress: Progress,
     pub taken: usize,
     pub written: usize,
-}
-
-// What a byte leaves, and the place after what was written.
-#[derive(Clone, Copy)]
-struct ByteResult {
-    progress: Progress,
-    next: usize,
 }
 
 // What the program keeps at its beginning.
@@ -57,13 +58,8 @@ pub fn begin() -> Progress
         line: 0,
         fine: 0,
     };
-    let machine = Machine {
-        running: false,
-        pipelined: false,
-        clock,
-    };
     Progress {
-        machine,
+        machine: Machine { form: None, clock },
         past_heading: false,
         after_cr: false,
         count: 0,
@@ -76,49 +72,41 @@ pub fn begin() -> Progress
 pub fn has_work(progress: Progress, bytes: usize, buffer: usize, room: usize) -> bool
     ensures answer { result ≡ has_work progress.slots_left bytes buffer room }
 {
-    if buffer < KEPT_BYTES {
-        return false;
-    }
-    if room < SLOT_ROOM {
-        return false;
-    }
-    if progress.slots_left > 0 {
-        return true;
-    }
-    bytes > 0
+    let is_left = progress.slots_left > 0 || bytes > 0;
+    is_left && buffer >= KEPT_BYTES && room >= SLOT_ROOM
 }
 
 // Feeds the program a block: takes bytes and runs slots while what they may print has room in the output.
-pub fn feed(
-    progress: Progress,
-    block: &[u8],
-    buffer: &mut [u8],
-    out: &mut [u8],
-    slots: &mut [u32],
-    rates: &mut [u32],
-    credits: &mut [u32],
-    queues: &mut [u32],
-    given: &mut [u32],
-    copy: &mut [u32],
-    flight: &mut [u32],
-) -> FeedResult
-    ensures outcome { feed_effect_of result out.new buffer.new
-        slots.new rates.new credits.new queues.new
-        given.new copy.new flight.new
-        ≡ feed_effect (fed (length out.old) block.now (state_of progress buffer.old
-        slots.old rates.old credits.old queues.old
-        given.old copy.old flight.old))
-        out.old }
+pub fn feed(progress: Progress, block: &[u8], lent: &mut Lent<'_>) -> FeedResult
+    ensures loans { SameLent lent.old lent.new }
+    ensures outcome { feed_effect_of result lent.new
+        ≡ feed_effect (fed (length lent.old.out.now) block.now (lent_state progress lent.old))
+        lent.old.out.now }
 {
     let mut fed = FeedResult {
         progress,
         taken: 0,
         written: 0,
     };
-    while goes_on(fed, block.len(), buffer.len(), out.len()) {
-        fed = step(
-            fed, block, buffer, out, slots, rates, credits, queues, given, copy, flight,
+    while has_work(
+        fed.progress,
+        block.len() - fed.taken,
+        lent.buffer.len(),
+        lent.out.len() - fed.written,
+    ) {
+        let out = &mut *lent.out;
+        let next = step(
+            fed.progress,
+            &block[fed.taken..],
+            lent.buffer,
+            &mut out[fed.written..],
+            &mut lent.runs,
         );
+        fed = FeedResult {
+            progress: next.progress,
+            taken: fed.taken + next.taken,
+            written: fed.written + next.written,
+        };
     }
     fed
 }

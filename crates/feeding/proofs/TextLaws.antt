@@ -8,8 +8,9 @@ use native.Mathlib.Omega.{arith}
 use lib.ListN.{length, take, drop, length-drop}
 use lib.Seq.{take_all}
 use Rattle.events.specs.declared.FeedResult.{FeedResult}
+use Rattle.events.specs.declared.Lent.{Lent}
 use Rattle.events.specs.Feeding.{FeedOutcome, has_work, most_steps, fed}
-use Rattle.events.specs.View.{state_of, FeedEffect, feed_effect_of, feed_effect}
+use Rattle.events.specs.View.{lent_state, FeedEffect, feed_effect_of, feed_effect}
 use Rattle.events.proofs.Rounds.{fed_within, fed_less}
 use Rattle.feeding.specs.Texts.{TextState, is_left, next_call, calls, TextFed}
 
@@ -36,12 +37,11 @@ module _ (text : List ℕ) (t : TextState) (within : t.taken ≤ length text) wh
       omega (arith, fed_less (length t.out) block t.state work, ap (λ n. n * 10001) left, ap (λ n. n * 10001) long)
 
   -- the code's call is the definition's
-  pub call_is : (r : FeedResult) (out buffer slots rates credits queues given copy flight : List ℕ)
-      → feed_effect_of r out buffer slots rates credits queues given copy flight
-      ≡ feed_effect (fed (length t.out) (take (length text - t.taken) block) t.state) t.out
-      → record { state = state_of r.progress buffer slots rates credits queues given copy flight; taken = t.taken + r.taken; out = out } ≡ next_call text t
+  pub call_is : (r : FeedResult) (lent : Lent)
+      → feed_effect_of r lent ≡ feed_effect (fed (length t.out) (take (length text - t.taken) block) t.state) t.out
+      → record { state = lent_state r.progress lent; taken = t.taken + r.taken; out = lent.out.now } ≡ next_call text t
   unfolding next_call
-  call_is r out buffer slots rates credits queues given copy flight e =
+  call_is r lent e =
       let rest : take (length text - t.taken) block ≡ block = take_all (length text - t.taken) block (omega (arith, long)) in
       ap (λ (x : FeedEffect). record { state = x.state; taken = t.taken + x.taken; out = x.out })
       (e ∙ ap (λ b. feed_effect (fed (length t.out) b t.state) t.out) rest)
@@ -69,13 +69,6 @@ module _ (text : List ℕ) (first : TextState) where
           tried = λ f. omega arith;
         }
 
-    pub so_far_less : {t' : TextState} → t' ≡ next_call text t → (w && is_left text t) ≡ true
+    pub so_far_less : {t' : TextState} → t' ≡ next_call text t → is_left text t ≡ true
         → most_steps t'.state.slots_left (length text - t'.taken) < most_steps t.state.slots_left (length text - t.taken)
-    so_far_less e l = rw e (next_less text t h.within (left w l))
-      where
-        left : (w : Bool) → (w && is_left text t) ≡ true → is_left text t ≡ true
-        left true l = l
-        left false l = absurd (false≢true l)
-
-    pub so_far_all : (w && is_left text t) ≡ false → TextFed text first t w
-    so_far_all l = record { count = h.count; same = h.same; whole = λ e. rw e at l; tried = h.tried }
+    so_far_less e l = rw e (next_less text t h.within l)

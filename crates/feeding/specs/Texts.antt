@@ -3,9 +3,10 @@
 use Rattle.std.specs.Prelude.{◌≡◌, Bool, true, false, List, length, drop}
 use Prim.Native.Nat.{ℕ, zero, suc, ◌+◌, ◌-◌, ◌≤◌}
 use Rattle.lines.specs.Lines.{with_text}
+use Rattle.events.specs.declared.Lent.{Lent}
 use Rattle.events.specs.declared.Progress.{Progress}
 use Rattle.events.specs.Feeding.{State, FeedOutcome, has_work, fed}
-use Rattle.events.specs.View.{state_of}
+use Rattle.events.specs.View.{lent_state}
 use Rattle.feeding.specs.declared.TextResult.{TextResult}
 
 -- between two calls: the state, how many bytes of the text are taken, and the output
@@ -15,11 +16,11 @@ pub record TextState : Type 0 where
   pub out : List ℕ
 
 -- before the first call, and as the code has it
-abbrev pub text_begun : Progress → (out buffer slots rates credits queues given copy flight : List ℕ) → TextState
-text_begun k out b s r c q g p f = record { state = state_of k b s r c q g p f; taken = 0; out = out }
+abbrev pub text_begun : Progress → Lent → TextState
+text_begun k l = record { state = lent_state k l; taken = 0; out = l.out.now }
 
-abbrev pub text_state_of : TextResult → (out buffer slots rates credits queues given copy flight : List ℕ) → TextState
-text_state_of o out b s r c q g p f = record { state = state_of o.progress b s r c q g p f; taken = o.taken; out = out }
+abbrev pub text_state_of : TextResult → Lent → TextState
+text_state_of o l = record { state = lent_state o.progress l; taken = o.taken; out = l.out.now }
 
 module _ (text : List ℕ) where
   -- a call has something to do

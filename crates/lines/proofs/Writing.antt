@@ -71,8 +71,19 @@ module _ (most : ℕ) (out text : List ℕ) where
   room p q h b c w e =
       rw (le-leb most (length out) h, ← b, e) (ap₂ effect (omega (arith, w.written.next_place)) (w.written.buffer ∙ rw c))
 
+  -- and the way back
+  pub wrote_front : {count : ℕ} {out' : List ℕ} → most ≤ length out → length text ≤ most → effect count out' ≡ put_effect most text out
+      → TextWritten out 0 text count out'
+  wrote_front {count} {out'} h short e =
+      let has_room : with_room most out text ≡ text = rw (le-leb most (length out) h) in
+      record {
+        fits = omega arith;
+        next_place = ap (λ (x : Effect ℕ (List ℕ)). x.answer) e ∙ rw (has_room, zero-add (length text));
+        buffer = ap (λ (x : Effect ℕ (List ℕ)). x.words) e ∙ rw has_room;
+      }
+
 -- a text at the front of the rest of a buffer from a place on stands at that place of the buffer
-module _ (most : ℕ) (out : List ℕ) (at : ℕ) (text : List ℕ) (h : at + most ≤ length out) (short : length text ≤ most) where
+module _ (out : List ℕ) (at : ℕ) (h : at ≤ length out) where
   abbrev the_rest : List ℕ
   the_rest = take (length out - at) (drop at out)
 
@@ -82,19 +93,14 @@ module _ (most : ℕ) (out : List ℕ) (at : ℕ) (text : List ℕ) (h : at + mo
   rest_none : drop (length out - at) (drop at out) ≡ []
   rest_none = drop_of_length-le (drop at out) {i = length out - at} (omega (arith, length-drop at out))
 
-  has_room : with_room most the_rest text ≡ text
-  has_room = rw (rest_is, le-leb most (length (drop at out)) (omega (arith, length-drop at out)))
-
-  pub wrote_rest : {count : ℕ} {part : List ℕ} → effect count part ≡ put_effect most text the_rest
+  pub wrote_rest : {text part : List ℕ} {count : ℕ} → TextWritten the_rest 0 text count part
       → TextWritten out at text (at + count) (take at out ++ (part ++ drop (length out - at) (drop at out)))
-  wrote_rest {count} {part} e =
-      let counted : count ≡ length text = ap (λ (x : Effect ℕ (List ℕ)). x.answer) e ∙ rw has_room in
-      let is : part ≡ with_text 0 text the_rest = ap (λ (x : Effect ℕ (List ℕ)). x.words) e ∙ rw has_room in
+  wrote_rest {text} {part} {count} w =
       record {
-        fits = omega arith;
-        next_place = rw counted;
+        fits = omega (arith, w.fits, ap length rest_is, length-drop at out);
+        next_place = rw (w.next_place, zero-add (length text));
         buffer =
             rw (rest_none, append-nil part)
-            (ap (λ t. take at out ++ t) (is ∙ rw (rest_is, zero-add (length text), drop-drop (length text) at out))
+            (ap (λ t. take at out ++ t) (w.buffer ∙ rw (rest_is, zero-add (length text), drop-drop (length text) at out))
             ∙ sym (append_assoc (take at out) text (drop (at + length text) out)));
       }

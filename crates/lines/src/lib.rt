@@ -4,7 +4,7 @@
 
 mod printer;
 
-ghost use Rattle.std.specs.Prelude.{◌≡◌};
+ghost use Rattle.std.specs.Prelude.{◌≡◌, ◌≤◌, length};
 ghost use Rattle.wsgs.specs.Answers.{matching_of};
 ghost use Rattle.wsgs.specs.Questions.{effect};
 ghost use Rattle.wsgs.specs.Text.{heading};
@@ -52,10 +52,13 @@ pub fn refusal_line(out: &mut [u8], refusal: Option<RefusalLine>) -> usize
 }
 
 // The lines of a slot's pairs, as a tick answers them.
+#[tactic(auto, using(crate::proofs::Printing::slot_short))]
 pub fn slot_lines(out: &mut [u8], slot: u64, ports: u32, served: Served) -> usize
     ensures outcome { effect result out.new
         ≡ put_effect slot_room
         (match_lines slot (matching_of served.outputs served.first_pass) ports) out.old }
+    ensures short { length (match_lines slot (matching_of served.outputs served.first_pass) ports)
+        ≤ slot_room }
 {
     if out.len() < SLOT_ROOM {
         return 0;

@@ -1,22 +1,24 @@
 -- A slot: what a tick gives back leaves what the definition of a slot says. Assumes nothing.
 use mathlib.Core.Path.{◌≡◌, sym, ap, ◌∙◌}
-use mathlib.Core.Bool.{true, false}
-use mathlib.Core.List.{List}
-use Prim.Native.Nat.{ℕ}
-use Rattle.wsgs.specs.declared.TickResult.{TickResult}
-use Rattle.wsgs.specs.Answers.{direct_runs_of, pipelined_runs_of, tick_effect}
-use Rattle.wsgs.specs.Bookings.{Book}
-use Rattle.wsgs.specs.Direct
+use Rattle.std.specs.Prelude.{Some, Result, Ok, Err}
+use Rattle.wsgs.specs.declared.Refused.{Refused}
+use Rattle.wsgs.specs.declared.RefusalLine.{RefusalLine}
+use Rattle.wsgs.specs.declared.Served.{Served}
+use Rattle.wsgs.specs.declared.Ticked.{Ticked}
+use Rattle.wsgs.specs.Answers.{matching_of}
+use Rattle.wsgs.specs.Steps.{empty_matching}
 use Rattle.wsgs.specs.Ledger.{slot_of_tick}
-use Rattle.wsgs.specs.Pipelined
-use Rattle.wsgs.specs.Program.{SlotOutcome, with_switch, refusal_of, run_slot}
+use Rattle.wsgs.specs.Program.{SlotOutcome, number_alone, with_switch, refusal_of, run_slot}
 use Rattle.wsgs.specs.Program
-use Rattle.wsgs.specs.Questions.{effect}
-use Rattle.wsgs.specs.Switch.{Outcome, tick, apply, direct_runs, pipelined_runs}
-use Rattle.wsgs.proofs.Calls
+use Rattle.wsgs.specs.Switch.{Outcome, tick, apply}
+use Rattle.wsgs.specs.Told.{number, refusal_told}
+use Rattle.wsgs.proofs.Refusals.{unchanged}
+use Rattle.questions.proofs.Laws.Answers.{number_some}
 use Rattle.machine.specs.declared.Machine.{Machine}
-use Rattle.machine.specs.declared.SlotResult.{SlotResult}
-use Rattle.machine.specs.View.{form_of, machine_of, slot_outcome_of, tick_slot_result}
+use Rattle.machine.specs.declared.SlotPairs.{SlotPairs}
+use Rattle.machine.specs.declared.SwitchRuns.{SwitchRuns}
+use Rattle.machine.specs.View.{form_of, machine_of, pairs_in, slot_outcome_of, tick_outcome_of}
+use Rattle.machine.proofs.RecordLaws.{accepted}
 
 -- a slot by the outcome of its tick
 abbrev slot_from : Program.Machine → Outcome → SlotOutcome
@@ -32,20 +34,31 @@ slot_is : (M : Program.Machine) {o : Outcome} → o ≡ apply (tick M.form) M.sw
 unfolding run_slot
 slot_is M e = ap (slot_from M) e
 
-module _ (m : Machine) (a : Book) (c q g p f : List ℕ) (r : SlotResult) (t : TickResult) (er : r ≡ tick_slot_result m t) where
+module _ (m : Machine) (before after : SwitchRuns) where
   abbrev M : Program.Machine
-  M = machine_of m a.slots a.rates c q g p f
+  M = machine_of m before
 
-  pub direct_slot_is : {c' q' g' : List ℕ} → m.pipelined ≡ false
-      → effect t (direct_runs_of a.slots a.rates c' q' g') ≡ tick_effect (Direct.tick m.clock (direct_runs M.switch))
-      → slot_outcome_of r a.slots a.rates c' q' g' p f ≡ run_slot M
-  direct_slot_is {c'} {q'} {g'} form e =
-      ap (λ (r : SlotResult). slot_outcome_of r a.slots a.rates c' q' g' p f) er
-      ∙ slot_is M (Calls.tick_direct M.switch _ e ∙ ap (λ b. apply (tick (form_of b)) M.switch) (sym form))
+  abbrev left : Result Ticked Refused → Outcome
+  left t = tick_outcome_of m.clock t after
 
-  pub pipelined_slot_is : {c' q' g' p' f' : List ℕ} → m.pipelined ≡ true
-      → effect t (pipelined_runs_of a.slots a.rates c' q' g' p' f') ≡ tick_effect (Pipelined.tick m.clock (pipelined_runs M.switch))
-      → slot_outcome_of r a.slots a.rates c' q' g' p' f' ≡ run_slot M
-  pipelined_slot_is {c'} {q'} {g'} {p'} {f'} form e =
-      ap (λ (r : SlotResult). slot_outcome_of r a.slots a.rates c' q' g' p' f') er
-      ∙ slot_is M (Calls.tick_pipelined M.switch _ e ∙ ap (λ b. apply (tick (form_of b)) M.switch) (sym form))
+  pub slot_ran : (t : Ticked) → left (Ok t) ≡ apply (tick M.form) M.switch
+      → (pairs : SlotPairs) → pairs.slot ≡ slot_of_tick M.form t.clock.slot → pairs.served ≡ t.served
+      → slot_outcome_of (record { machine = record { form = m.form; clock = t.clock }; outcome = Ok pairs }) after ≡ run_slot M
+  slot_ran t e pairs s p =
+      ap (λ k. record { machine = with_switch M (left (Ok t)).after; slot = k; matching = pairs_in (Ok pairs); refusal = number_alone 0 }) s
+      ∙ ap (λ (v : Served). record { machine = with_switch M (left (Ok t)).after; slot = slot_of_tick M.form t.clock.slot; matching = matching_of v.outputs v.first_pass; refusal = number_alone 0 }) p
+      ∙ ap (λ r. record { machine = with_switch M (left (Ok t)).after; slot = slot_of_tick M.form t.clock.slot; matching = (left (Ok t)).matching; refusal = r }) (accepted M 0 0)
+      ∙ slot_is M e
+
+  pub slot_refused : (refused : Refused) → left (Err refused) ≡ apply (tick M.form) M.switch
+      → (line : RefusalLine) → refusal_told (Some line) ≡ refusal_of M 0 0 (number refused)
+      → slot_outcome_of (record { machine = m; outcome = Err line }) after ≡ run_slot M
+  slot_refused refused e line l =
+      ap (λ r. record { machine = with_switch M (left (Err refused)).after; slot = slot_of_tick M.form m.clock.slot; matching = empty_matching; refusal = r }) l
+      ∙ ap (λ a. record { machine = with_switch M (left (Err refused)).after; slot = slot_of_tick M.form m.clock.slot; matching = a; refusal = refusal_of M 0 0 (number refused) }) (sym none)
+      ∙ slot_is M e
+    where
+      none : (left (Err refused)).matching ≡ empty_matching
+      none =
+          ap (λ (x : Outcome). x.matching) e
+          ∙ (unchanged (tick M.form) M.switch (λ z. number_some refused (ap (λ (x : Outcome). x.refusal) e ∙ z))).1

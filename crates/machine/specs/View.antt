@@ -1,68 +1,90 @@
 -- The declared types beside the lent runs, as the definitions have them. Assumes nothing.
-use Rattle.std.specs.Prelude.{Bool, true, false, List, [], ℕ, eqb}
+use Rattle.std.specs.Prelude.{◌≡◌, ℕ, Option, Some, None, Result, Ok, Err}
+use Rattle.std.specs.Option.{is_some}
+use Rattle.std.specs.Result.{result_err, result_unwrap_or}
 use Rattle.wsgs.specs.declared.Clock.{Clock}
-use Rattle.wsgs.specs.declared.Refusal.{Refusal}
-use Rattle.wsgs.specs.declared.StartResult.{StartResult}
-use Rattle.wsgs.specs.declared.TickResult.{TickResult}
-use Rattle.wsgs.specs.Answers.{matching_of}
-use Rattle.wsgs.specs.Basics.{pick}
+use Rattle.wsgs.specs.declared.Form
+use Rattle.wsgs.specs.declared.Refused.{Refused}
+use Rattle.wsgs.specs.declared.RefusalLine.{RefusalLine}
+use Rattle.wsgs.specs.declared.Request.{Request}
+use Rattle.wsgs.specs.declared.Ticked.{Ticked}
+use Rattle.wsgs.specs.Answers.{TickResult, matching_of}
 use Rattle.wsgs.specs.Bookings.{book_of}
 use Rattle.wsgs.specs.Ledger.{slot_of_tick}
-use Rattle.wsgs.specs.Switch.{Form, direct, pipelined}
-use Rattle.wsgs.specs.Program.{number_alone, refusal_of, RecordOutcome, SlotOutcome}
+use Rattle.wsgs.specs.Steps.{Matching, empty_matching}
+use Rattle.wsgs.specs.Switch.{Switch, Outcome, direct}
+use Rattle.wsgs.specs.Switch
+use Rattle.wsgs.specs.Told.{number, form_told, tick_told, refusal_told, SameTurnRuns, SamePipelineRuns}
+use Rattle.wsgs.specs.Program.{number_alone, refusal_of, Refusal, RecordOutcome, SlotOutcome}
 use Rattle.wsgs.specs.Program
 use Rattle.machine.specs.declared.Machine.{Machine}
+use Rattle.machine.specs.declared.SwitchRuns.{SwitchRuns}
 use Rattle.machine.specs.declared.RecordResult.{RecordResult}
+use Rattle.machine.specs.declared.SlotPairs.{SlotPairs}
 use Rattle.machine.specs.declared.SlotResult.{SlotResult}
 
-abbrev pub form_of : Bool → Form
-form_of true = pipelined
-form_of false = direct
+-- the form of a machine: before any accepted start or pipe it is direct
+abbrev pub form_of : Option Form.Form → Switch.Form
+form_of None = direct
+form_of (Some f) = form_told f
 
 -- a machine with its runs
-abbrev pub machine_of : Machine → (slots rates credits queues given copy flight : List ℕ) → Program.Machine
-machine_of m s r c q g p f =
+abbrev pub switch_of : Clock → SwitchRuns → Switch
+switch_of k r =
     record {
-      running = m.running;
-      form = form_of m.pipelined;
-      switch = record { clock = m.clock; book = book_of s r; credits = c; queues = q; given = g; copy = p; flight = f };
+      clock = k;
+      book = book_of r.slots.now r.rates.now;
+      credits = r.turns.credits.now;
+      queues = r.turns.queues.now;
+      given = r.turns.given.now;
+      copy = r.pipeline.copy.now;
+      flight = r.pipeline.flight.now;
     }
 
--- what a record leaves, and what a slot leaves, with the runs
-abbrev pub record_outcome_of : RecordResult → (slots rates credits queues given copy flight : List ℕ) → RecordOutcome
-record_outcome_of o s r c q g p f = record { machine = machine_of o.machine s r c q g p f; slots = o.slots_left; refusal = o.refusal }
+abbrev pub machine_of : Machine → SwitchRuns → Program.Machine
+machine_of m r = record { running = is_some m.form; form = form_of m.form; switch = switch_of m.clock r }
 
-abbrev pub slot_outcome_of : SlotResult → (slots rates credits queues given copy flight : List ℕ) → SlotOutcome
-slot_outcome_of o s r c q g p f =
+-- after a call these are still the same loans
+pub record SameSwitchRuns (before after : SwitchRuns) : Type 0 where
+  pub slots : after.slots.ghost_name ≡ before.slots.ghost_name
+  pub rates : after.rates.ghost_name ≡ before.rates.ghost_name
+  pub turns : SameTurnRuns before.turns after.turns
+  pub pipeline : SamePipelineRuns before.pipeline after.pipeline
+
+-- the refusal that a result tells, if it is one
+abbrev pub refusal_in : {A : Type 0} → Result A RefusalLine → Refusal
+refusal_in r = refusal_told (result_err r)
+
+-- what a record leaves, with the runs
+abbrev pub record_outcome_of : RecordResult → SwitchRuns → RecordOutcome
+record_outcome_of o r = record { machine = machine_of o.machine r; slots = result_unwrap_or o.outcome 0; refusal = refusal_in o.outcome }
+
+-- what a request leaves: the machine and the slots to run, or a refusal with its second and third field
+abbrev pub request_outcome_of : Machine → Request → Result (Machine × ℕ) Refused → SwitchRuns → RecordOutcome
+request_outcome_of m q (Ok o) r = record { machine = machine_of o.0 r; slots = o.1; refusal = number_alone 0 }
+request_outcome_of m q (Err refused) r =
+    record { machine = machine_of m r; slots = 0; refusal = refusal_of (machine_of m r) q.input q.output (number refused) }
+
+-- what the tick of a slot leaves
+abbrev pub tick_outcome_of : Clock → Result Ticked Refused → SwitchRuns → Outcome
+tick_outcome_of k t r =
+    let o : TickResult = tick_told k t in
+    record { refusal = o.refusal; matching = matching_of o.outputs o.first_pass; after = switch_of o.clock r }
+
+-- what a slot leaves, with the runs: a refused one has no pairs, and keeps the clock
+abbrev pub slot_in : Machine → Result SlotPairs RefusalLine → ℕ
+slot_in m (Ok pairs) = pairs.slot
+slot_in m (Err line) = slot_of_tick (form_of m.form) m.clock.slot
+
+abbrev pub pairs_in : Result SlotPairs RefusalLine → Matching
+pairs_in (Ok pairs) = matching_of pairs.served.outputs pairs.served.first_pass
+pairs_in (Err line) = empty_matching
+
+abbrev pub slot_outcome_of : SlotResult → SwitchRuns → SlotOutcome
+slot_outcome_of o r =
     record {
-      machine = machine_of o.machine s r c q g p f;
-      slot = o.slot;
-      matching = matching_of o.outputs o.first_pass;
-      refusal = o.refusal;
-    }
-
--- a refusal looks at no run
-abbrev pub machine_refusal : Machine → ℕ → ℕ → ℕ → Refusal
-machine_refusal m x y number = refusal_of (machine_of m [] [] [] [] [] [] []) x y number
-
--- what a record that cannot be read leaves
-abbrev pub unread_result : Machine → ℕ → RecordResult
-unread_result m number = record { machine = m; slots_left = 0; refusal = number_alone number }
-
--- the machine after a start or pipe
-abbrev pub started_machine : Machine → Bool → StartResult → Machine
-started_machine m form s = pick (eqb s.refusal 0) (record { running = true; pipelined = form; clock = s.clock }) m
-
--- the machine with another clock, and what a tick of it leaves
-abbrev pub with_clock : Machine → Clock → Machine
-with_clock m clock = record { running = m.running; pipelined = m.pipelined; clock = clock }
-
-abbrev pub tick_slot_result : Machine → TickResult → SlotResult
-tick_slot_result m t =
-    record {
-      machine = with_clock m t.clock;
-      slot = slot_of_tick (form_of m.pipelined) t.clock.slot;
-      outputs = t.outputs;
-      first_pass = t.first_pass;
-      refusal = machine_refusal m 0 0 t.refusal;
+      machine = machine_of o.machine r;
+      slot = slot_in o.machine o.outcome;
+      matching = pairs_in o.outcome;
+      refusal = refusal_in o.outcome;
     }

@@ -1,49 +1,37 @@
 // Refusals, as their lines have them.
-ghost use Rattle.std.specs.Prelude.{◌≡◌};
-ghost use Rattle.wsgs.specs.Program.{number_alone};
-ghost use Rattle.machine.specs.View.{machine_refusal, unread_result};
+ghost use Rattle.std.specs.Prelude.{◌≡◌, Some};
+ghost use Rattle.wsgs.specs.Program.{number_alone, refusal_of};
+ghost use Rattle.wsgs.specs.Told.{number, refusal_told};
+ghost use Rattle.machine.specs.View.{machine_of};
+ghost use Rattle.machine.specs.declared.SwitchRuns.{SwitchRuns};
 
-use crate::{Machine, RecordResult};
-use wsgs::Refusal;
+use crate::Machine;
+use wsgs::{RefusalLine, Refused};
 
 // A refusal that has its number alone.
-fn number_alone(number: u32) -> Refusal
-    ensures refusal { result ≡ number_alone number }
+pub fn number_alone(refused: Refused) -> RefusalLine
+    ensures line { refusal_told (Some result) ≡ number_alone (number refused) }
 {
-    Refusal {
+    RefusalLine {
         slot: 0,
         input: 0,
         output: 0,
-        number,
+        refused,
     }
 }
 
-// A call's refusal, number 0 for none. Before any accepted start or pipe it has its number alone.
-pub fn refusal(machine: Machine, input: u64, output: u64, number: u32) -> Refusal
-    ensures refusal { result ≡ machine_refusal machine input output number }
+// A call's refusal. Before any accepted start or pipe it has its number alone.
+pub fn refusal_line(machine: Machine, input: u64, output: u64, refused: Refused) -> RefusalLine
+    ensures line { (r : SwitchRuns) → refusal_told (Some result)
+        ≡ refusal_of (machine_of machine r) input output (number refused) }
 {
-    if !machine.running {
-        return number_alone(number);
+    if machine.form.is_none() {
+        return number_alone(refused);
     }
-    if number == 0 {
-        return number_alone(number);
-    }
-    let clock = machine.clock;
-    Refusal {
-        slot: clock.slot as u64,
+    RefusalLine {
+        slot: u64::from(machine.clock.slot),
         input,
         output,
-        number,
-    }
-}
-
-// A record that cannot be read.
-pub fn unread(machine: Machine, number: u32) -> RecordResult
-    ensures result { result ≡ unread_result machine number }
-{
-    RecordResult {
-        machine,
-        slots_left: 0,
-        refusal: number_alone(number),
+        refused,
     }
 }

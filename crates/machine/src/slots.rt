@@ -1,86 +1,48 @@
-// A slot of a tick record: the tick of one form, and what it leaves.
-ghost use Rattle.std.specs.Prelude.{◌≡◌, true, false, List, ℕ};
+// A slot of a tick record: the tick of the machine's form.
+ghost use Rattle.std.specs.Prelude.{◌≡◌};
 ghost use Rattle.wsgs.specs.Ledger.{slot_of_tick};
-ghost use Rattle.wsgs.specs.Program.{run_slot};
-ghost use Rattle.machine.specs.View.{form_of, machine_of, slot_outcome_of, with_clock, tick_slot_result};
+ghost use Rattle.wsgs.specs.Told.{form_told};
+ghost use Rattle.machine.specs.View.{form_of, switch_of, SameSwitchRuns, tick_outcome_of};
+ghost use Rattle.wsgs.specs.Switch.{apply, tick};
 
-use crate::refusals::refusal;
-use crate::{Machine, SlotResult};
-use wsgs::{Clock, TickResult};
+use crate::{Machine, SwitchRuns};
+use clock::{step_direct, step_pipelined};
+use wsgs::{BookRuns, Form, Refused, Ticked};
 
-// The slot whose pairs a tick hands out.
-fn shown_slot(pipelined: bool, slot: u32) -> u64
-    ensures slot { result ≡ slot_of_tick (form_of pipelined) slot }
+// The form of a machine: before any accepted start or pipe it is direct.
+fn form_of(machine: Machine) -> Form
+    ensures form { form_told result ≡ form_of machine.form }
 {
-    if pipelined {
-        return slot as u64 + 1;
-    }
-    slot as u64
+    machine.form.unwrap_or(Form::Direct)
 }
 
-// The machine with another clock.
-fn with_clock(mut machine: Machine, clock: Clock) -> Machine
-    ensures machine { result ≡ with_clock machine clock }
+// The slot whose pairs the last tick of a machine hands out.
+pub fn shown_slot(machine: Machine) -> u64
+    ensures slot { result ≡ slot_of_tick (form_of machine.form) machine.clock.slot }
 {
-    machine.clock = clock;
-    machine
-}
-
-// What a slot leaves, by what its tick gave back.
-fn slot_result(machine: Machine, tick: TickResult) -> SlotResult
-    ensures result { result ≡ tick_slot_result machine tick }
-{
-    let clock = tick.clock;
-    let outputs = tick.outputs;
-    SlotResult {
-        machine: with_clock(machine, clock),
-        slot: shown_slot(machine.pipelined, clock.slot),
-        outputs,
-        first_pass: tick.first_pass,
-        refusal: refusal(machine, 0, 0, tick.refusal),
+    let slot = u64::from(machine.clock.slot);
+    match form_of(machine) {
+        Form::Direct => slot,
+        Form::Pipelined => slot + 1,
     }
 }
 
-// A slot of the direct form.
-pub fn direct_slot(
-    machine: Machine,
-    slots: &[u32],
-    rates: &[u32],
-    credits: &mut [u32],
-    queues: &mut [u32],
-    given: &mut [u32],
-) -> SlotResult
-    requires form { machine.pipelined ≡ false }
-    ensures outcome { (p f : List ℕ)
-        → slot_outcome_of result slots.now rates.now credits.new queues.new given.new p f
-        ≡ run_slot (machine_of machine
-        slots.now rates.now credits.old queues.old given.old p f) }
+// The tick.
+pub fn run_tick(machine: Machine, runs: &mut SwitchRuns<'_>) -> Result<Ticked, Refused>
+    ensures loans { SameSwitchRuns runs.old runs.new }
+    ensures outcome { tick_outcome_of machine.clock result runs.new
+        ≡ apply (tick (form_of machine.form)) (switch_of machine.clock runs.old) }
 {
-    let clock = machine.clock;
-    let tick = clock::step_direct(clock, slots, rates, credits, queues, given);
-    slot_result(machine, tick)
-}
-
-// A slot of the pipelined form.
-pub fn pipelined_slot(
-    machine: Machine,
-    slots: &[u32],
-    rates: &[u32],
-    credits: &mut [u32],
-    queues: &mut [u32],
-    given: &mut [u32],
-    copy: &mut [u32],
-    flight: &mut [u32],
-) -> SlotResult
-    requires form { machine.pipelined ≡ true }
-    ensures outcome { slot_outcome_of result
-        slots.now rates.now credits.new queues.new
-        given.new copy.new flight.new
-        ≡ run_slot (machine_of machine
-        slots.now rates.now credits.old queues.old
-        given.old copy.old flight.old) }
-{
-    let clock = machine.clock;
-    let tick = clock::step_pipelined(clock, slots, rates, credits, queues, given, copy, flight);
-    slot_result(machine, tick)
+    let slots = &mut *runs.slots;
+    let rates = &mut *runs.rates;
+    let book = BookRuns { slots, rates };
+    match form_of(machine) {
+        Form::Direct => step_direct(machine.clock, book, &mut runs.turns),
+        Form::Pipelined => step_pipelined(
+            machine.clock,
+            book,
+            &mut runs.turns,
+            &mut runs.pipeline,
+        ),
+    }
 }

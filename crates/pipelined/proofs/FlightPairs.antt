@@ -4,15 +4,12 @@ use mathlib.Core.Bool.{and-false}
 use native.Mathlib.Decide.{ℕ_discrete, dec_le}
 use borrow.Author.Tests.{lt-leb}
 use lib.Bits.{bit_or}
-use Rattle.wsgs.specs.declared.Clock.{Clock}
-use Rattle.wsgs.specs.declared.TickResult.{TickResult}
 use Rattle.wsgs.specs.Basics.{pick, between, updated}
 use Rattle.wsgs.specs.Steps.{listed, marked, outputs_of, pass_word_of}
 use Rattle.wsgs.specs.Pipelined.{by_first, output_in, flight_place, in_flight, reserved, handed_out}
 use Rattle.wsgs.proofs.Laws.Tests.{range_in, updated_at, updated_other}
 use Rattle.wsgs.proofs.Laws.Listed.{listed_ext, listed_set, listed_none}
 use Rattle.wsgs.proofs.Laws.Marked.{marked_ext, marked_set, marked_none}
-use Rattle.pipelined.specs.Turnings.{answering}
 use Rattle.turns.proofs.BitLaws.{one_shl}
 
 -- none of 1..0, and of 1..suc x those of 1..x beside suc x
@@ -94,7 +91,7 @@ module _ (n s : ℕ) (flight : List ℕ) where
         }
 
   -- those of all inputs are the answer
-  pub handed_all : (c : Clock) (x word : ℕ) (outputs : List ℕ) → x ≡ n → PairsSoFar x outputs word
-      → ◌≡◌ {A = TickResult} (record { refusal = 0; clock = c; outputs = outputs; first_pass = word }) (answering c (handed_out n flight s))
+  pub handed_all : (x word : ℕ) (outputs : List ℕ) → x ≡ n → PairsSoFar x outputs word
+      → (outputs ≡ outputs_of (handed_out n flight s)) × (word ≡ pass_word_of (handed_out n flight s))
   unfolding handed_out outputs_of pass_word_of
-  handed_all c x word outputs e h = rw (h.output, h.first, e)
+  handed_all x word outputs e h = (rw (h.output, e), rw (h.first, e))

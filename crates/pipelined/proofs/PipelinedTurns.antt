@@ -3,6 +3,9 @@
 use Rattle.std.proofs.Common.{◌≡◌, ℕ, suc, ◌+◌, ◌-◌, ◌*◌, ◌%◌, ◌<◌, ◌≤◌, Bool, true, false, not, ◌&&◌, eqb, ltb, List, get_or, set, sym, refl, ap, ◌∙◌, add-one, arith, le-ltb, lt-ltb, eq-eqb, ne_eqb, le-leb}
 use mathlib.Core.Bool.{and_self, and-false}
 use borrow.Author.Tests.{lt-leb}
+use Rattle.wsgs.specs.declared.TurnRuns as Lent
+use Rattle.wsgs.specs.declared.PipelineRuns.{PipelineRuns}
+use Rattle.wsgs.specs.Told.{SameTurnRuns, SamePipelineRuns}
 use Rattle.wsgs.specs.Basics.{pick, Port, in_turn}
 use Rattle.wsgs.specs.Words.{word, less_one, port_word, put_port}
 use Rattle.wsgs.specs.Frames.{first_of_frame}
@@ -13,6 +16,13 @@ use Rattle.turns.specs.Charges.{charged, noted}
 use Rattle.pipelined.specs.Turnings.{turn_runs_of}
 use Rattle.turns.proofs.Costs.{charged_some, charged_none, noted_some, noted_none}
 use Rattle.turns.proofs.Ready.{is_open, nothing_asked}
+
+-- the same loans after one turn more
+pub same_on : {a b c : Lent.TurnRuns} → SameTurnRuns a b → SameTurnRuns b c → SameTurnRuns a c
+same_on s t = record { credits = t.credits ∙ s.credits; queues = t.queues ∙ s.queues; given = t.given ∙ s.given }
+
+pub same_pipeline_on : {a b c : PipelineRuns} → SamePipelineRuns a b → SamePipelineRuns b c → SamePipelineRuns a c
+same_pipeline_on s t = record { copy = t.copy ∙ s.copy; flight = t.flight ∙ s.flight }
 
 -- a choice between two turnings
 by_test : (b : Bool) (x y : TurnRuns) → ◌≡◌ {A = TurnRuns} (elim b [ true ↦ x | false ↦ y ]) (pick b x y)

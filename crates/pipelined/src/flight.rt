@@ -2,18 +2,19 @@
 // any other is read as 0.
 ghost use Rattle.std.specs.Prelude.{◌≡◌, ℕ, ◌+◌, ◌-◌, ◌*◌, ◌%◌, ◌<◌, ◌≤◌, not, length};
 ghost use Rattle.wsgs.specs.Basics.{Port};
+ghost use Rattle.wsgs.specs.Steps.{outputs_of, pass_word_of};
 ghost use Rattle.wsgs.specs.Pipelined.{by_first, output_in, standing, handed_out, row_cleared};
 ghost use Rattle.turns.specs.Masks.{in_mask};
-ghost use Rattle.pipelined.specs.Turnings.{answering};
+ghost use Rattle.turns.specs.Charges.{output_told, HasNumber};
+ghost use Rattle.pipelined.specs.Turnings.{InputOf};
 
 use std::num::wrapping_sub_u32;
 use turns::masks::{all_free, take};
-use wsgs::{Clock, Input, Output, TickResult};
+use wsgs::{Clock, Input, Output, Served};
 
 // Where the row of a slot begins.
 pub fn row_of(ports: usize, slot: u64) -> usize
-    requires some_port { 1 ≤ ports }
-    requires few_ports { ports ≤ 32 }
+    requires ports { Port 32 ports }
     ensures is { result ≡ slot % (2 * ports) * ports }
     ensures within { result + ports ≤ 2 * ports * ports }
 {
@@ -22,8 +23,7 @@ pub fn row_of(ports: usize, slot: u64) -> usize
 
 // Where the row begins that stands as many rows before another as an input's number says. Before row 0 stands row 2N - 1.
 pub fn row_before(ports: usize, row: usize, input: Input) -> usize
-    requires few_ports { ports ≤ 32 }
-    requires input { Port ports input.0 }
+    requires input { InputOf ports input.0 }
     requires row { row < 2 * ports }
     ensures is { (s : ℕ) → row ≡ s % (2 * ports) → input.0 ≤ s → result ≡ (s - input.0) % (2 * ports) * ports }
     ensures within { result + ports ≤ 2 * ports * ports }
@@ -55,18 +55,30 @@ fn column_in(ports: u32, word: u32) -> u32
     wrapping_sub_u32(word, 1)
 }
 
-// The output that a word in flight stands for, 0 for none.
-pub fn output_of(ports: usize, word: u32) -> Output
+// The output that a word in flight stands for.
+pub fn output_of(ports: usize, word: u32) -> Option<Output>
     requires few_ports { ports ≤ 32 }
-    ensures read { result.0 ≡ output_in ports word }
-    ensures within { result.0 ≤ ports }
+    ensures some { HasNumber result }
+    ensures read { output_told result ≡ output_in ports word }
+    ensures within { output_told result ≤ ports }
 {
     let highest = ports as u32;
     let column = column_in(highest, word);
     if column < highest {
-        return Output(column as u64 + 1);
+        return Some(Output(column as u64 + 1));
     }
-    Output(0)
+    None
+}
+
+// The byte that tells an output, 0 for none.
+fn byte_of(output: Option<Output>) -> u8
+    requires fits { output_told output ≤ 32 }
+    ensures told { result ≡ output_told output }
+{
+    match output {
+        Some(output) => output.0 as u8,
+        None => 0,
+    }
 }
 
 // The outputs that are free for a slot: those that do not stand in its row. The row is given by where it begins. A word that stands for none
@@ -86,12 +98,12 @@ pub fn free_for(ports: usize, row: usize, flight: &[u32]) -> u32
     free
 }
 
-// The result of a tick that has come to a clock's slot: the pairs that the row of the next slot hands out. The row is then set to 0.
-pub fn hand_out(clock: Clock, flight: &mut [u32]) -> TickResult
-    requires some_port { 1 ≤ clock.ports }
-    requires few_ports { clock.ports ≤ 32 }
+// The pairs that the row of the slot after a clock's hands out. The row is then set to 0.
+pub fn hand_out(clock: Clock, flight: &mut [u32]) -> Served
+    requires ports { Port 32 clock.ports }
     requires flight_fits { 2 * clock.ports * clock.ports ≤ length flight.old }
-    ensures result { result ≡ answering clock (handed_out clock.ports flight.old (clock.slot + 1)) }
+    ensures outputs { result.outputs ≡ outputs_of (handed_out clock.ports flight.old (clock.slot + 1)) }
+    ensures first_pass { result.first_pass ≡ pass_word_of (handed_out clock.ports flight.old (clock.slot + 1)) }
     ensures flight_exit { flight.new ≡ row_cleared clock.ports flight.old (clock.slot + 1) }
 {
     let highest = clock.ports;
@@ -102,14 +114,12 @@ pub fn hand_out(clock: Clock, flight: &mut [u32]) -> TickResult
     for column in 0..ports {
         let word = flight[row + column];
         flight[row + column] = 0;
-        outputs[column] = output_of(ports, word).0 as u8;
+        outputs[column] = byte_of(output_of(ports, word));
         if is_by_first(highest, word) {
             first_pass |= 1 << column;
         }
     }
-    TickResult {
-        refusal: 0,
-        clock,
+    Served {
         outputs,
         first_pass,
     }

@@ -2,48 +2,40 @@
 ghost use Rattle.std.specs.Prelude.{◌≡◌, ℕ, ◌+◌, ◌*◌, ◌%◌, ◌<◌, ◌≤◌, List, length};
 ghost use Rattle.wsgs.specs.Basics.{Port};
 ghost use Rattle.wsgs.specs.Frames.{into_frame};
+ghost use Rattle.wsgs.specs.Told.{SameTurnRuns, SamePipelineRuns};
 ghost use Rattle.wsgs.specs.Pipelined.{slot_one, turn_one, turn_two, reloaded, turns_of, turns};
-ghost use Rattle.pipelined.specs.Turnings.{turn_runs_of, RunsFit, Lookahead};
+ghost use Rattle.pipelined.specs.Turnings.{turn_runs_of, turning_lent, SameLengths, InputOf, TurnFits, RunsFit, Lookahead};
 
 use super::flight::{free_for, output_of, row_before};
-use turns::{first_requests, first_turn, load_credits, second_requests, second_turn};
+use turns::{first_requests, first_turn, second_requests, second_turn};
+use words::copy_words;
 use words::places::row_of;
-use wsgs::Input;
+use wsgs::{Input, PipelineRuns, TurnRuns};
 
 // An input's pass-one turn for the slot whose row begins at a place: it takes an output if it has none for the slot yet. Where it asks for none the row is
 // not read.
-fn turn_one(
-    ports: usize,
-    row: usize,
-    input: Input,
-    credits: &mut [u32],
-    queues: &mut [u32],
-    given: &mut [u32],
-    flight: &mut [u32],
-)
-    requires few_ports { ports ≤ 32 }
-    requires input { Port ports input.0 }
-    requires credits_fit { ports * ports ≤ length credits.old }
-    requires queues_fit { ports * ports ≤ length queues.old }
-    requires given_fits { ports ≤ length given.old }
-    requires row_fits { row + ports ≤ length flight.old }
+fn turn_one(ports: usize, row: usize, input: Input, runs: &mut TurnRuns<'_>, flight: &mut [u32])
+    requires fits { TurnFits ports input.0 row runs.old.queues.now runs.old.given.now flight.old }
+    requires credits_fit { ports * ports ≤ length runs.old.credits.now }
+    ensures loans { SameTurnRuns runs.old runs.new }
+    ensures lengths { SameLengths runs.old runs.new }
     ensures turn { (s : ℕ) → row ≡ s % (2 * ports) * ports
-        → turn_runs_of credits.new queues.new given.new flight.new
+        → turn_runs_of runs.new.credits.now runs.new.queues.now runs.new.given.now flight.new
         ≡ turn_one ports s input.0
-        (turn_runs_of credits.old queues.old given.old flight.old) }
+        (turn_runs_of runs.old.credits.now runs.old.queues.now runs.old.given.now flight.old) }
 {
-    let asked = first_requests(ports, input, credits, queues);
+    let asked = first_requests(ports, input, runs);
     if asked == 0 {
         return;
     }
     let at = row + (input.0 - 1) as usize;
-    if output_of(ports, flight[at]).0 > 0 {
+    if output_of(ports, flight[at]).is_some() {
         return;
     }
     let free = free_for(ports, row, flight);
-    let choice = first_turn(free, asked, ports, input, credits, queues, given);
-    if choice.output.0 > 0 {
-        flight[at] = 100 + choice.output.0 as u32;
+    let choice = first_turn(free, asked, ports, input, runs);
+    if let Some(output) = choice.output {
+        flight[at] = 100 + output.0 as u32;
     }
 }
 
@@ -56,17 +48,13 @@ fn turn_two(
     given: &mut [u32],
     flight: &mut [u32],
 )
-    requires few_ports { ports ≤ 32 }
-    requires input { Port ports input.0 }
-    requires queues_fit { ports * ports ≤ length queues.old }
-    requires given_fits { ports ≤ length given.old }
-    requires row_fits { row + ports ≤ length flight.old }
+    requires fits { TurnFits ports input.0 row queues.old given.old flight.old }
     ensures turn { (s : ℕ) → row ≡ s % (2 * ports) * ports → (c : List ℕ)
         → turn_runs_of c queues.new given.new flight.new
         ≡ turn_two ports s input.0 (turn_runs_of c queues.old given.old flight.old) }
 {
     let at = row + (input.0 - 1) as usize;
-    if output_of(ports, flight[at]).0 > 0 {
+    if output_of(ports, flight[at]).is_some() {
         return;
     }
     let asked = second_requests(ports, input, queues);
@@ -75,26 +63,31 @@ fn turn_two(
     }
     let free = free_for(ports, row, flight);
     let choice = second_turn(free, asked, ports, input, queues, given);
-    if choice.output.0 > 0 {
-        flight[at] = choice.output.0 as u32;
+    if let Some(output) = choice.output {
+        flight[at] = output.0 as u32;
     }
 }
 
 // An input sets its row of credits from the frame copy where its slot of pass one is the first of a frame. `into` tells how many slots of its
 // frame come before slot time + 2N, which is that of input 1; that of input i comes i - 1 slots before.
-fn reload_row(ports: usize, into: u64, input: Input, copy: &[u32], credits: &mut [u32])
-    requires few_ports { ports ≤ 32 }
-    requires input { Port ports input.0 }
-    requires copy_fits { ports * ports ≤ length copy.now }
+fn reload_row(
+    ports: usize,
+    into: u64,
+    input: Input,
+    pipeline: &PipelineRuns<'_>,
+    credits: &mut [u32],
+)
+    requires input { InputOf ports input.0 }
+    requires copy_fits { ports * ports ≤ length pipeline.now.copy.now }
     requires credits_fit { ports * ports ≤ length credits.old }
     ensures reload { (frame time : ℕ) → ports ≤ frame → into ≡ into_frame frame (time + 2 * ports) → (q g f : List ℕ)
         → turn_runs_of credits.new q g f
-        ≡ reloaded ports frame copy.now (slot_one ports time input.0) input.0
+        ≡ reloaded ports frame pipeline.now.copy.now (slot_one ports time input.0) input.0
         (turn_runs_of credits.old q g f) }
 {
     if into == input.0 - 1 {
         let row = row_of(ports, input);
-        load_credits(&copy[row..], &mut credits[row..], ports);
+        copy_words(&pipeline.copy[row..], &mut credits[row..], ports);
     }
 }
 
@@ -102,18 +95,23 @@ fn reload_row(ports: usize, into: u64, input: Input, copy: &[u32], credits: &mut
 // its frame come before slot time + 2N.
 #[derive(Clone, Copy)]
 pub struct SlotsAhead {
+    pub ports: usize,
+    pub frame: u64,
+    pub time: u64,
     pub one: usize,
     pub two: usize,
     pub into: u64,
+    pub ghost known: { Lookahead ports frame time one two into },
 }
 
 // What a tick knows of the slots ahead, so that no turn divides.
 pub fn look_ahead(ports: usize, frame: u64, time: u64) -> SlotsAhead
-    requires some_port { 1 ≤ ports }
-    requires few_ports { ports ≤ 32 }
+    requires ports { Port 32 ports }
     requires frame_covers { ports ≤ frame }
     requires time { time ≤ 4000000000 }
-    ensures ahead { Lookahead ports frame time result.one result.two result.into }
+    ensures ports { result.ports ≡ ports }
+    ensures frame { result.frame ≡ frame }
+    ensures time { result.time ≡ time }
 {
     let rows = 2 * ports as u64;
     let one = ((time + 1) % rows) as usize;
@@ -122,6 +120,9 @@ pub fn look_ahead(ports: usize, frame: u64, time: u64) -> SlotsAhead
         two = one - ports;
     }
     SlotsAhead {
+        ports,
+        frame,
+        time,
         one,
         two,
         into: (time + rows - 1) % frame,
@@ -131,57 +132,49 @@ pub fn look_ahead(ports: usize, frame: u64, time: u64) -> SlotsAhead
 // An input's part in a tick: it reloads its credits, and has its turn of each pass. It has none before the time that is its number, when its
 // slots would be below 2N + 1 and N + 1.
 fn turns_of(
-    ports: usize,
-    time: u64,
     ahead: SlotsAhead,
     input: Input,
-    copy: &[u32],
-    credits: &mut [u32],
-    queues: &mut [u32],
-    given: &mut [u32],
-    flight: &mut [u32],
+    runs: &mut TurnRuns<'_>,
+    pipeline: &mut PipelineRuns<'_>,
 )
-    requires runs_fit { RunsFit ports copy.now credits.old queues.old given.old flight.old }
-    requires row_one { ahead.one < 2 * ports }
-    requires row_two { ahead.two < 2 * ports }
-    requires input { Port ports input.0 }
-    ensures turns { (frame : ℕ) → Lookahead ports frame time ahead.one ahead.two ahead.into
-        → turn_runs_of credits.new queues.new given.new flight.new
-        ≡ turns_of ports frame copy.now time input.0
-        (turn_runs_of credits.old queues.old given.old flight.old) }
+    requires input { Port ahead.ports input.0 }
+    requires fits { RunsFit ahead.ports pipeline.old.copy.now (turning_lent runs.old pipeline.old) }
+    ensures loans { SameTurnRuns runs.old runs.new }
+    ensures pipeline_loans { SamePipelineRuns pipeline.old pipeline.new }
+    ensures copy_stays { pipeline.new.copy.now ≡ pipeline.old.copy.now }
+    ensures fit { RunsFit ahead.ports pipeline.new.copy.now (turning_lent runs.new pipeline.new) }
+    ensures turns { turning_lent runs.new pipeline.new
+        ≡ turns_of ahead.ports ahead.frame pipeline.old.copy.now ahead.time input.0
+        (turning_lent runs.old pipeline.old) }
 {
-    if input.0 <= time {
-        reload_row(ports, ahead.into, input, copy, credits);
-        let one = row_before(ports, ahead.one, input);
-        turn_one(ports, one, input, credits, queues, given, flight);
-        let two = row_before(ports, ahead.two, input);
-        turn_two(ports, two, input, queues, given, flight);
+    if input.0 <= ahead.time {
+        reload_row(ahead.ports, ahead.into, input, pipeline, runs.credits);
+        let one = row_before(ahead.ports, ahead.one, input);
+        turn_one(ahead.ports, one, input, runs, pipeline.flight);
+        let two = row_before(ahead.ports, ahead.two, input);
+        turn_two(
+            ahead.ports,
+            two,
+            input,
+            runs.queues,
+            runs.given,
+            pipeline.flight,
+        );
     }
 }
 
 // The turns of all inputs.
-pub fn all_turns(
-    ports: usize,
-    time: u64,
-    ahead: SlotsAhead,
-    copy: &[u32],
-    credits: &mut [u32],
-    queues: &mut [u32],
-    given: &mut [u32],
-    flight: &mut [u32],
-)
-    requires runs_fit { RunsFit ports copy.now credits.old queues.old given.old flight.old }
-    requires row_one { ahead.one < 2 * ports }
-    requires row_two { ahead.two < 2 * ports }
-    ensures turns { (frame : ℕ) → Lookahead ports frame time ahead.one ahead.two ahead.into
-        → turn_runs_of credits.new queues.new given.new flight.new
-        ≡ turns ports frame copy.now time
-        (turn_runs_of credits.old queues.old given.old flight.old) ports }
+pub fn all_turns(ahead: SlotsAhead, runs: &mut TurnRuns<'_>, pipeline: &mut PipelineRuns<'_>)
+    requires fits { RunsFit ahead.ports pipeline.old.copy.now (turning_lent runs.old pipeline.old) }
+    ensures loans { SameTurnRuns runs.old runs.new }
+    ensures pipeline_loans { SamePipelineRuns pipeline.old pipeline.new }
+    ensures copy_stays { pipeline.new.copy.now ≡ pipeline.old.copy.now }
+    ensures fit { RunsFit ahead.ports pipeline.new.copy.now (turning_lent runs.new pipeline.new) }
+    ensures turns { turning_lent runs.new pipeline.new
+        ≡ turns ahead.ports ahead.frame pipeline.old.copy.now ahead.time
+        (turning_lent runs.old pipeline.old) ahead.ports }
 {
-    for done in 0..ports {
-        let input = Input(done as u64 + 1);
-        turns_of(
-            ports, time, ahead, input, copy, credits, queues, given, flight,
-        );
+    for done in 0..ahead.ports {
+        turns_of(ahead, Input(done as u64 + 1), runs, pipeline);
     }
 }

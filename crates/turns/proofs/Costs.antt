@@ -1,15 +1,18 @@
 -- What a turn costs and notes that takes an output, and one that takes none. Assumes nothing.
-use mathlib.Core.Path.{◌≡◌, refl}
-use mathlib.Core.Bool.{Bool, true, false}
+use mathlib.Core.Path.{◌≡◌, refl, sym, ◌∙◌}
+use mathlib.Core.Bool.{Bool, true, false, true≢false}
 use mathlib.Core.List.{List}
 use Prim.Native.Nat.{ℕ, ◌-◌, ◌≤◌}
+use native.Mathlib.Omega.{arith}
 use borrow.Author.Tests.{lt-ltb, le-ltb}
 use lib.Dec.{ltb}
 use lib.ListN.{length, length-set}
+use Rattle.std.specs.Prelude.{Option, Some, None, is_some}
+use Rattle.wsgs.specs.declared.Output.{Output}
 use Rattle.wsgs.specs.Basics.{pick}
 use Rattle.wsgs.specs.Words.{less_one, put_port}
 use Rattle.wsgs.proofs.Laws.Words.{less_length}
-use Rattle.turns.specs.Charges.{charged, noted}
+use Rattle.turns.specs.Charges.{output_told, HasNumber, charged, noted}
 
 module _ (n : ℕ) (m : List ℕ) (i j : ℕ) where
   -- one that takes output j
@@ -47,3 +50,12 @@ module _ (given : List ℕ) (i j : ℕ) where
       go : (b : Bool) → length (pick b (put_port given i j) given) ≡ length given
       go true = length-set given (i - 1) j
       go false = refl
+
+-- an output that is given has a number from 1 on, and none has 0
+pub numbered : (o : Option Output) {b : Bool} → HasNumber o → b ≡ is_some o → b ≡ true → 1 ≤ output_told o
+numbered None h e t = absurd (true≢false (sym t ∙ e))
+numbered (Some j) h e t = h
+
+pub unnumbered : (o : Option Output) {b : Bool} → b ≡ is_some o → b ≡ false → output_told o ≤ 0
+unnumbered None e t = omega arith
+unnumbered (Some j) e t = absurd (true≢false (sym e ∙ t))

@@ -7,16 +7,13 @@ use Rattle.feeding.proofs.feed_rest.Goals as goal
 
 pub overflow_add-result : goal.overflow_add-result
 overflow_add-result g c =
-    let a = c.args in
-    let t = text_state_of a.fed a.out.now a.buffer.now a.slots.now a.rates.now a.credits.now a.queues.now a.given.now a.copy.now a.flight.now in
+    let t = text_state_of c.args.fed c.args.lent.now in
     omega (
       arith,
-      next_within a.text.now t c.requires.taken,
-      ap (λ (t : TextState). t.taken) (call_is a.text.now t c.requires.taken c.feed-result.result _ _ _ _ _ _ _ _ _ c.feed-result.ensures.outcome),
+      next_within c.args.text.now t c.requires.taken,
+      ap (λ (t : TextState). t.taken) (call_is c.args.text.now t c.requires.taken c.feed-result.result c.feed-result.new.lent c.feed-result.ensures.outcome),
     )
 
-pub returns : goal.returns
-returns g c =
-    let a = c.args in
-    let t = text_state_of a.fed a.out.now a.buffer.now a.slots.now a.rates.now a.credits.now a.queues.now a.given.now a.copy.now a.flight.now in
-    record { outcome = call_is a.text.now t c.requires.taken c.feed-result.result _ _ _ _ _ _ _ _ _ c.feed-result.ensures.outcome }
+pub returns-clause-outcome : goal.returns-clause-outcome
+returns-clause-outcome g c =
+    call_is c.args.text.now (text_state_of c.args.fed c.args.lent.now) c.requires.taken c.feed-result.result c.feed-result.new.lent c.feed-result.ensures.outcome

@@ -5,8 +5,6 @@ use Rattle.lines.specs.Lines.{slot_room}
 use Rattle.lines.proofs.Writing.{room}
 use Rattle.lines.proofs.slot_lines.Goals as goal
 
-pub returns : goal.returns
-returns c =
-    record {
-      outcome = room slot_room _ _ c.new-printer.result c.put_matches.new.self (omega arith) c.new-printer.ensures.buffer c.new-printer.ensures.count c.put_matches.ensures.text (search rules);
-    }
+pub returns-clause-outcome : goal.returns-clause-outcome
+returns-clause-outcome c =
+    room slot_room _ _ c.new-printer.result c.put_matches.new.self (omega arith) c.new-printer.ensures.buffer c.new-printer.ensures.count c.put_matches.ensures.text (search rules)

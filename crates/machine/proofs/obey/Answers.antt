@@ -1,12 +1,17 @@
 -- A record, by what it reads as.
+use mathlib.Core.Path.{ap, ◌∙◌}
 use Rattle.wsgs.specs.Program.{obey}
+use Rattle.machine.specs.View.{machine_of}
 use Rattle.machine.proofs.obey.Goals as goal
 
-pub returns-in-Request : goal.returns-in-Request
-returns-in-Request c =
-    record { outcome = rw c.in-Request.is c.obey_request.ensures.outcome }
-
-pub returns-in-Refused : goal.returns-in-Refused
+pub returns-in-Err-clause-outcome : goal.returns-in-Err-clause-outcome
 unfolding obey
-returns-in-Refused c =
-    record { outcome = rw (c.in-Refused.is, c.unread.ensures.result) }
+returns-in-Err-clause-outcome c =
+    rw c.in-Err.is (ap (λ r. record { machine = machine_of c.args.machine c.args.runs.now; slots = 0; refusal = r }) c.number_alone.ensures.line)
+
+pub returns-in-Err-obey_request-clause-outcome : goal.returns-in-Err-obey_request-clause-outcome
+returns-in-Err-obey_request-clause-outcome c =
+    let runs = c.obey_request.new.runs in
+    rw c.in-Ok.is
+    (ap (λ r. record { machine = machine_of c.args.machine runs; slots = 0; refusal = r }) (c.refusal_line.ensures.line runs)
+    ∙ c.in-Err-obey_request.ensures.outcome)

@@ -1,24 +1,14 @@
 -- `pipelined::run_tick` meets its contract: what its calls ensure are the definition's steps. Assumes nothing.
 use Rattle.std.proofs.Common.{arith}
+use Rattle.wsgs.specs.Told.{pipelined_lent}
 use Rattle.pipelined.proofs.PipelinedTick.{ticked_left}
 use Rattle.pipelined.proofs.run_tick.Goals as goal
 
-pub all_turns-requires : goal.all_turns-requires
-all_turns-requires c =
-    record {
-      runs_fit = omega (arith, c.requires.runs_fit, c.look_ahead-ahead.ensures.ahead);
-      row_one = omega (arith, c.requires.runs_fit, c.look_ahead-ahead.ensures.ahead);
-      row_two = omega (arith, c.requires.runs_fit, c.look_ahead-ahead.ensures.ahead);
-    }
-
-pub hand_out-requires : goal.hand_out-requires
-hand_out-requires c =
-    record {
-      some_port = omega (arith, c.requires.some_port);
-      few_ports = omega (arith, c.requires.runs_fit.ports);
-      flight_fits = omega (arith, c.requires.runs_fit.flight);
-    }
-
-pub returns : goal.returns
-returns c =
-    record { outcome = ticked_left _ _ _ _ _ _ _ _ _ (c.renew_copy.ensures.copy_exit _ c.look_ahead-ahead.ensures.ahead.place _ _ _ _) (c.all_turns.ensures.turns _ c.look_ahead-ahead.ensures.ahead) c.hand_out.ensures.result c.hand_out.ensures.flight_exit }
+pub returns-clause-outcome : goal.returns-clause-outcome
+returns-clause-outcome c =
+    let a = c.look_ahead-ahead in
+    let place = rw (a.ensures.ports, a.ensures.frame, a.ensures.time) at a.result.known.place in
+    let turned = rw (a.ensures.ports, a.ensures.frame, a.ensures.time) at c.all_turns.ensures.turns in
+    rw c.all_turns.ensures.copy_stays
+    (ticked_left c.args.clock (pipelined_lent c.args.book c.args.runs.now c.args.pipeline.now) _ _ _ _ _ _ _ _ (c.renew_copy.ensures.copy_exit _ place _ _ _ _) turned
+    c.hand_out-served.ensures.outputs c.hand_out-served.ensures.first_pass c.hand_out-served.ensures.flight_exit)

@@ -1,9 +1,9 @@
--- The input is fed piece by piece: a piece begins within it, and fewer bytes are left.
-use Rattle.std.proofs.Common.{◌≤◌, length, ◌-◌}
+-- The input is fed piece by piece: fewer bytes are left.
+use Rattle.std.proofs.Common.{◌≤◌, length}
 use Rattle.trace_test.proofs.feed_pieces.Given as goal
 
-abbrev pub invariant-loop-fed : goal.invariant-loop-fed
-invariant-loop-fed g l = l.from ≤ length l.input
+abbrev pub invariant-loop-rest : goal.invariant-loop-rest
+invariant-loop-rest g l = length l.rest ≤ length l.input
 
-abbrev pub decreases-loop-fed : goal.decreases-loop-fed
-decreases-loop-fed g l = length l.input - l.from
+abbrev pub decreases-loop-rest : goal.decreases-loop-rest
+decreases-loop-rest g l = length l.rest

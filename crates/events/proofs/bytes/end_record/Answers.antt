@@ -1,31 +1,23 @@
 -- The end of the heading, or of another record.
-use mathlib.Core.Path.{sym}
+use mathlib.Core.Path.{ap, ◌∙◌}
 use native.Mathlib.Omega.{arith}
 use borrow.Author.Tests.{not-true, not-false}
-use lib.Seq.{length-take-le}
+use Rattle.wsgs.specs.Told.{refusal_told}
+use Rattle.lines.specs.Lines.{refusal_room}
+use Rattle.lines.proofs.Printing.{refusal_short}
+use Rattle.lines.proofs.Writing.{wrote_front}
+use Rattle.machine.specs.View.{refusal_in}
 use Rattle.events.proofs.StepLaws.{heading_written, record_written}
-use Rattle.wsgs.specs.Bookings.{book_of}
 use Rattle.events.proofs.bytes.end_record.Goals as goal
 
-pub returns-then-not-progress : goal.returns-then-not-progress
-returns-then-not-progress c =
-    record {
-      outcome = heading_written c.args.progress c.args.buffer.now (book_of c.args.slots.now c.args.rates.now) c.args.credits.now c.args.queues.now c.args.given.now c.args.copy.now c.args.flight.now _ _
-          (not-true c.args.progress.past_heading c.if-not-progress.true) c.ended.ensures.progress c.ended.ensures.place (omega arith);
-    }
+pub returns-then-not-progress-clause-outcome : goal.returns-then-not-progress-clause-outcome
+returns-then-not-progress-clause-outcome c =
+    heading_written c.args.progress c.args.buffer.now c.args.runs.now _ (not-true _ c.if-not-progress.true) c.ended.ensures.progress
 
-pub slice_bounds-read_record-end : goal.slice_bounds-read_record-end
-slice_bounds-read_record-end c =
-    sym (length-take-le _ _ (omega (arith, c.kept_length-length.ensures.length)))
-
-pub put_refusal-next-requires : goal.put_refusal-next-requires
-put_refusal-next-requires c =
-    record { room = omega (arith, c.requires.room) }
-
-pub returns : goal.returns
-returns c =
-    record {
-      outcome = record_written c.args.progress c.args.buffer.now (book_of c.args.slots.now c.args.rates.now) c.args.credits.now c.args.queues.now c.args.given.now c.args.copy.now c.args.flight.now c.obey-obeyed.result _ _ _ _ _ _ _ _ _ _ _
-          (not-false c.args.progress.past_heading c.if-not-progress.false) c.kept_length-length.ensures.length c.read_record-reading.ensures.reading c.obey-obeyed.ensures.outcome
-          c.put_refusal-next.ensures.text c.ended-2.ensures.progress c.ended-2.ensures.place;
-    }
+pub returns-clause-outcome : goal.returns-clause-outcome
+returns-clause-outcome c =
+    let refusal = refusal_in c.obey-obeyed.result.outcome in
+    record_written c.args.progress c.args.buffer.now c.args.runs.now c.obey-obeyed.new.runs c.obey-obeyed.result _ _ c.min-kept.result _ (not-false _ c.if-not-progress.false)
+    (omega (arith, c.min-kept.ensures, c.saturating_sub.ensures)) (rw c.is_some.ensures at c.read_record-reading.ensures.reading) c.obey-obeyed.ensures.outcome
+    (wrote_front refusal_room c.args.out.now _ c.requires.room (refusal_short refusal) (rw c.err.ensures.value at c.refusal_line.ensures.outcome))
+    (rw c.unwrap_or.ensures at c.ended-2.ensures.progress)

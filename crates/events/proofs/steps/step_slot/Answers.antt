@@ -1,23 +1,15 @@
 -- A slot of a tick record.
-use mathlib.Core.Path.{refl}
 use native.Mathlib.Omega.{arith}
-use Rattle.events.proofs.StepLaws.{slot_written}
-use Rattle.wsgs.specs.Bookings.{book_of}
+use mathlib.Core.Path.{refl}
+use Rattle.events.proofs.StepLaws.{pairs_written, slot_refused}
 use Rattle.events.proofs.steps.step_slot.Goals as goal
 
-pub put_slot-written-requires : goal.put_slot-written-requires
-put_slot-written-requires c =
-    record { room = c.requires.room }
+pub returns-in-Ok-clause-outcome : goal.returns-in-Ok-clause-outcome
+returns-in-Ok-clause-outcome c b =
+    pairs_written c.args.progress b c.args.runs.now c.run_slot-slot.new.runs c.run_slot-slot.result _ _ _ c.run_slot-slot.ensures.outcome c.in-Ok.pairs c.in-Ok.is c.slot_lines.ensures.short c.requires.room
+    c.slot_lines.ensures.outcome refl c.moved.ensures.progress
 
-pub slots_after-slots_left-requires : goal.slots_after-slots_left-requires
-slots_after-slots_left-requires c =
-    record { some = omega (arith, c.requires.some) }
-
-pub returns : goal.returns
-returns c =
-    record {
-      taken = refl;
-      outcome = λ b.
-          slot_written c.args.fed.progress b (book_of c.args.slots.now c.args.rates.now) c.args.credits.now c.args.queues.now c.args.given.now c.args.copy.now c.args.flight.now c.run_slot-slot.result _ _ _ _ _ _ _ _ c.run_slot-slot.ensures.outcome c.put_slot-written.ensures.text
-          c.slots_after-slots_left.ensures.left c.moved.ensures.progress;
-    }
+pub returns-in-Err-clause-outcome : goal.returns-in-Err-clause-outcome
+returns-in-Err-clause-outcome c b =
+    slot_refused c.args.progress b c.args.runs.now c.run_slot-slot.new.runs c.run_slot-slot.result _ _ _ c.run_slot-slot.ensures.outcome c.in-Err.line c.in-Err.is c.requires.room
+    c.refusal_line.ensures.outcome refl c.moved-in-Err.ensures.progress

@@ -16,11 +16,11 @@ loop-column-preserved c =
       elim c.if-is_by_first.branch [
         | goal.then-is_by_first w ↦
             rw w.first_pass-is
-            (handed_first _ _ _ _ _ _ _ _ (omega arith) c.row_of-row.ensures.is c.loop-column.invariant.1 (c.output_of.ensures.read ∙ ap (output_in _) e)
+            (handed_first _ _ _ _ _ _ _ _ (omega arith) c.row_of-row.ensures.is c.loop-column.invariant.1 (c.byte_of.ensures.told ∙ c.output_of.ensures.read ∙ ap (output_in _) e)
             (sym (ap (by_first _) e) ∙ sym c.is_by_first.ensures.tested ∙ w.if-is_by_first.true))
         | goal.else-is_by_first w ↦
             rw w.first_pass-is
-            (handed_other _ _ _ _ _ _ _ _ (omega arith) c.row_of-row.ensures.is c.loop-column.invariant.1 (c.output_of.ensures.read ∙ ap (output_in _) e)
+            (handed_other _ _ _ _ _ _ _ _ (omega arith) c.row_of-row.ensures.is c.loop-column.invariant.1 (c.byte_of.ensures.told ∙ c.output_of.ensures.read ∙ ap (output_in _) e)
             (sym (ap (by_first _) e) ∙ sym c.is_by_first.ensures.tested ∙ w.if-is_by_first.false))
       ],
       cleared_more _ _ _ _ (omega arith) c.loop-column.invariant.2,
@@ -29,7 +29,9 @@ loop-column-preserved c =
 
 pub returns : goal.returns
 returns c =
+    let h = handed_all _ _ _ _ _ _ (omega arith) c.loop-column.invariant.1 in
     record {
-      result = handed_all _ _ _ _ _ _ _ (omega arith) c.loop-column.invariant.1;
+      outputs = h.0;
+      first_pass = h.1;
       flight_exit = cleared_all _ _ _ _ _ _ c.row_of-row.ensures.is (omega arith) c.loop-column.invariant.2;
     }

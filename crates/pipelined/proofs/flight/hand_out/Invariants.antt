@@ -5,7 +5,7 @@ use Rattle.pipelined.proofs.PipelinedRows.{ClearedSoFar}
 use Rattle.pipelined.proofs.flight.hand_out.Given as goal
 
 abbrev pub invariant-loop-column : goal.invariant-loop-column
-invariant-loop-column l = (l.column ≤ l.ports) × PairsSoFar l.ports (l.clock.slot + 1) l.initial.flight l.column l.outputs l.first_pass × ClearedSoFar l.row l.initial.flight l.column l.flight × (length l.flight ≡ length l.initial.flight)
+invariant-loop-column l = (l.column ≤ l.ports) × PairsSoFar l.ports (l.fn.clock.slot + 1) l.initial.flight l.column l.outputs l.first_pass × ClearedSoFar l.row l.initial.flight l.column l.flight × (length l.flight ≡ length l.initial.flight)
 
 abbrev pub decreases-loop-column : goal.decreases-loop-column
 decreases-loop-column l = l.ports - l.column

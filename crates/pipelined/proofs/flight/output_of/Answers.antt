@@ -2,16 +2,10 @@
 use Rattle.std.proofs.Common.{sym, arith}
 use Rattle.pipelined.proofs.flight.output_of.Goals as goal
 
-pub returns-then-column-highest : goal.returns-then-column-highest
-returns-then-column-highest c =
-    record {
-      read = sym (c.column_in-column.ensures.some c.if-column-highest.true);
-      within = omega arith;
-    }
+pub returns-then-column-highest-clause-read : goal.returns-then-column-highest-clause-read
+returns-then-column-highest-clause-read c =
+    sym (c.column_in-column.ensures.some c.if-column-highest.true)
 
-pub returns : goal.returns
-returns c =
-    record {
-      read = sym (c.column_in-column.ensures.none c.if-column-highest.false);
-      within = omega arith;
-    }
+pub returns-clause-read : goal.returns-clause-read
+returns-clause-read c =
+    sym (c.column_in-column.ensures.none c.if-column-highest.false)

@@ -1,24 +1,41 @@
 -- `pipeline_turns::all_turns` meets its contract. Assumes nothing.
-use Rattle.std.proofs.Common.{refl, ap, ◌∙◌, arith, rules}
+use Rattle.std.proofs.Common.{refl, ap, ◌∙◌, arith}
 use Rattle.wsgs.specs.Pipelined.{turns}
-use Rattle.pipelined.proofs.PipelinedTurns.{turns_more}
+use Rattle.pipelined.proofs.PipelinedTurns.{turns_more, same_on, same_pipeline_on}
 use Rattle.pipelined.proofs.pipeline_turns.all_turns.Goals as goal
 
 pub loop-done-init : goal.loop-done-init
 unfolding turns
 loop-done-init c =
-    (search rules, refl, refl, refl, refl, λ frame a. refl)
+    record {
+      within = omega arith;
+      loans = record { credits = refl; queues = refl; given = refl };
+      pipeline_loans = record { copy = refl; flight = refl };
+      copy = refl;
+      fit = c.requires.fits;
+      turns = refl;
+    }
 
 pub loop-done-preserved : goal.loop-done-preserved
-loop-done-preserved c = (
-  omega arith,
-  c.turns_of.auto.credits ∙ c.loop-done.invariant.1,
-  c.turns_of.auto.queues ∙ c.loop-done.invariant.2,
-  c.turns_of.auto.given ∙ c.loop-done.invariant.3,
-  c.turns_of.auto.flight ∙ c.loop-done.invariant.4,
-  λ frame a. turns_more _ frame _ _ _ _ _ _ (c.loop-done.invariant.5 frame a) (c.turns_of.ensures.turns frame a),
-)
+loop-done-preserved c =
+    let i = c.loop-done.invariant in
+    let e = c.turns_of.ensures in
+    record {
+      within = omega arith;
+      loans = same_on i.loans e.loans;
+      pipeline_loans = same_pipeline_on i.pipeline_loans e.pipeline_loans;
+      copy = e.copy_stays ∙ i.copy;
+      fit = e.fit;
+      turns = turns_more _ _ _ _ _ _ _ _ i.turns (rw i.copy at e.turns);
+    }
 
 pub returns : goal.returns
 returns c =
-    record { turns = λ frame a. c.loop-done.invariant.5 frame a ∙ ap (turns _ frame _ _ _) (omega arith) }
+    let i = c.loop-done.invariant in
+    record {
+      loans = i.loans;
+      pipeline_loans = i.pipeline_loans;
+      copy_stays = i.copy;
+      fit = i.fit;
+      turns = i.turns ∙ ap (turns _ _ _ _ _) (omega arith);
+    }

@@ -1,17 +1,16 @@
--- The loop's invariant: the runs are those that the turns of the inputs so far leave, and their lengths are kept.
-use Rattle.std.proofs.Common.{◌≡◌, ℕ, ◌-◌, ◌≤◌, length}
+-- The loop's invariant: the runs are the same loans, and those that the turns of the inputs so far leave.
+use Rattle.std.proofs.Common.{◌≡◌, ◌≤◌}
+use Rattle.wsgs.specs.Told.{SameTurnRuns, SamePipelineRuns}
 use Rattle.wsgs.specs.Pipelined.{turns}
-use Rattle.pipelined.specs.Turnings.{turn_runs_of, Lookahead}
+use Rattle.pipelined.specs.Turnings.{turning_lent, RunsFit}
 use Rattle.pipelined.proofs.pipeline_turns.all_turns.Given as goal
 
 abbrev pub invariant-loop-done : goal.invariant-loop-done
-invariant-loop-done l = (l.done ≤ l.ports)
-    × (length l.credits ≡ length l.initial.credits)
-    × (length l.queues ≡ length l.initial.queues)
-    × (length l.given ≡ length l.initial.given)
-    × (length l.flight ≡ length l.initial.flight)
-    × ((frame : ℕ) → Lookahead l.ports frame l.time l.ahead.one l.ahead.two l.ahead.into
-    → turn_runs_of l.credits l.queues l.given l.flight ≡ turns l.ports frame l.copy l.time (turn_runs_of l.initial.credits l.initial.queues l.initial.given l.initial.flight) l.done)
-
-abbrev pub decreases-loop-done : goal.decreases-loop-done
-decreases-loop-done l = l.ports - l.done
+invariant-loop-done l = record {
+  within : l.done ≤ l.ahead.ports;
+  loans : SameTurnRuns l.initial.runs l.runs;
+  pipeline_loans : SamePipelineRuns l.initial.pipeline l.pipeline;
+  copy : l.pipeline.copy.now ≡ l.initial.pipeline.copy.now;
+  fit : RunsFit l.ahead.ports l.pipeline.copy.now (turning_lent l.runs l.pipeline);
+  turns : turning_lent l.runs l.pipeline ≡ turns l.ahead.ports l.ahead.frame l.initial.pipeline.copy.now l.ahead.time (turning_lent l.initial.runs l.initial.pipeline) l.done;
+}

@@ -5,14 +5,14 @@ use Rattle.pipelined.proofs.pipeline_turns.look_ahead.Goals as goal
 
 pub overflow_add-two : goal.overflow_add-two
 overflow_add-two c =
-    omega (arith, mod-lt (c.args.time + 1) {m = 2 * c.args.ports} (omega arith))
+    omega (arith, c.requires.ports.high, mod-lt (c.args.time + 1) {m = 2 * c.args.ports} (omega (arith, c.requires.ports.low)))
 
-pub returns : goal.returns
-returns c =
+pub invariant_of-result : goal.invariant_of-result
+invariant_of-result c =
     record {
-      ahead = foreseen c.args.ports c.args.time c.requires.some_port c.args.frame _ (omega arith)
+      known = foreseen c.args.ports c.args.time c.requires.ports.low c.args.frame _ c.requires.frame_covers
           (elim c.if-one-ports.branch [
-            | goal.then-one-ports w ↦ w.two-is ∙ half_less c.args.ports c.args.time c.requires.some_port w.if-one-ports.true
-            | goal.else-one-ports w ↦ w.two-is ∙ half_more c.args.ports c.args.time c.requires.some_port w.if-one-ports.false
+            | goal.then-one-ports w ↦ w.two-is ∙ half_less c.args.ports c.args.time c.requires.ports.low w.if-one-ports.true
+            | goal.else-one-ports w ↦ w.two-is ∙ half_more c.args.ports c.args.time c.requires.ports.low w.if-one-ports.false
           ]);
     }

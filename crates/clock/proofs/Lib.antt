@@ -1,0 +1,2 @@
+-- The law that the two steps cite.
+pub mod Laws
