@@ -37,16 +37,11 @@ pub fn pair_sums(clock: Clock, book: BookRuns<'_>, pair: Pair) -> Result<PairSum
         pair,
     };
     let ports = clock.ports as usize;
-    let held = word_of(ports, book.slots, pair);
-    let rate = word_of(ports, book.rates, pair);
-    let own = asked.booked(pair);
-    let row = asked.sum(Line::Row);
-    let column = asked.sum(Line::Column);
     Ok(PairSums {
-        slots: held,
-        rate: rate,
-        booking: own.0,
-        row: row,
-        column: column,
+        slots: word_of(ports, book.slots, pair),
+        rate: word_of(ports, book.rates, pair),
+        booking: asked.booked(pair).0,
+        row: asked.sum(Line::Row),
+        column: asked.sum(Line::Column),
     })
 }

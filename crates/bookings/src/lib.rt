@@ -36,6 +36,8 @@ pub fn rise(clock: Clock, slots: BookedSlots, rate: u32, more: u32) -> BookedSlo
     BookedSlots(raised.0 - present.0)
 }
 
+// Stays (a): here and below a count stands beside lent runs, since one that is too short or too long is lent too, and a short one is left as it is
+// (`words::copy_words`, and the clause `to_exit`).
 // Whether one of the first count rates is above 0, or the run has fewer. Without a rate the bookings are the slots.
 pub fn has_rate(rates: &[u32], count: usize) -> bool
     ensures result { result ≡ has_rate count rates.now }
@@ -54,6 +56,7 @@ fn union_of(words: &[u32]) -> u32
 }
 
 // The first count words of a run become the bookings at these places; where a run has fewer, all stay as they are.
+// Stays (b): two ways, since a copy of the slots alone takes 404 ns of a tick of 32 ports where the bookings worked out take 2,657 ns (README, Which form).
 pub fn copy_bookings(clock: Clock, book: BookRuns<'_>, to: &mut [u32], count: usize)
     ensures to_exit { to.new ≡ copy_words count
         (booking_words clock.frame clock.line book.entry.slots.now book.entry.rates.now) to.old }
