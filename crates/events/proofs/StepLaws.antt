@@ -1,17 +1,16 @@
 -- What a byte, the end of a record and a slot leave, as the code has it. Assumes nothing.
-use mathlib.Core.Path.{◌≡◌, refl, sym, ap, subst⁻¹, ◌∙◌}
-use mathlib.Core.Bool.{Bool, true, false, ◌&&◌, and-false, and-true}
-use mathlib.Core.List.{List, []}
-use Prim.Native.Nat.{ℕ, suc, ◌+◌, ◌-◌, ◌≤◌, ◌<◌, min}
+use mathlib.Core.Path.{◌≡◌, sym, ap, subst⁻¹, ◌∙◌}
+use mathlib.Core.Bool.{true, false, ◌&&◌, and-false, and-true}
+use mathlib.Core.List.{List}
+use Prim.Native.Nat.{ℕ, ◌-◌, ◌≤◌, ◌<◌, min}
 use native.Mathlib.Omega.{arith}
 use borrow.Author.Tests.{lt-ltb, le-ltb, le-leb, lt-leb, ne_eqb}
 use lib.Dec.{eqb, ltb, leb}
-use lib.ListN.{length, get_or, take, drop}
-use Rattle.std.specs.Prelude.{Some, Result, Ok, Err}
+use lib.ListN.{length, get_or, take}
+use Rattle.std.specs.Prelude.{Some, Ok, Err}
 use Rattle.std.specs.Option.{is_some}
-use Rattle.std.specs.Result.{result_err, result_unwrap_or}
+use Rattle.std.specs.Result.{result_unwrap_or}
 use Rattle.wsgs.specs.declared.RefusalLine.{RefusalLine}
-use Rattle.wsgs.specs.Basics.{pick}
 use Rattle.wsgs.specs.Text.{LF}
 use Rattle.wsgs.specs.Records.{Reading, read_record}
 use Rattle.wsgs.specs.Answers.{matching_of}
@@ -21,15 +20,14 @@ use Rattle.wsgs.specs.Program
 use Rattle.wsgs.specs.Told.{number, refusal_told}
 use Rattle.lines.proofs.Printing.{numbered, refusal_short}
 use Rattle.lines.specs.Lines.{TextWritten, slot_room, refusal_room, put_effect}
-
-use Rattle.lines.proofs.Writing.{wrote_none, wrote_is, wrote_front, wrote_rest}
+use Rattle.lines.proofs.Writing.{wrote_none, wrote_is, wrote_front}
 use Rattle.machine.specs.declared.RecordResult.{RecordResult}
 use Rattle.machine.specs.declared.SlotPairs.{SlotPairs}
 use Rattle.machine.specs.declared.SlotResult.{SlotResult}
 use Rattle.machine.specs.declared.SwitchRuns.{SwitchRuns}
 use Rattle.machine.specs.View.{machine_of, refusal_in, record_outcome_of, slot_outcome_of}
 use Rattle.events.specs.declared.Progress.{Progress}
-use Rattle.events.specs.Feeding.{kept_bytes, State, kept_reading, StepOutcome, with_machine, ended, appended, slots_after, slot_step, record_step, record_end, byte_step, next_step, next_taken, has_work}
+use Rattle.events.specs.Feeding.{kept_bytes, State, kept_reading, StepOutcome, with_machine, ended, appended, slots_after, slot_step, record_step, record_end, byte_step, next_step, has_work}
 use Rattle.events.specs.View.{state_of, ended_progress, moved_progress, StepWritten}
 use Rattle.events.proofs.Whole.{end_read, end_heading, byte_ends, byte_more}
 

@@ -73,11 +73,7 @@ fn keep(buffer: &mut [u8], count: usize, byte: u8)
 fn counted(count: usize) -> usize
     ensures count { result ≡ pick (ltb count most_counted) (count + 1) count }
 {
-    if count < MAX_COUNT {
-        count + 1
-    } else {
-        count
-    }
+    if count < MAX_COUNT { count + 1 } else { count }
 }
 
 // A byte more of the record so far.

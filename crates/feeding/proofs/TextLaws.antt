@@ -1,7 +1,7 @@
 -- A call on the rest of a text takes no more than it has, and leaves less work. Texts that are fed whole are calls of `feed` for all that they
 -- have. Assumes nothing.
 use mathlib.Core.Path.{◌≡◌, refl, sym, ap, ◌∙◌}
-use mathlib.Core.Bool.{Bool, true, false, ◌&&◌, false≢true}
+use mathlib.Core.Bool.{Bool, true, false, false≢true}
 use mathlib.Core.List.{List}
 use Prim.Native.Nat.{ℕ, suc, ◌+◌, ◌-◌, ◌*◌, ◌≤◌, ◌<◌}
 use native.Mathlib.Omega.{arith}
@@ -12,7 +12,7 @@ use Rattle.events.specs.declared.Lent.{Lent}
 use Rattle.events.specs.Feeding.{FeedOutcome, has_work, most_steps, fed}
 use Rattle.events.specs.View.{lent_state, FeedEffect, feed_effect_of, feed_effect}
 use Rattle.events.proofs.Rounds.{fed_within, fed_less}
-use Rattle.feeding.specs.Texts.{TextState, is_left, next_call, calls, TextFed}
+use Rattle.feeding.specs.Texts.{TextState, is_left, next_call, calls}
 
 module _ (text : List ℕ) (t : TextState) (within : t.taken ≤ length text) where
   abbrev block : List ℕ

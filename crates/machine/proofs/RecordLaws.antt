@@ -1,14 +1,14 @@
 -- A start, and a call on a started switch: what its outcome leaves is what the definition says. Assumes nothing.
-use mathlib.Core.Path.{◌≡◌, ap, sym, ◌∙◌}
+use mathlib.Core.Path.{◌≡◌, ap, ◌∙◌}
 use mathlib.Core.Bool.{true, and-false}
 use mathlib.Core.Logic.{◌≢◌}
 use Prim.Native.Nat.{ℕ}
 use borrow.Author.Tests.{eq-eqb, ne_eqb}
-use Rattle.std.specs.Prelude.{Option, Result, Ok, Err}
+use Rattle.std.specs.Prelude.{Result, Ok, Err}
 use Rattle.std.specs.Result.{IsErrAnd}
 use Rattle.wsgs.specs.declared.Refused.{Refused}
 use Rattle.wsgs.specs.declared.Request.{Request}
-use Rattle.wsgs.specs.Switch.{Switch, Form, Call, start, Outcome, apply, plain}
+use Rattle.wsgs.specs.Switch.{Form, Call, start, Outcome, apply, plain}
 use Rattle.wsgs.specs.Program.{RecordOutcome, number_alone, with_switch, refusal_of, run_start, run_call}
 use Rattle.wsgs.specs.Program
 use Rattle.wsgs.proofs.Refusals.{unchanged}

@@ -17,7 +17,7 @@ use Rattle.questions.proofs.Laws.Answers.{number_some}
 use Rattle.machine.specs.declared.Machine.{Machine}
 use Rattle.machine.specs.declared.SlotPairs.{SlotPairs}
 use Rattle.machine.specs.declared.SwitchRuns.{SwitchRuns}
-use Rattle.machine.specs.View.{form_of, machine_of, pairs_in, slot_outcome_of, tick_outcome_of}
+use Rattle.machine.specs.View.{machine_of, pairs_in, slot_outcome_of, tick_outcome_of}
 use Rattle.machine.proofs.RecordLaws.{accepted}
 
 -- a slot by the outcome of its tick

@@ -38,11 +38,6 @@ pub fn run_tick(machine: Machine, runs: &mut SwitchRuns<'_>) -> Result<Ticked, R
     let book = BookRuns { slots, rates };
     match form_of(machine) {
         Form::Direct => step_direct(machine.clock, book, &mut runs.turns),
-        Form::Pipelined => step_pipelined(
-            machine.clock,
-            book,
-            &mut runs.turns,
-            &mut runs.pipeline,
-        ),
+        Form::Pipelined => step_pipelined(machine.clock, book, &mut runs.turns, &mut runs.pipeline),
     }
 }

@@ -1,8 +1,6 @@
 -- The end of the heading, or of another record.
-use mathlib.Core.Path.{ap, ◌∙◌}
 use native.Mathlib.Omega.{arith}
 use borrow.Author.Tests.{not-true, not-false}
-use Rattle.wsgs.specs.Told.{refusal_told}
 use Rattle.lines.specs.Lines.{refusal_room}
 use Rattle.lines.proofs.Printing.{refusal_short}
 use Rattle.lines.proofs.Writing.{wrote_front}

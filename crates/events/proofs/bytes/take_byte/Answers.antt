@@ -15,8 +15,8 @@ returns-then-byte-eq10-clause-outcome c =
 pub returns-clause-outcome : goal.returns-clause-outcome
 returns-clause-outcome c =
     let more : (c.args.progress.after_cr && eqb c.args.byte LF) ≡ false =
-      elim c.else-progress.branch [
-        | else-progress-via-then-progress+else-byte-eq10 w ↦ rw (w.if-progress.true, ne_eqb c.args.byte LF w.if-byte-eq10.false)
-        | else-progress-via-else-progress w ↦ rw w.if-progress.false
-      ] in
+    elim c.else-progress.branch [
+      | else-progress-via-then-progress+else-byte-eq10 w ↦ rw (w.if-progress.true, ne_eqb c.args.byte LF w.if-byte-eq10.false)
+      | else-progress-via-else-progress w ↦ rw w.if-progress.false
+    ] in
     byte_kept c.args.progress c.args.buffer.now c.args.runs.now c.args.byte more (c.append.ensures.state c.args.runs.now)

@@ -1,5 +1,4 @@
 -- A slot of a tick record.
-use native.Mathlib.Omega.{arith}
 use mathlib.Core.Path.{refl}
 use Rattle.events.proofs.StepLaws.{pairs_written, slot_refused}
 use Rattle.events.proofs.steps.step_slot.Goals as goal

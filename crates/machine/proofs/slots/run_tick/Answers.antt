@@ -1,5 +1,5 @@
 -- The tick of a form, by what it gives back.
-use mathlib.Core.Path.{sym, ap, ◌∙◌}
+use mathlib.Core.Path.{ap, ◌∙◌}
 use Rattle.wsgs.specs.Switch.{tick, apply}
 use Rattle.wsgs.proofs.Calls.{tick_direct, tick_pipelined}
 use Rattle.machine.specs.View.{switch_of}
