@@ -25,26 +25,26 @@ pub fn first_requests(ports: usize, input: Input, runs: &TurnRuns<'_>) -> u32
     ensures asked { result
         ≡ first_requested ports input.0 runs.now.credits.now runs.now.queues.now }
 {
-    let Some(left) = turn_row(ports, input, runs.credits) else {
+    let Some(row) = turn_row(ports, input, runs.credits.len()) else {
         return 0;
     };
-    let Some(waiting) = turn_row(ports, input, runs.queues) else {
-        return 0;
-    };
-    if !has_credit(left) {
+    if !has_turn(ports, input, runs.queues.len()) {
         return 0;
     }
-    ready_in(left, waiting)
+    if !has_credit(ports, row, runs.credits) {
+        return 0;
+    }
+    ready_in(ports, row, runs.credits, runs.queues)
 }
 
 // What it asks for at its turn of pass two: the outputs for which it has a packet.
 pub fn second_requests(ports: usize, input: Input, queues: &[u32]) -> u32
     ensures asked { result ≡ second_requested ports input.0 queues.now }
 {
-    let Some(waiting) = turn_row(ports, input, queues) else {
+    let Some(row) = turn_row(ports, input, queues.len()) else {
         return 0;
     };
-    ready_in(waiting, waiting)
+    ready_in(ports, row, queues, queues)
 }
 
 // What a turn gives: the output that the input takes, if it takes one, and the count of looks.
