@@ -1,23 +1,21 @@
 -- When an input has a turn; and, where it has one, what it asks for, and what it takes: the first in turn of the outputs that are open to it. Assumes
 -- nothing.
-use mathlib.Core.Path.{◌≡◌, refl, sym, ◌∙◌, ap₂}
+use mathlib.Core.Path.{◌≡◌, refl, sym, ◌∙◌}
 use mathlib.Core.Bool.{Bool, true, false, not, ◌&&◌, and-false, and_self}
 use mathlib.Core.List.{List}
-use Prim.Native.Nat.{ℕ, ◌+◌, ◌-◌, ◌*◌, ◌≤◌}
+use Prim.Native.Nat.{ℕ, ◌-◌, ◌*◌, ◌≤◌}
 use native.Mathlib.Omega.{arith}
 use borrow.Author.Tests.{le-leb, not-true, not-false}
 use lib.Dec.{leb, ltb, leb→le}
-use lib.ListN.{length, get_or, drop, length-take, length-drop}
+use lib.ListN.{length}
 use Rattle.std.proofs.Math.Facts.{and_yes}
-use Rattle.std.proofs.lemmas.List.{get_or-take, get_or-drop}
-use Rattle.wsgs.specs.Basics.{pick, Port, in_turn}
+use Rattle.wsgs.specs.Basics.{pick, in_turn}
 use Rattle.std.specs.Prelude.{Option, Some}
 use Rattle.wsgs.specs.declared.Output.{Output}
-use Rattle.wsgs.specs.Words.{place, word, port_word}
+use Rattle.wsgs.specs.Words.{word, port_word}
 use Rattle.wsgs.specs.Steps.{marked}
 use Rattle.wsgs.proofs.Laws.Tests.{holds}
 use Rattle.wsgs.proofs.Laws.Marked.{marked_ext}
-use Rattle.wsgs.proofs.Laws.Words.{row_within}
 use Rattle.wsgs.proofs.Laws.InTurn.{in_turn_some}
 use Rattle.words.specs.Places.{is_port}
 use Rattle.words.proofs.PlaceLaws.{known, port_passes}
