@@ -1,4 +1,5 @@
 // What the book holds for a pair, and the sums in which its booking stands. Headroom and previews read them here.
+// Stays (d): clock, book and pair come apart, as C lends them, and are one `AskedPair` as soon as they are asked.
 ghost use Rattle.std.specs.Prelude.{◌≡◌, ◌^◌, ◌<◌, IfOk};
 ghost use Rattle.wsgs.specs.Questions.{holds_book};
 ghost use Rattle.wsgs.specs.Told.{refusal_number, book_lent};

@@ -1,4 +1,6 @@
 // What a pair has booked, worked out from its slots and its summed rate: of one pair, its rise by a further rate, and of all pairs as words.
+// Stays (a): a count stands beside lent runs, since a run that is too short or too long is lent too, and a short one is left as it is (`words::copy_words`,
+// and the clause `to_exit`).
 #![tactic(auto)]
 
 mod amounts;
@@ -36,8 +38,6 @@ pub fn rise(clock: Clock, slots: BookedSlots, rate: u32, more: u32) -> BookedSlo
     BookedSlots(raised.0 - present.0)
 }
 
-// Stays (a): here and below a count stands beside lent runs, since one that is too short or too long is lent too, and a short one is left as it is
-// (`words::copy_words`, and the clause `to_exit`).
 // Whether one of the first count rates is above 0, or the run has fewer. Without a rate the bookings are the slots.
 pub fn has_rate(rates: &[u32], count: usize) -> bool
     ensures result { result ≡ has_rate count rates.now }

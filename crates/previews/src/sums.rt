@@ -60,6 +60,7 @@ pub fn booking_after(clock: Clock, present: PairSums, operation: BookOperation) 
 }
 
 // An outcome with the sums of the pair's row and column, in which the pair has another booking than its present one.
+// Stays (d): this is the constructor for it, from three values; no field is copied as it is but the outcome.
 pub fn with_booking(present: PairSums, outcome: Result<(), Refused>, booking: u64) -> Previewed
     requires own_in_row { present.booking ≤ present.row }
     requires own_in_column { present.booking ≤ present.column }
