@@ -21,7 +21,7 @@ module _ (free permitted : ℕ → Bool) (n last : ℕ) where
 
   -- at most at what is free
   pub looks_bounded : looks free permitted n last ≤ sum (λ j. bit (free j)) n
-  looks_bounded = grind (arith, nat_tests, looks_counted, permitted, sum_le, bit_under, bit_one)
+  looks_bounded = grind (arith, nat_tests, looks_counted, sum_le, bit_under, bit_one)
 
   -- at all of it where none is given
   pub looks_all : given ≡ 0 → looks free permitted n last ≡ sum (λ j. bit (free j)) n

@@ -123,12 +123,12 @@ module _ (m : Form) (l : Ledger) (h : Seen) (now : Switch) (t : Trace m l h now)
   -- so before tick 1 nothing was answered
   none_answered : answered_by 0 ≡ 0
   unfolding count_one count_two
-  none_answered = grind (arith, nat_tests, sum_zero, none_before)
+  none_answered = grind (arith, nat_tests, sum_zero)
 
   -- and each tick adds its own
   answered_next : (k : ℕ) → answered_by (k + 1) ≡ answered_by k + bit (eqb ((l.answer (slot_of_tick l.form (k + 1))).output i) j)
   unfolding count_one count_two
-  answered_next k = grind (arith, nat_tests, sum_last, passes)
+  answered_next k = grind (arith, nat_tests, sum_last)
 
   -- what tick k left and what was answered by then are what had arrived just before it
   abbrev Account : ℕ → Type 0

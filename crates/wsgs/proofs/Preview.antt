@@ -30,10 +30,6 @@ operated slots_release s i j d = refl
 operated rate_release s i j r = refl
 
 -- which sum is shown
-shows_after : (r x y : ℕ) → r ≡ 0 → shown r x y ≡ x
-unfolding shown
-shows_after r x y e = rw e
-
 shows_asked : (r x y : ℕ) → RefusedByRule r → shown r x y ≡ y
 unfolding shown
 shows_asked r x y (inl e) = rw e
@@ -50,12 +46,12 @@ hides r x y e₀ e = rw (ne_eqb r 0 e₀) (ap (λ b. pick b y 0) (not_by_rule r 
 
 -- ON A COPY
 pub on_copy : PreviewIsOnCopy
-unfolding Previews.preview
+unfolding Previews.preview shown
 on_copy o s i j d =
     rw (operated o s i j d)
     (record {
       refusal = refl;
-      accepted = λ e. (shows_after _ _ _ e, shows_after _ _ _ e);
+      accepted = λ e. (rw e, rw e);
       asked_about = λ e. (shows_asked _ _ _ e, shows_asked _ _ _ e);
       hidden = λ e₀ e. (hides _ _ _ e₀ e, hides _ _ _ e₀ e);
     })

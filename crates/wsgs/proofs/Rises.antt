@@ -62,7 +62,13 @@ module _ (c : Clock) (m : Book) (i j : ℕ) where
   pub slots_raise : (d : ℕ) → book_refusal c m i j d ≡ 0 → (x y : ℕ) → Port n x → Port n y
       → bookings n f line (book_words c m i j d) x y ≡ updated₂ (bookings n f line m) i j (bookings n f line m i j + d) x y
   unfolding book_words bookings
-  slots_raise d e x y px py = grind (arith, nat_tests, book_asks, part, booking_whole, slots_fit, slots_moved, held)
+  slots_raise d e x y px py =
+      let a = ((book_asks c m i j d).0 e).1 in
+      let q = a.reach in
+      let p = part d a in
+      let w = booking_whole f line slots rate (omega (arith, p, q.frame)) in
+      let sum : booking f line (slots + d) rate ≡ booking f line slots rate + d = unfold booking in omega (arith, w, slots_fit d a, p, q.frame) in
+      rw (e, sym sum) (slots_moved n f line m i j q.input q.output (held n m q.long).0 (slots + d) x y px py)
 
   pub rate_raises : (r : ℕ) → rate_refusal c m i j r ≡ 0 → (x y : ℕ) → Port n x → Port n y
       → bookings n f line (rate_words c m i j r) x y ≡ updated₂ (bookings n f line m) i j (bookings n f line m i j + rise c m i j r) x y

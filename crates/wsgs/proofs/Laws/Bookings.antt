@@ -11,7 +11,7 @@ use lib.ListN.{length, get_or}
 use borrow.Author.Tests.{eq-eqb, ne_eqb}
 use Rattle.std.proofs.lemmas.Bool.Decides.{nat_tests}
 use Rattle.wsgs.specs.Basics.{pick, Port, updated₂}
-use Rattle.wsgs.specs.Words.{place, word}
+use Rattle.wsgs.specs.Words.{word}
 use Rattle.wsgs.specs.Bookings.{Book, rate_slots, booking, bookings, booking_words}
 use Rattle.wsgs.specs.Book.{with_slots, with_rate}
 use Rattle.wsgs.proofs.Laws.Tests.{at_pair}
@@ -39,7 +39,7 @@ module _ (f b : ℕ) where
   pub word_bookings : (n : ℕ) (m : Book) → n * n ≤ length m.slots → n * n ≤ length m.rates → (i j : ℕ) → Port n i → Port n j
       → word n (booking_words f b m.slots m.rates) i j ≡ bookings n f b m i j
   unfolding word bookings
-  word_bookings n m h g i j pi pj = grind (arith, nat_tests, place_inside, booking_at, place)
+  word_bookings n m h g i j pi pj = grind (arith, nat_tests, place_inside, booking_at)
 
   -- RATES
   -- nothing takes nothing

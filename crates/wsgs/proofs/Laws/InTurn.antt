@@ -123,7 +123,7 @@ in_turn_none p n last v y e z q = grind (arith, nat_tests, in_turn_is)
 -- one that passes, and nobody before it in the order, is given
 pub in_turn_at : (p : ℕ → Bool) (n last v : ℕ) → Port n v → T (p v)
     → ((y : ℕ) → Port n y → ahead n (next n last) y < ahead n (next n last) v → T (not (p y))) → in_turn p n last ≡ v
-in_turn_at p n last v pv t h = grind (arith, nat_tests, in_turn_is, next, ahead_once, next_port)
+in_turn_at p n last v pv t h = grind (arith, nat_tests, in_turn_is, ahead_once, next_port)
 
 -- the lowest that passes is given where the search begins at 1
 pub in_turn_lowest : (p : ℕ → Bool) (n v : ℕ) → Port n v → T (p v) → ((y : ℕ) → Port n y → y < v → T (not (p y))) → in_turn p n 0 ≡ v
@@ -138,7 +138,7 @@ in_turn_nobody p n last h = grind (arith, nat_tests, in_turn_is)
 -- one that passes is given, or comes nearer: it is earlier in the order from one past the one that is given
 pub in_turn_nearer : (p : ℕ → Bool) (n last v y : ℕ) → v ≡ in_turn p n last → Port n y → T (p y) → v ≢ y
     → ahead n (next n v) y < ahead n (next n last) y
-in_turn_nearer p n last v y e py t d = grind (arith, nat_tests, in_turn_is, next, next_port, ahead_nearer, ahead_once)
+in_turn_nearer p n last v y e py t d = grind (arith, nat_tests, in_turn_is, next_port, ahead_nearer, ahead_once)
 
 -- tests that agree on 1..n are given the same
 first_ext : (p q : ℕ → Bool) (n k m : ℕ) → Port n k → ((y : ℕ) → Port n y → p y ≡ q y) → first_from p n k m ≡ first_from q n k m

@@ -94,7 +94,7 @@ module _ (n last : ℕ) where
   -- up to the given one in the order is what `looked` says
   in_turn_looked : (p : ℕ → Bool) (y : ℕ) → Port n y
       → ltb (ahead n (next n last) y) (span n (next n last) n (in_turn p n last)) ≡ looked last (in_turn p n last) y
-  in_turn_looked p y q = grind (arith, nat_tests, first_is, next, next_port, moved, ahead_within, place)
+  in_turn_looked p y q = grind (arith, nat_tests, first_is, next_port, moved, ahead_within, place)
 
 -- so the looks are a sum
 pub looks_counted : (free permitted : ℕ → Bool) (n last : ℕ)
