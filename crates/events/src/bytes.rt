@@ -48,7 +48,8 @@ fn end_record(
         };
     }
     let kept = progress.count.saturating_sub(1).min(KEPT_BYTES);
-    let reading = read_record(machine.form.is_some(), &buffer[..kept]);
+    let running = machine.form.is_some();
+    let reading = read_record(running, &buffer[..kept]);
     let obeyed = obey(machine, reading, runs);
     let outcome = obeyed.outcome;
     FeedResult {
