@@ -409,7 +409,7 @@ def point3(items):
                 p.add(f, 'loop')
             else:
                 m = re.match(r'(\w+) in (.*\.\..*)$', head)
-                if not m:
+                if not m or m.group(1) == '_':
                     continue
                 name = m.group(1)
                 if re.search(r'\[[^\]]*\b' + name + r'\b[^\]]*\]', body):

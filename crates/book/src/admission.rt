@@ -55,6 +55,7 @@ impl BookingRequest<'_> {
 }
 
 // Whether a pair's word in a run, of slots or of rates, holds as much: question 10.
+// Stays (d): on `PairFits` in the clause see pairs.rt.
 pub fn check_held(ports: usize, run: &[u32], pair: Pair, amount: u64) -> Result<(), Refused>
     requires pair_fits { PairFits ports run.now pair.input.0 pair.output.0 }
     ensures refusal { refusal_number result ≡ held_refusal ports run.now pair.input.0 pair.output.0 amount }

@@ -24,8 +24,7 @@ impl BookingRequest<'_> {
         ensures fits { result.0 < 2 ^ 33 }
     {
         let present = self.asked.booked(other);
-        let own = self.asked.pair;
-        if other.input.0 != own.input.0 || other.output.0 != own.output.0 {
+        if other != self.asked.pair {
             return present;
         }
         BookedSlots(present.0 + self.more.0)

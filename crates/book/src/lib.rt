@@ -1,4 +1,6 @@
 // The book and the arrivals of a switch: booking by slots and by rate, release of either, and arrival.
+// Stays (a): book, book_rate, release and release_rate are the four that C calls (`kivdrag_book` ..), and each is lent one run to write and the other
+// to read. One function for them would ask its callers for both as `&mut`. What they share is `check_operation`.
 #![tactic(auto)]
 
 ghost use Rattle.std.specs.Prelude.{◌≡◌};

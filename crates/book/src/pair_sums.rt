@@ -1,4 +1,5 @@
 // What the book holds for a pair, and the sums in which its booking stands. Headroom and previews read them here.
+// Stays (d): clock, book and pair come apart, as C lends them, and are one `AskedPair` as soon as they are asked.
 ghost use Rattle.std.specs.Prelude.{◌≡◌, ◌^◌, ◌<◌, IfOk};
 ghost use Rattle.wsgs.specs.Questions.{holds_book};
 ghost use Rattle.wsgs.specs.Told.{refusal_number, book_lent};
@@ -37,16 +38,11 @@ pub fn pair_sums(clock: Clock, book: BookRuns<'_>, pair: Pair) -> Result<PairSum
         pair,
     };
     let ports = clock.ports as usize;
-    let held = word_of(ports, book.slots, pair);
-    let rate = word_of(ports, book.rates, pair);
-    let own = asked.booked(pair);
-    let row = asked.sum(Line::Row);
-    let column = asked.sum(Line::Column);
     Ok(PairSums {
-        slots: held,
-        rate: rate,
-        booking: own.0,
-        row: row,
-        column: column,
+        slots: word_of(ports, book.slots, pair),
+        rate: word_of(ports, book.rates, pair),
+        booking: asked.booked(pair).0,
+        row: asked.sum(Line::Row),
+        column: asked.sum(Line::Column),
     })
 }

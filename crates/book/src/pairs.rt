@@ -1,4 +1,6 @@
 // The word of a pair, read, written, raised and lowered.
+// Stays (d): that a run holds the pair (`PairFits`) is said of two arguments here and in `check_held` and `check_queue`. A struct of both with a ghost
+// field would be built at each call for one read or write, and twice, over `&[u32]` and over `&mut [u32]`.
 ghost use Rattle.std.specs.Prelude.{◌≡◌, ◌+◌, ◌-◌, ◌^◌, ◌≤◌, ◌<◌};
 ghost use Rattle.wsgs.specs.Words.{word, put};
 ghost use Rattle.book.specs.Refusals.{PairFits};
@@ -23,7 +25,8 @@ pub fn put_word(ports: usize, run: &mut [u32], pair: Pair, new: u32)
 }
 
 // Adds to the word of a pair.
-// Stays (d): one function for this and the next, with a closure of the word, would say less at each of its five calls.
+// Stays (d): one function for this and the next would take the sum or the difference as a closure at each of its five calls, `|held| held + ..`,
+// which is longer than the name.
 pub fn add_to_word(ports: usize, run: &mut [u32], pair: Pair, amount: u64)
     requires pair_fits { PairFits ports run.old pair.input.0 pair.output.0 }
     requires sum_fits { word ports run.old pair.input.0 pair.output.0 + amount < 2 ^ 32 }

@@ -7,6 +7,7 @@ use crate::pairs::word_of;
 use wsgs::{MAX_QUEUE, Pair, Refused};
 
 // Whether a pair's queue can take so many packets more: question 11.
+// Stays (d): on `PairFits` in the clause see pairs.rt.
 pub fn check_queue(ports: usize, queues: &[u32], pair: Pair, packets: u64) -> Result<(), Refused>
     requires pair_fits { PairFits ports queues.now pair.input.0 pair.output.0 }
     requires packets_in_range { packets ≤ 65535 }

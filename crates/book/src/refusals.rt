@@ -1,4 +1,5 @@
 // Why each operation is refused, if it is. An operation on the book and its preview ask here.
+// Stays (d): `AskedPair` is clock, runs and pair in one, once they are asked; before that the public calls have them apart, as C lends them.
 ghost use Rattle.std.specs.Prelude.{◌≡◌, IsTrue};
 ghost use Rattle.wsgs.specs.Questions.{holds_book};
 ghost use Rattle.wsgs.specs.Book.{arrive_refusal};
@@ -46,6 +47,7 @@ pub fn check_operation(
 }
 
 // Whether the amount is in range: question 6.
+// Stays (d): two kinds of amount have two ranges, and each arm is one test of its own amount; closures would hide which.
 fn amount_in_range(clock: Clock, operation: BookOperation) -> bool
     ensures result { result ≡ (amount_asked operation clock).yes }
 {
@@ -61,6 +63,7 @@ fn amount_in_range(clock: Clock, operation: BookOperation) -> bool
 
 impl AskedPair<'_> {
     // Of a booking, by the slots that it counts as, what the book's rule asks; of a release, whether as much is held.
+    // Stays (d): the operation comes as data, and each arm is one call on its own amount and run; closures would be made by such a match too.
     fn check_last(self, operation: BookOperation) -> Result<(), Refused>
         requires amount_in_range { IsTrue (amount_asked operation self.clock).yes }
         ensures refusal { refusal_number result
@@ -69,7 +72,11 @@ impl AskedPair<'_> {
     {
         let ports = self.clock.ports as usize;
         match operation {
-            BookOperation::Book(amount) => BookingRequest { asked: self, more: amount }.check_rule(),
+            BookOperation::Book(amount) => BookingRequest {
+                asked: self,
+                more: amount,
+            }
+            .check_rule(),
             BookOperation::BookRate(rate) => {
                 let more = self.rise(rate as u32);
                 BookingRequest { asked: self, more }.check_rule()

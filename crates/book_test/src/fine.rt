@@ -1,4 +1,5 @@
 // A fine book: calls one after the other on a book of two ports, in frames of three slots on lines of 1000.
+// Stays (d): the calls of a case are its data.
 use crate::pairs::Book;
 use crate::show::{clock_of_kind, pair};
 use std::io;

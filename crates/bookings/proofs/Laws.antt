@@ -4,11 +4,11 @@ use mathlib.Core.Bool.{Bool, true, false, ◌||◌, true≢false}
 use mathlib.Core.List.{List, [], ◌∷◌, ◌++◌}
 use mathlib.Core.Logic.{◌⊎◌, inl, inr}
 use Prim.Native.Nat.{ℕ, zero, suc, ◌+◌, ◌-◌, ◌*◌, ◌/◌, min, ◌≤◌, ◌<◌}
-use native.Mathlib.Nat.{mul-le-mul_left, mul-le-mul_right, suc-mul, div-lt_iff_lt-mul}
+use native.Mathlib.Nat.{mul-le-mul_left, suc-mul, div-lt_iff_lt-mul}
 use native.Mathlib.Omega.{arith}
 use native.Mathlib.Decide.{ℕ_discrete, dec_le}
 use lib.Dec.{ltb}
-use lib.Bits.{bit_or, or_zero_l, or_add_and, and_le_l, and_le_r}
+use lib.Bits.{bit_or}
 use lib.ListN.{length, get_or, set, take, drop}
 use borrow.Author.Tests.{eq-eqb, ne_eqb, le-leb, lt-leb, lt-ltb, le-ltb, ltb-false}
 use Rattle.std.specs.List.{fold, zip, enumerate_from, slice_range}
@@ -21,7 +21,7 @@ use Rattle.wsgs.specs.Words.{copied}
 use Rattle.wsgs.specs.Bookings.{rate_slots, booking, booking_words}
 use Rattle.wsgs.proofs.Laws.Bookings.{rate_slots_none, booking_words_length, booking_at}
 use Rattle.words.specs.Runs.{copy_words}
-use Rattle.words.proofs.Laws.{copy_more, copy_fits, copy_short}
+use Rattle.words.proofs.Laws.{or_none, copy_more, copy_fits, copy_short}
 use Rattle.bookings.specs.Rises.{rise_of, has_rate}
 
 module _ (f b r : ℕ) where
@@ -50,13 +50,6 @@ module _ (f b r : ℕ) where
         (div-lt_iff_lt-mul {k = b} {x = x + (b - 1)} {y = suc x} h).1 (omega (arith, suc-mul x b, mul-le-mul_left {m = 1} {n = b} x h)),
       )
 
-  -- products of words, and of a summed rate with a frame in range
-  pub words_product : r ≤ 4294967295 → f ≤ 4294967295 → r * f ≤ 18446744065119617025
-  words_product h g = omega (arith, mul-le-mul_right f h, mul-le-mul_left {n = 4294967295} 4294967295 g)
-
-  pub sum_product : r ≤ 8589934590 → f ≤ 10000 → r * f ≤ 85899345900000
-  sum_product h g = omega (arith, mul-le-mul_right f h, mul-le-mul_left {n = 10000} 8589934590 g)
-
 -- the rise of a booking
 module _ (f b s r more : ℕ) where
   pub long_frame : 10000 < f → rise_of f b s r more ≡ 0
@@ -66,15 +59,6 @@ module _ (f b s r more : ℕ) where
   pub rise_is : f ≤ 10000 → rise_of f b s r more ≡ booking f b s (r + more) - booking f b s r
   unfolding rise_of
   rise_is h = rw (le-leb f 10000 h)
-
--- A WORD IS 0 where the union of words has no bit
-pub or_none : (a b : ℕ) → ltb 0 (bit_or a b) ≡ (ltb 0 b || ltb 0 a)
-or_none a b = go (ℕ_discrete a 0) (ℕ_discrete b 0)
-  where
-    go : Dec (a ≡ 0) → Dec (b ≡ 0) → ltb 0 (bit_or a b) ≡ (ltb 0 b || ltb 0 a)
-    go (yes e) (yes d) = rw (e, d) (ap (ltb 0) (or_zero_l 0))
-    go e (no d) = rw (lt-ltb 0 (bit_or a b) (omega (arith, or_add_and a b, and_le_l a b)), lt-ltb 0 b (omega arith))
-    go (no e) (yes d) = rw (lt-ltb 0 (bit_or a b) (omega (arith, or_add_and a b, and_le_r a b)), d, lt-ltb 0 a (omega arith))
 
 -- one word more
 pub union_more : (m : List ℕ) (k u : ℕ) → ltb 0 u ≡ some_of (λ x. ltb 0 (get_or m (x - 1) 0)) k

@@ -1,4 +1,6 @@
 // What a pair has booked, worked out from its slots and its summed rate: of one pair, its rise by a further rate, and of all pairs as words.
+// Stays (a): a count stands beside lent runs, since a run that is too short or too long is lent too, and a short one is left as it is (`words::copy_words`,
+// and the clause `to_exit`).
 #![tactic(auto)]
 
 mod amounts;
@@ -54,6 +56,9 @@ fn union_of(words: &[u32]) -> u32
 }
 
 // The first count words of a run become the bookings at these places; where a run has fewer, all stay as they are.
+// Stays (b): two ways, since a copy of the slots alone takes 404 ns of a tick of 32 ports where the bookings worked out take 2,657 ns (README, Which form).
+// Inlined, since both forms call it: as a call it made a tick of 8 ports and more 10 % slower.
+#[inline(always)]
 pub fn copy_bookings(clock: Clock, book: BookRuns<'_>, to: &mut [u32], count: usize)
     ensures to_exit { to.new ≡ copy_words count
         (booking_words clock.frame clock.line book.entry.slots.now book.entry.rates.now) to.old }

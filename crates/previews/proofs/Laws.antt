@@ -1,4 +1,3 @@
--- Laws of differences, headroom and previews.
-pub mod Differences
+-- Laws of headroom and previews.
 pub mod Headrooms
 pub mod Previews

@@ -1,4 +1,6 @@
 // What the book has room for, and what an operation on it would give: headroom of a pair, and a preview of each operation. Nothing is changed.
+// Stays (a): the four previews are those that C calls (`kivdrag_preview_book` ..), each one line over `preview_operation`; clock, book and pair come
+// apart, as C lends them, and are one `AskedPair` once they are asked.
 #![tactic(auto)]
 
 ghost use Rattle.std.specs.Prelude.{◌≡◌};

@@ -27,6 +27,7 @@ fn is_of_rule(refused: Refused) -> bool
 }
 
 // An outcome without sums.
+// Stays (d): this is the constructor for it; a `From` of every outcome would say that none has sums.
 pub fn without_sums(outcome: Result<(), Refused>) -> Previewed
     ensures result { preview_told result ≡ preview_of (refusal_number outcome) 0 0 }
 {
@@ -38,6 +39,7 @@ pub fn without_sums(outcome: Result<(), Refused>) -> Previewed
 }
 
 // The booking that the pair would have: its present one with what a booking counts as, or the one that a release leaves.
+// Stays (d): the operation comes as data, and each arm works on its own amount and word; closures would be made by such a match too.
 pub fn booking_after(clock: Clock, present: PairSums, operation: BookOperation) -> u64
     requires amount_fits { AmountFits operation present }
     requires present_fits { present.booking < 2 ^ 38 }
@@ -58,6 +60,7 @@ pub fn booking_after(clock: Clock, present: PairSums, operation: BookOperation) 
 }
 
 // An outcome with the sums of the pair's row and column, in which the pair has another booking than its present one.
+// Stays (d): this is the constructor for it, from three values; no field is copied as it is but the outcome.
 pub fn with_booking(present: PairSums, outcome: Result<(), Refused>, booking: u64) -> Previewed
     requires own_in_row { present.booking ≤ present.row }
     requires own_in_column { present.booking ≤ present.column }
@@ -68,11 +71,9 @@ pub fn with_booking(present: PairSums, outcome: Result<(), Refused>, booking: u6
         (present.row - present.booking + booking)
         (present.column - present.booking + booking) }
 {
-    let row = present.row - present.booking + booking;
-    let column = present.column - present.booking + booking;
     Previewed {
-        outcome: outcome,
-        row: row,
-        column: column,
+        outcome,
+        row: present.row - present.booking + booking,
+        column: present.column - present.booking + booking,
     }
 }

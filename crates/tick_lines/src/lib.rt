@@ -8,6 +8,7 @@ use std::fmt;
 use wsgs::{Clock, Refused, Served, Ticked};
 
 // A clock, with something in the word for the kind of the book, which no tick changes.
+// Stays (d): a constructor; a From would take the four as a tuple, without their names.
 pub fn clock_at(ports: u32, frame: u32, slot: u32, line: u32) -> Clock
     ensures clock { result ≡ clock_of ports frame slot line 7 }
 {

@@ -13,13 +13,13 @@ use lib.Bits.{bit_and, bit_or, and_shr, and_mod, and_self, and_zero_l, and_zero_
 use lib.Count.{count_trailing_zeros}
 use lib.Dec.{T, eqb, ltb}
 use lib.ListN.{get_or}
+use Rattle.std.proofs.Math.Facts.{and_yes}
 use Rattle.std.specs.Prelude.{Option, Some, None}
 use Rattle.std.specs.Option.{option_or}
 use Rattle.wsgs.specs.declared.Output.{Output}
 use Rattle.wsgs.specs.Basics.{pick, bit, Port, some_of, in_turn, later}
 use Rattle.wsgs.specs.Words.{place, word}
 use Rattle.wsgs.specs.Steps.{marked}
-use Rattle.wsgs.proofs.Laws.Tests.{both}
 use Rattle.wsgs.proofs.Laws.Some.{some_there}
 use Rattle.wsgs.proofs.Laws.InTurn.{in_turn_ext, in_turn_lowest, in_turn_nobody, in_turn_above, in_turn_wide}
 use Rattle.wsgs.proofs.Laws.Marked.{marked_suc, marked_lt, marked_bit, marked_ext, marked_none}
@@ -197,7 +197,7 @@ module _ (n : ℕ) (few : n ≤ 32) (free all : ℕ) (full : all ≡ all_free n)
   pub open_turn : (asked last : ℕ) → in_turn (in_mask (bit_and outputs asked)) 32 last ≡ common_in_turn free asked n last
   open_turn asked last =
       in_turn_wide n 32 few (in_mask (bit_and outputs asked)) last
-      (λ y p t. inside y p (both (in_mask outputs y) (in_mask asked y) (rw (common_outputs outputs asked y p.low) at t)).0)
+      (λ y p t. inside y p (and_yes (in_mask outputs y) (in_mask asked y) (rw (common_outputs outputs asked y p.low) at t)).0)
       ∙ in_turn_ext _ _ n last last (λ y p. common_outputs outputs asked y p.low ∙ ap (λ b. b && in_mask asked y) (free_inside y p)) refl
     where
       inside : (y : ℕ) → Port 32 y → T (in_mask outputs y) → y ≤ n

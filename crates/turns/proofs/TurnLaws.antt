@@ -8,13 +8,14 @@ use native.Mathlib.Omega.{arith}
 use borrow.Author.Tests.{le-leb, not-true, not-false}
 use lib.Dec.{leb, ltb, leb→le}
 use lib.ListN.{length, get_or, drop, length-take, length-drop}
+use Rattle.std.proofs.Math.Facts.{and_yes}
 use Rattle.std.proofs.lemmas.List.{get_or-take, get_or-drop}
 use Rattle.wsgs.specs.Basics.{pick, Port, in_turn}
 use Rattle.std.specs.Prelude.{Option, Some}
 use Rattle.wsgs.specs.declared.Output.{Output}
 use Rattle.wsgs.specs.Words.{place, word, port_word}
 use Rattle.wsgs.specs.Steps.{marked}
-use Rattle.wsgs.proofs.Laws.Tests.{both, holds}
+use Rattle.wsgs.proofs.Laws.Tests.{holds}
 use Rattle.wsgs.proofs.Laws.Marked.{marked_ext}
 use Rattle.wsgs.proofs.Laws.Words.{row_within}
 use Rattle.wsgs.proofs.Laws.InTurn.{in_turn_some}
@@ -47,7 +48,7 @@ module _ (n i : ℕ) (run : List ℕ) where
   pub due : {answer : Bool} → answer ≡ has_turn n i (length run) → not answer ≡ false → Turn n i (length run)
   unfolding has_turn
   due e h =
-      let a = both (is_port n i) (leb (n * n) (length run)) (rw (sym e ∙ not-false _ h) tt) in
+      let a = and_yes (is_port n i) (leb (n * n) (length run)) (rw (sym e ∙ not-false _ h) tt) in
       let k = known n i {answer = true} (sym (holds (is_port n i) a.0)) refl in
       record { few = k.few; port = k.port; long = leb→le (n * n) (length run) a.1 }
 

@@ -6,9 +6,10 @@ use native.Mathlib.Nat.{mul-le-mul_right}
 use native.Mathlib.Omega.{arith}
 use borrow.Author.Tests.{le-leb, not-true, not-false}
 use lib.Dec.{leb, leb→le}
+use Rattle.std.proofs.Math.Facts.{and_yes}
 use Rattle.wsgs.specs.Basics.{pick, between, Port}
 use Rattle.wsgs.specs.Words.{place}
-use Rattle.wsgs.proofs.Laws.Tests.{both, between_port, range_in}
+use Rattle.wsgs.proofs.Laws.Tests.{between_port, range_in}
 use Rattle.wsgs.proofs.Laws.Words.{row_within, place_inside}
 use Rattle.words.specs.Places.{is_port, row_of, place_of}
 
@@ -40,7 +41,7 @@ module _ (n x : ℕ) where
   unfolding is_port
   known e h =
       let yes : is_port n x ≡ true = sym e ∙ not-false _ h in
-      let a = both (leb n 32) (between 1 n x) (rw yes tt) in
+      let a = and_yes (leb n 32) (between 1 n x) (rw yes tt) in
       record { yes = yes; few = leb→le n 32 a.0; port = between_port n x a.1 }
 
   -- and where it is answered no

@@ -5,15 +5,16 @@ use mathlib.Core.Path.{◌≡◌, refl, sym, ◌∙◌, ap, ap₂, fun_ext}
 use mathlib.Core.Bool.{Bool, true, false}
 use mathlib.Core.List.{List, [], ◌∷◌}
 use Prim.Native.Nat.{ℕ, zero, suc, ◌+◌, ◌-◌, ◌≤◌, ◌<◌, ◌/◌, ◌%◌, ◌^◌}
-use native.Mathlib.Decide.{dec_lt, ℕ_discrete}
+use native.Mathlib.Decide.{dec_lt}
 use native.Mathlib.Nat.{div-eq_of_lt, lt_of_lt_of_le}
 use native.Mathlib.Omega.{arith}
-use borrow.Author.Tests.{eq-eqb, ne_eqb, lt-ltb}
-use lib.Dec.{T, eqb, ltb}
+use borrow.Author.Tests.{lt-ltb}
+use lib.Dec.{eqb, ltb}
 use lib.ListN.{get_or, get_or-eq_default}
 use lib.Pow.{pow_mono}
+use Rattle.std.proofs.lemmas.Bool.Decides.{nat_tests}
 use Rattle.wsgs.specs.declared.Clock.{Clock}
-use Rattle.wsgs.specs.Basics.{pick, bit, between, Port}
+use Rattle.wsgs.specs.Basics.{pick, bit, Port}
 use Rattle.wsgs.specs.Steps.{Matching, empty_matching, View, nine_steps, listed, outputs_of, pass_word_of}
 use Rattle.wsgs.specs.Words.{word}
 use Rattle.wsgs.specs.Questions.{Outcome, Effect, refused, clock_can_advance}
@@ -26,19 +27,15 @@ use Rattle.wsgs.specs.Direct
 use Rattle.wsgs.specs.Pipelined
 use Rattle.wsgs.specs.Answers.{StartResult, TickResult, start_effect, tick_effect, start_outcome, tick_outcome, matching_of}
 use Rattle.wsgs.specs.Switch.{Switch, direct, pipelined, start, book, book_rate, release, release_rate, headroom, preview, arrive, tick, apply, direct_runs, pipelined_runs, of_direct, of_pipelined, of_asking, of_book, of_queues}
-use Rattle.wsgs.proofs.Laws.Tests.{between_port}
 use Rattle.wsgs.proofs.Laws.Listed.{listed_length, listed_at}
 use Rattle.wsgs.proofs.Laws.Marked.{marked_lt, marked_bit}
-use Rattle.wsgs.proofs.Laws.Questions.{all_yes, direct_yes, pipelined_yes}
+use Rattle.wsgs.proofs.Laws.Questions.{all_yes, direct_yes}
 use Rattle.wsgs.proofs.Steps.{one_outside, two_outside}
 
 -- A matching of the inputs 1..32 alone.
 record Bounded (m : Matching) : Type 0 where
   output : (i : ℕ) → (Port 32 i → ⊥) → m.output i ≡ 0
   first : (i : ℕ) → (Port 32 i → ⊥) → m.first i ≡ false
-
-none_bounded : Bounded empty_matching
-none_bounded = record { output = λ i h. refl; first = λ i h. refl }
 
 -- Such a one is told whole by 32 outputs and a word.
 module _ (m : Matching) (b : Bounded m) where
@@ -95,26 +92,10 @@ module _ (n : ℕ) (few : n ≤ 32) where
         first = λ i h. ap (ltb 0) (one_outside n credit v.queue v.last n i (narrow h));
       }
 
-  -- the test of the ports fails outside them
-  outside : (i : ℕ) → (Port 32 i → ⊥) → between 1 n i ≡ false
-  outside i h = fails (between 1 n i) (λ t. narrow h (between_port n i t))
-    where
-      fails : (c : Bool) → (T c → ⊥) → c ≡ false
-      fails true g = absurd (g tt)
-      fails false g = refl
-
-  handed_bounded : (flight : List ℕ) (s : ℕ) → Bounded (Pipelined.handed_out n flight s)
-  unfolding Pipelined.handed_out
-  handed_bounded flight s = record { output = λ i h. rw (outside i h); first = λ i h. rw (outside i h) }
-
 -- accepted or refused
 either_bounded : {Runs : Type 0} (r : ℕ) (c : Clock) (w : Runs) (o : Outcome Runs) → (r ≡ 0 → Bounded o.matching)
     → Bounded (pick (eqb r 0) o (refused r c w)).matching
-either_bounded r c w o h = go (ℕ_discrete r 0)
-  where
-    go : Dec (r ≡ 0) → Bounded (pick (eqb r 0) o (refused r c w)).matching
-    go (yes e) = rw (eq-eqb r 0 e) (h e)
-    go (no e) = rw (ne_eqb r 0 e) none_bounded
+either_bounded r c w o h = grind (arith, nat_tests)
 
 direct_bounded : (c : Clock) (w : Direct.Runs) → Bounded (Direct.tick c w).matching
 unfolding Direct.tick Direct.ticked Direct.paired Direct.tick_refusal
@@ -125,22 +106,12 @@ direct_bounded c w =
 
 pipelined_bounded : (c : Clock) (w : Pipelined.Runs) → Bounded (Pipelined.tick c w).matching
 unfolding Pipelined.tick Pipelined.ticked Pipelined.tick_refusal
-pipelined_bounded c w =
-    let qs = clock_can_advance c.slot ∷ [] in
-    let n = c.ports in
-    let k = c.slot + 1 in
-    let t = Pipelined.turns n c.frame (Pipelined.copied_at n c.frame c.line k w) k (Pipelined.turn_runs w) n in
-    either_bounded (Pipelined.tick_refusal c w) c w (Pipelined.ticked c w)
-    (λ e. handed_bounded n (pipelined_yes n c.frame w qs (all_yes (Pipelined.questions n c.frame w qs) (omega arith) e)).1.ports.1 t.flight (k + 1))
+pipelined_bounded c w = grind (arith, nat_tests)
 
 -- A START has no pairs, accepted or refused.
 either_back : {Runs : Type 0} (r : ℕ) (k : Clock) (w : Runs) (o : Outcome Runs) → o.matching ≡ empty_matching
     → start_outcome (start_effect (pick (eqb r 0) o (refused r k w))) ≡ pick (eqb r 0) o (refused r k w)
-either_back r k w o e = go (eqb r 0)
-  where
-    go : (c : Bool) → start_outcome (start_effect (pick c o (refused r k w))) ≡ pick c o (refused r k w)
-    go true = ap (λ m. record { refusal = o.refusal; matching = m; clock = o.clock; runs = o.runs }) (sym e)
-    go false = refl
+either_back r k w o e = grind (arith, nat_tests)
 
 direct_start_back : (n f b : ℕ) (g : Bool) (c : Clock) (w : Direct.Runs) → start_outcome (start_effect (Direct.start n f b g c w)) ≡ Direct.start n f b g c w
 unfolding Direct.start Direct.started

@@ -1,12 +1,12 @@
 -- The fine book accepts what the plain one accepts. At the end of a list of calls a plain book keeps every row and every column to half a frame, rounded
 -- up; so does one more booking that it accepts, and then inequality (2) holds of every booked pair, of which the fine book asks a few. Assumes nothing.
 use mathlib.Core.Path.{◌≡◌, refl, ◌∙◌, sym, ap, subst}
-use mathlib.Core.Bool.{Bool, true, false}
+use mathlib.Core.Bool.{false}
 use Prim.Native.Nat.{ℕ}
 use native.Mathlib.Omega.{arith}
 use lib.Dec.{eqb}
+use Rattle.std.proofs.lemmas.Bool.Decides.{nat_tests}
 use Rattle.wsgs.specs.declared.Clock.{Clock}
-use Rattle.wsgs.specs.Clocks.{is_fine}
 use Rattle.wsgs.specs.Basics.{pick, bit}
 use Rattle.wsgs.specs.Bookings.{bookings}
 use Rattle.wsgs.specs.Questions.{Outcome, refused}
@@ -16,10 +16,10 @@ use Rattle.wsgs.specs.Preview.{slots_booking, rate_booking, slots_release, rate_
 use Rattle.wsgs.specs.Preview as Previews
 use Rattle.wsgs.specs.Direct
 use Rattle.wsgs.specs.Pipelined
-use Rattle.wsgs.specs.Switch.{Switch, Form, direct, pipelined, plain, Call, start, book, book_rate, release, release_rate, headroom, preview, arrive, tick, apply, direct_runs, pipelined_runs, final}
-use Rattle.wsgs.specs.Ledger.{Ledger, booked, ledger_of}
-use Rattle.wsgs.specs.Seen.{Seen, seen}
-use Rattle.wsgs.specs.Claims.{Admits, Admitted, with_kind, FineAcceptsPlain}
+use Rattle.wsgs.specs.Switch.{Switch, Form, direct, pipelined, plain, Call, start, book, book_rate, release, release_rate, headroom, preview, arrive, tick, apply, direct_runs, pipelined_runs}
+use Rattle.wsgs.specs.Ledger.{Ledger, booked}
+use Rattle.wsgs.specs.Seen.{Seen}
+use Rattle.wsgs.specs.Claims.{Admitted, with_kind, FineAcceptsPlain}
 use Rattle.wsgs.proofs.Laws.Rule.{Bounded, Kept, kept_below, plain_admitted}
 use Rattle.wsgs.proofs.Refusals.{book_asks, rate_asks}
 use Rattle.wsgs.proofs.Admission.{tells_bookings}
@@ -28,11 +28,7 @@ use Rattle.wsgs.proofs.Trace.{ledger_clock, Trace, trace_of}
 -- the number of a start or a tick does not depend on the clock that it would leave
 same_number : {Runs : Type 0} (r : ℕ) (c c' : Clock) (w : Runs) (done done' : Outcome Runs) → done.refusal ≡ done'.refusal
     → (pick (eqb r 0) done (refused r c w)).refusal ≡ (pick (eqb r 0) done' (refused r c' w)).refusal
-same_number r c c' w done done' d = go (eqb r 0)
-  where
-    go : (b : Bool) → (pick b done (refused r c w)).refusal ≡ (pick b done' (refused r c' w)).refusal
-    go true = d
-    go false = refl
+same_number r c c' w done done' d = grind (arith, nat_tests)
 
 -- ON A SWITCH whose plain book keeps rows and columns
 abbrev PlainBook : Switch → Type 0
@@ -47,13 +43,7 @@ module _ (s : Switch) (kind : ℕ) (is_plain : s.clock.fine ≡ 0) (bounded : Pl
 
   -- a booking that is admitted is admitted by a book of any kind
   admitted_too : (i j d : ℕ) → Admitted c s.book i j d → Admitted other.clock s.book i j d
-  admitted_too i j d a =
-      let q = a.reach in
-      record {
-        reach = record { ports = q.ports; frame = q.frame; long = q.long; input = q.input; output = q.output };
-        rule = plain_admitted c.ports c.frame (bookings c.ports c.frame c.line s.book) i j d q.input q.output bounded
-            (subst (λ g. Admits (is_fine g) c.ports c.frame (bookings c.ports c.frame c.line s.book) i j d) is_plain a.rule) (is_fine kind);
-      }
+  admitted_too i j d a = grind (arith, nat_tests, plain_admitted)
 
   book_too : (i j d : ℕ) → (apply (book i j d) s).refusal ≡ 0 → (apply (book i j d) other).refusal ≡ 0
   unfolding apply
@@ -61,9 +51,7 @@ module _ (s : Switch) (kind : ℕ) (is_plain : s.clock.fine ≡ 0) (bounded : Pl
 
   rate_too : (i j r : ℕ) → (apply (book_rate i j r) s).refusal ≡ 0 → (apply (book_rate i j r) other).refusal ≡ 0
   unfolding apply rise
-  rate_too i j r e =
-      let a = (rate_asks c s.book i j r).0 e in
-      (rate_asks other.clock s.book i j r).1 (a.0, admitted_too i j (rise c s.book i j r) a.1)
+  rate_too i j r e = grind (arith, nat_tests, rate_asks, admitted_too)
 
   -- and the other calls are not asked about it
   pub accepted_too : (x : Call) → (apply x s).refusal ≡ 0 → (apply x other).refusal ≡ 0
@@ -98,7 +86,4 @@ module _ (m : Form) (l : Ledger) (h : Seen) (now : Switch) (t : Trace m l h now)
 
 -- every list of one form that opens with an accepted start
 pub fine_accepts : FineAcceptsPlain
-fine_accepts m cs s o t e x word =
-    let r = trace_of m cs s o t in
-    accepted_too (final cs s) word (word_is_0 m (ledger_of cs s) (seen cs s) (final cs s) r e)
-    (plain_book m (ledger_of cs s) (seen cs s) (final cs s) r e) x
+fine_accepts m cs s o t e x word = grind (arith, nat_tests, trace_of, accepted_too, word_is_0, plain_book)

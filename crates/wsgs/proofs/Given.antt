@@ -2,7 +2,7 @@
 -- ticks leave the words, and a turn that gives an output notes it. And so no output starves: at each turn of n in a row at which an output is open to an
 -- input, it is given, or comes nearer in the input's order. Assumes nothing.
 use mathlib.Core.Path.{◌≡◌, refl, sym, ◌∙◌, ap, ap₂}
-use mathlib.Core.Bool.{Bool, true, false}
+use mathlib.Core.Bool.{false}
 use mathlib.Core.Logic.{◌⊎◌, inl, inr}
 use Prim.Native.Nat.{ℕ, zero, suc, ◌+◌, ◌-◌, ◌*◌, ◌≤◌, ◌<◌}
 use native.Mathlib.Numerals.{add-one}
@@ -10,11 +10,12 @@ use native.Mathlib.Omega.{arith}
 use native.Mathlib.Decide.{ℕ_discrete}
 use lib.Dec.{T, ltb}
 use borrow.Author.Tests.{lt-ltb}
+use Rattle.std.proofs.lemmas.Bool.Decides.{nat_tests}
 use Rattle.wsgs.specs.Basics.{pick, Port, next, later}
 use Rattle.wsgs.specs.Words.{port_word}
 use Rattle.wsgs.specs.Steps.{Matching, View}
 use Rattle.wsgs.specs.Direct
-use Rattle.wsgs.specs.Switch.{Switch, Form, direct, pipelined, direct_runs}
+use Rattle.wsgs.specs.Switch.{Switch, direct, pipelined, direct_runs}
 use Rattle.wsgs.specs.Ledger.{Ledger, answered, has_turns, tick_two, slot_of_one, slot_of_two, given_one, given_two, last_given, last_before_two, credit_left}
 use Rattle.wsgs.specs.Seen.{Seen, first_view, second_view, steps_answer}
 use Rattle.wsgs.specs.Claims.{LastFound, Open}
@@ -53,11 +54,7 @@ module _ (l : Ledger) (h : Seen) (now : Switch) (t : Trace direct l h now) where
   -- so what they give is the answer's output
   both_given : (k i x : ℕ) → later (given_two l k i) (later (given_one l k i) x) ≡ later ((l.answer k).output i) x
   unfolding given_one given_two
-  both_given k i x = rw (one_slot k i, two_slot k i) (go ((l.answer k).first i) ((l.answer k).output i))
-    where
-      go : (b : Bool) (o : ℕ) → later (pick b 0 o) (later (pick b o 0) x) ≡ later o x
-      go true o = refl
-      go false o = refl
+  both_given k i x = grind (arith, nat_tests)
 
   -- the words that tick k finds
   abbrev word_at : ℕ → ℕ → ℕ
@@ -203,11 +200,7 @@ module _ (l : Ledger) (h : Seen) (fair : Fair l h) (turned : (t i : ℕ) → 1 �
   -- where pass one gives nothing at tick t, the pass-two turn finds what the ticks before gave
   before_two : (t : ℕ) → given_one l t i ≡ 0 → last_before_two l i t ≡ last_given l i (t - 1)
   unfolding last_before_two
-  before_two t z = go l.form
-    where
-      go : (m : Form) → elim m [ direct ↦ last_given l i (t - 1) | pipelined ↦ later (given_one l t i) (last_given l i (t - 1)) ] ≡ last_given l i (t - 1)
-      go direct = refl
-      go pipelined = rw z
+  before_two t z = grind (arith, nat_tests)
 
   -- what its pass-two slot gives an input that pass one does not serve in it
   second_given : (t : ℕ) → (l.answer (slot_of_two l t i)).first i ≡ false → given_two l t i ≡ (l.answer (slot_of_two l t i)).output i

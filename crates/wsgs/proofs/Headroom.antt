@@ -1,14 +1,14 @@
 -- Headroom. Inequality (2) of the paper holds of a pair exactly where its headroom is at least 0, and so it is with every booked pair of a book of either
 -- kind. Assumes nothing.
-use mathlib.Core.Path.{◌≡◌, ap, subst}
+use mathlib.Core.Path.{◌≡◌, ap}
 use mathlib.Core.Logic.{◌↔◌}
 use Prim.Native.Nat.{ℕ, zero, suc, ◌+◌, ◌-◌, ◌≤◌, ◌<◌}
 use native.Mathlib.Omega.{arith}
 use native.Mathlib.Decide.{dec_le}
-use lib.Dec.{le→leb}
 use lib.IntN.{pos, negsuc, ◌-ℤ◌}
-use lib.Signed.{◌≤ℤ◌, ◌<ℤ◌, le_z_yes, clash_ℤ}
+use lib.Signed.{◌≤ℤ◌, ◌<ℤ◌, clash_ℤ}
 use borrow.Author.Tests.{lt-ltb, le-ltb}
+use Rattle.std.proofs.lemmas.Bool.Decides.{nat_tests}
 use Rattle.wsgs.specs.declared.Clock.{Clock}
 use Rattle.wsgs.specs.Basics.{Port}
 use Rattle.wsgs.specs.Bookings.{bookings, row_sum, column_sum}
@@ -52,11 +52,7 @@ module _ (n f : ℕ) (a : ℕ → ℕ → ℕ) (i j : ℕ) (p : Port n j) where
 
   -- inequality (2) exactly where it is at least 0
   pub at_least_zero : (pos 0 ≤ℤ headroom_over n f a i j) ↔ (row_sum n a i + column_sum n a j ≤ f + a i j)
-  at_least_zero = (λ h. above (dec_le taken f) (subst (λ z. pos 0 ≤ℤ z) one_difference h), λ h. rw (one_difference, sub_above f taken (omega arith)) (le_z_yes (le→leb 0 (f - taken) (omega arith))))
-    where
-      above : Dec (taken ≤ f) → pos 0 ≤ℤ (pos f -ℤ pos taken) → row_sum n a i + column_sum n a j ≤ f + a i j
-      above (yes h) z = omega arith
-      above (no h) z = absurd (rw (sub_below f taken (omega arith)) at z).le
+  at_least_zero = grind (arith, nat_tests, one_difference, sub_above, sub_below)
 
 -- headroom of the same bookings is the same
 headroom_ext : (n f : ℕ) (a b : ℕ → ℕ → ℕ) (i j : ℕ) → Port n i → Port n j → ((x y : ℕ) → Port n x → Port n y → a x y ≡ b x y)

@@ -8,6 +8,7 @@ use Prim.Native.Nat.{ℕ, zero, suc, ◌+◌, ◌*◌, ◌≤◌, ◌<◌}
 use native.Mathlib.Omega.{arith}
 use native.Mathlib.Numerals.{add-one}
 use lib.Dec.{eqb, leb→le}
+use Rattle.std.proofs.lemmas.Bool.Decides.{nat_tests}
 use Rattle.wsgs.specs.Clocks.{clock_of}
 use Rattle.wsgs.specs.Basics.{pick, bit, Port, sum}
 use Rattle.wsgs.specs.Words.{word}
@@ -122,25 +123,12 @@ module _ (m : Form) (l : Ledger) (h : Seen) (now : Switch) (t : Trace m l h now)
   -- so before tick 1 nothing was answered
   none_answered : answered_by 0 ≡ 0
   unfolding count_one count_two
-  none_answered =
-      omega (
-        arith,
-        sum_zero (λ s. bit (by_one l s i j)) (slot_of_tick l.form 0) (λ s p. omega (arith, none_before s (omega arith))),
-        sum_zero (λ s. bit (by_two l s i j)) (slot_of_tick l.form 0) (λ s p. omega (arith, none_before s (omega arith))),
-      )
+  none_answered = grind (arith, nat_tests, sum_zero)
 
   -- and each tick adds its own
   answered_next : (k : ℕ) → answered_by (k + 1) ≡ answered_by k + bit (eqb ((l.answer (slot_of_tick l.form (k + 1))).output i) j)
   unfolding count_one count_two
-  answered_next k =
-      let s = slot_of_tick l.form k in
-      let s' = slot_of_tick l.form (k + 1) in
-      omega (
-        arith,
-        sum_last (λ s. bit (by_one l s i j)) s s' (omega arith),
-        sum_last (λ s. bit (by_two l s i j)) s s' (omega arith),
-        passes s',
-      )
+  answered_next k = grind (arith, nat_tests, sum_last)
 
   -- what tick k left and what was answered by then are what had arrived just before it
   abbrev Account : ℕ → Type 0

@@ -4,10 +4,10 @@
 use mathlib.Core.Path.{◌≡◌, refl, sym, ◌∙◌, ap, ap₂}
 use mathlib.Core.Bool.{false}
 use mathlib.Core.Logic.{◌≢◌, ◌⊎◌, inl, inr}
-use Prim.Native.Nat.{ℕ, ◌+◌, ◌-◌, ◌≤◌}
+use Prim.Native.Nat.{ℕ, ◌+◌, ◌-◌}
 use native.Mathlib.Omega.{arith}
-use native.Mathlib.Decide.{ℕ_discrete}
 use borrow.Author.Tests.{ne_eqb}
+use Rattle.std.proofs.lemmas.Bool.Decides.{nat_tests}
 use Rattle.wsgs.specs.declared.Clock.{Clock}
 use Rattle.wsgs.specs.Basics.{pick, Port, updated₂}
 use Rattle.wsgs.specs.Words.{word}
@@ -18,7 +18,6 @@ use Rattle.wsgs.specs.Preview.{BookOperation, PreviewResult, slots_booking, rate
 use Rattle.wsgs.specs.Preview as Previews
 use Rattle.wsgs.specs.Switch.{Switch, call_of, apply, of_book}
 use Rattle.wsgs.specs.Claims.{RefusedByRule, PreviewIsOnCopy, PreviewHolds}
-use Rattle.wsgs.proofs.Laws.Tests.{range_out}
 use Rattle.wsgs.proofs.Laws.Sums.{sum_ext, row_changed, column_changed}
 use Rattle.wsgs.proofs.Rises.{slots_raise, rate_raises, slots_lower, rate_lowers}
 
@@ -31,10 +30,6 @@ operated slots_release s i j d = refl
 operated rate_release s i j r = refl
 
 -- which sum is shown
-shows_after : (r x y : ℕ) → r ≡ 0 → shown r x y ≡ x
-unfolding shown
-shows_after r x y e = rw e
-
 shows_asked : (r x y : ℕ) → RefusedByRule r → shown r x y ≡ y
 unfolding shown
 shows_asked r x y (inl e) = rw e
@@ -43,12 +38,7 @@ shows_asked r x y (inr (inr e)) = rw e
 
 -- the test of the numbers fails for any other
 pub not_by_rule : (r : ℕ) → (RefusedByRule r → ⊥) → refused_by_rule r ≡ false
-not_by_rule r h =
-    rw (range_out 8 9 r (λ p. go (ℕ_discrete r 8) p), ne_eqb r 15 (λ e. h (inr (inr e))))
-  where
-    go : Dec (r ≡ 8) → (8 ≤ r) × (r ≤ 9) → ⊥
-    go (yes e) p = h (inl e)
-    go (no d) p = h (inr (inl (omega arith)))
+not_by_rule r h = grind (arith, nat_tests)
 
 hides : (r x y : ℕ) → r ≢ 0 → (RefusedByRule r → ⊥) → shown r x y ≡ 0
 unfolding shown
@@ -56,12 +46,12 @@ hides r x y e₀ e = rw (ne_eqb r 0 e₀) (ap (λ b. pick b y 0) (not_by_rule r 
 
 -- ON A COPY
 pub on_copy : PreviewIsOnCopy
-unfolding Previews.preview
+unfolding Previews.preview shown
 on_copy o s i j d =
     rw (operated o s i j d)
     (record {
       refusal = refl;
-      accepted = λ e. (shows_after _ _ _ e, shows_after _ _ _ e);
+      accepted = λ e. (rw e, rw e);
       asked_about = λ e. (shows_asked _ _ _ e, shows_asked _ _ _ e);
       hidden = λ e₀ e. (hides _ _ _ e₀ e, hides _ _ _ e₀ e);
     })
@@ -115,10 +105,7 @@ module _ (c : Clock) (m : Book) (i j : ℕ) where
       shows_sought : (r : ℕ) → r ≡ copy.answer → RefusedByRule r
           → with_booking r (present i j + counts_as o c m i j d) ≡ Previews.preview o c m i j d
       unfolding Previews.preview
-      shows_sought r e h =
-          rw (sym e)
-          (ap₂ (preview_of r) (row_raised (counts_as o c m i j d) ∙ sym (shows_asked r _ _ h))
-          (column_raised (counts_as o c m i j d) ∙ sym (shows_asked r _ _ h)))
+      shows_sought r e h = grind (arith, nat_tests, row_raised, shows_asked, column_raised)
 
     -- so it is with a booking by slots
     pub book_shows : (d r : ℕ) → r ≡ book_refusal c m i j d → (r ≡ 0) ⊎ RefusedByRule r

@@ -3,8 +3,8 @@
 use mathlib.Core.Path.{◌≡◌, sym}
 use Prim.Native.Nat.{ℕ, ◌+◌, ◌-◌, ◌≤◌}
 use native.Mathlib.Omega.{arith}
+use Rattle.std.proofs.lemmas.Bool.Decides.{nat_tests}
 use Rattle.wsgs.specs.declared.Clock.{Clock}
-use Rattle.wsgs.specs.Clocks.{is_fine}
 use Rattle.wsgs.specs.Basics.{Port, updated₂}
 use Rattle.wsgs.specs.Words.{word}
 use Rattle.wsgs.specs.Bookings.{Book, booking, bookings}
@@ -34,15 +34,11 @@ module _ (c : Clock) (m : Book) (i j : ℕ) where
   -- a pair's booking, with what is admitted, is at most a frame
   part : (d : ℕ) → Admitted c m i j d → booking f line slots rate + d ≤ f
   unfolding bookings
-  part d a =
-      let q = a.reach in
-      own_fits n f (bookings n f line m) i j d q.input q.output q.frame.0 (is_fine c.fine) a.rule
+  part d a = grind (arith, nat_tests, own_fits)
 
   -- admitted slots, and an admitted rate, fit their words: they are at most a frame, and at most the line's rate
   pub slots_fit : (d : ℕ) → Admitted c m i j d → slots + d ≤ f
-  slots_fit d a =
-      let p = part d a in
-      omega (arith, p, a.reach.frame, booking_whole f line slots rate (omega (arith, p, a.reach.frame)))
+  slots_fit d a = grind (arith, nat_tests, part, booking_whole)
 
   -- the booking of an admitted rate
   raised : (r : ℕ) → Admitted c m i j (rise c m i j r) → booking f line slots (rate + r) ≤ f
@@ -87,13 +83,9 @@ module _ (c : Clock) (m : Book) (i j : ℕ) where
   pub slots_lower : (d : ℕ) → release_refusal c m i j d ≡ 0 → (x y : ℕ) → Port n x → Port n y
       → bookings n f line (release_words c m i j d) x y ≡ updated₂ (bookings n f line m) i j (booking f line (slots - d) rate) x y
   unfolding release_words
-  slots_lower d e x y px py =
-      let q = (release_asked c m i j d e).0 in
-      rw e (slots_moved n f line m i j q.input q.output (held n m q.long).0 (slots - d) x y px py)
+  slots_lower d e x y px py = grind (arith, nat_tests, release_asked, slots_moved, held)
 
   pub rate_lowers : (r : ℕ) → release_rate_refusal c m i j r ≡ 0 → (x y : ℕ) → Port n x → Port n y
       → bookings n f line (release_rate_words c m i j r) x y ≡ updated₂ (bookings n f line m) i j (booking f line slots (rate - r)) x y
   unfolding release_rate_words
-  rate_lowers r e x y px py =
-      let q = (release_rate_asked c m i j r e).0 in
-      rw e (rates_moved n f line m i j q.input q.output (held n m q.long).1 (rate - r) x y px py)
+  rate_lowers r e x y px py = grind (arith, nat_tests, release_rate_asked, rates_moved, held)

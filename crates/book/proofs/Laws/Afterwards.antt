@@ -1,18 +1,17 @@
 -- Laws of the bookings that would follow: one pair's, that no sum of at most 32 of them can wrap, and lists of the sums of rows and columns as a sweep over the
 -- pairs fills them. Assumes nothing.
-use mathlib.Core.Path.{◌≡◌, refl, ◌∙◌, ap}
-use mathlib.Core.Bool.{Bool, true, false, ◌&&◌, and-false}
+use mathlib.Core.Path.{◌≡◌, ◌∙◌, ap, ap₂}
+use mathlib.Core.Bool.{Bool, true, false, ◌&&◌}
 use mathlib.Core.List.{List, ◌++◌}
-use mathlib.Core.Logic.{◌≢◌, ◌⊎◌, inl, inr}
 use Prim.Native.Nat.{ℕ, zero, suc, ◌+◌, ◌-◌, ◌*◌, ◌^◌, ◌≤◌, ◌<◌}
 use native.Mathlib.Omega.{arith}
 use native.Mathlib.Decide.{ℕ_discrete}
-use lib.Dec.{eqb}
+use lib.Dec.{eqb, eqb→eq}
+use Rattle.std.proofs.lemmas.Bool.{and_parts}
 use lib.ListN.{length, get_or, set, take, replicate, length-set, get_or-replicate}
 use Rattle.std.proofs.lemmas.List.{get_or-take, length-take, length-append}
 use Rattle.std.proofs.Math.ListN.{get_or-append}
 use lib.Seq.{get_or-set_same, get_or-set_other}
-use borrow.Author.Tests.{eq-eqb, ne_eqb}
 use Rattle.wsgs.specs.declared.Pair.{Pair}
 use Rattle.wsgs.specs.Basics.{pick, Port, sum}
 use Rattle.wsgs.specs.Bookings.{booking, bookings, row_sum, column_sum}
@@ -32,15 +31,16 @@ module _ (q : BookingRequest) where
   abbrev own : Pair
   own = q.asked.pair
 
-  -- the pair of the request has more; one of another input or another output has what it has
-  pub asked_pair : (x y : ℕ) → x ≡ own.input.0 → y ≡ own.output.0 → now x y + q.more.0 ≡ a x y
+  -- the pair of the request has more; any other has what it has
+  pub asked_pair : (x y : ℕ) → (eqb x own.input.0 && eqb y own.output.0) ≡ true → now x y + q.more.0 ≡ a x y
   unfolding afterwards
-  asked_pair x y e d = rw (eq-eqb x own.input.0 e, eq-eqb y own.output.0 d) (rw (e, d) refl)
+  asked_pair x y e =
+      let p = and_parts (eqb x own.input.0) (eqb y own.output.0) e in
+      rw e (ap₂ (λ u w. now u w + q.more.0) (eqb→eq x own.input.0 (rw p.0 tt)) (eqb→eq y own.output.0 (rw p.1 tt)))
 
-  pub other_pair : (x y : ℕ) → (x ≢ own.input.0) ⊎ ((x ≡ own.input.0) × (y ≢ own.output.0)) → now x y ≡ a x y
+  pub other_pair : (x y : ℕ) → (eqb x own.input.0 && eqb y own.output.0) ≡ false → now x y ≡ a x y
   unfolding afterwards
-  other_pair x y (inl e) = rw (ne_eqb x own.input.0 e)
-  other_pair x y (inr e) = rw (ne_eqb y own.output.0 e.1) (simp and-false)
+  other_pair x y e = rw e
 
   -- each is below 2 ^ 33
   now_few : (x y : ℕ) → now x y ≤ 4294967295
@@ -87,14 +87,6 @@ module _ (n : ℕ) (a : ℕ → ℕ → ℕ) where
   unfolding column_sum sum
   columns_begin h = record { long = h; at = λ k l. get_or-replicate 32 k 0 0 (omega arith) }
 
-  -- a row's sum is written down
-  pub row_added : (i : ℕ) (sums : List ℕ) (v : ℕ) → i < n → RowSums n i a sums → v ≡ row_sum n a (i + 1) → RowSums n (i + 1) a (set sums i v)
-  row_added i sums v l h e = record { long = simp length-set h.long; at = λ k p. go k p (ℕ_discrete k i) }
-    where
-      go : (k : ℕ) → k < i + 1 → Dec (k ≡ i) → get_or (set sums i v) k 0 ≡ row_sum n a (k + 1)
-      go k p (yes z) = rw z (get_or-set_same sums i v 0 (omega (arith, h.long)) ∙ e)
-      go k p (no z) = get_or-set_other sums i k v 0 z ∙ h.at k (omega arith)
-
   -- within row i: the columns before j have its booking, the others have not
   pub record InRow (i j : ℕ) (sums : List ℕ) : Type 0 where
     pub long : n ≤ length sums
@@ -115,13 +107,6 @@ module _ (n : ℕ) (a : ℕ → ℕ → ℕ) where
       record {
         long = omega (arith, length-append sums rest, h.long);
         at = λ k l. get_or-append sums rest 0 k (omega (arith, h.long)) ∙ h.done k l;
-      }
-
-  pub rows_end : (x : ℕ) (sums rest : List ℕ) → x ≤ n → RowSums n x a sums → RowSums n x a (sums ++ rest)
-  rows_end x sums rest p h =
-      record {
-        long = omega (arith, length-append sums rest, h.long);
-        at = λ k l. get_or-append sums rest 0 k (omega (arith, h.long)) ∙ h.at k l;
       }
 
   -- one more row in a column's sum

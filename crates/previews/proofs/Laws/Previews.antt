@@ -7,6 +7,7 @@ use native.Mathlib.Omega.{arith}
 use borrow.Author.Rules.{rules}
 use native.Mathlib.Decide.{ℕ_discrete}
 use borrow.Author.Tests.{ne_eqb}
+use Rattle.std.proofs.Math.Facts.{and_yes}
 use Rattle.wsgs.specs.declared.Clock.{Clock}
 use Rattle.wsgs.specs.Basics.{between, Port, updated₂}
 use Rattle.wsgs.specs.Words.{word}
@@ -15,7 +16,7 @@ use Rattle.wsgs.specs.Questions.{slots_in_range, rate_in_range, holds_book}
 use Rattle.wsgs.specs.Book.{on_rule, book_refusal, rise, rate_refusal, release_refusal, release_rate_refusal}
 use Rattle.wsgs.specs.Preview.{refused_by_rule, preview_of, preview, operation_effect}
 use Rattle.wsgs.specs.Claims.{Reached, RefusedByRule}
-use Rattle.wsgs.proofs.Laws.Tests.{both, in_range}
+use Rattle.wsgs.proofs.Laws.Tests.{in_range}
 use Rattle.wsgs.proofs.Laws.Sums.{row_changed, column_changed}
 use Rattle.wsgs.proofs.Refusals.{amount_passed, release_asked, release_never, release_rate_asked, release_rate_never}
 use Rattle.wsgs.proofs.Headroom.{own_in_row, own_in_column}
@@ -91,7 +92,7 @@ module _ (c : Clock) (m : Book) (i j d r : ℕ) where
   unfolding rate_refusal
   rate_reached e h =
       let y = amount_passed c (holds_book c.ports m) i j (rate_in_range c.line d) (on_rule c m i j (rise c m i j d)) r (omega arith) e (after_amount r h) in
-      let p = both (between 1 100000000 c.line) (between 1 c.line d) y.1 in
+      let p = and_yes (between 1 100000000 c.line) (between 1 c.line d) y.1 in
       (y.0, omega (arith, in_range 1 100000000 c.line p.0, in_range 1 c.line d p.1))
 
 -- the sums in which the pair has v in place of its own

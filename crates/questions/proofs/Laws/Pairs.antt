@@ -4,13 +4,14 @@ use mathlib.Core.Bool.{Bool, true, false}
 use mathlib.Core.List.{List, [], ◌∷◌}
 use Prim.Native.Nat.{ℕ}
 use native.Mathlib.Omega.{arith}
+use Rattle.std.proofs.Math.Facts.{and_yes}
 use Rattle.wsgs.specs.declared.Clock.{Clock}
 use Rattle.wsgs.specs.declared.Refused.{Refused}
 use Rattle.wsgs.specs.Basics.{between}
 use Rattle.wsgs.specs.Told.{number}
 use Rattle.wsgs.specs.Questions.{Question, first_no, long_enough, pair_in_range, on_pair}
 use Rattle.wsgs.specs.Claims.{Reached}
-use Rattle.wsgs.proofs.Laws.Tests.{both, in_range, between_port}
+use Rattle.wsgs.proofs.Laws.Tests.{in_range, between_port}
 use Rattle.wsgs.proofs.Laws.Questions.{none_left, asked_no, asked_yes, all_yes, rest_decides, some_no}
 use Rattle.questions.specs.Refusals.{SizesInRange, on_sizes, sizes_refusal, pair_refusal}
 use Rattle.questions.proofs.Laws.Answers.{number_some}
@@ -53,7 +54,7 @@ pub pair_asked : (c : Clock) (enough : Bool) (i j : ℕ) → 0 ≡ pair_refusal 
 unfolding pair_refusal
 pair_asked c enough i j e =
     let y = all_yes (on_pair c enough i j []) (omega arith) (sym e) in
-    let p = both (between 1 c.ports i) (between 1 c.ports j) y.1.1.1.0 in
+    let p = and_yes (between 1 c.ports i) (between 1 c.ports j) y.1.1.1.0 in
     record {
       ports = in_range 1 32 c.ports y.0;
       frame = in_range 1 10000 c.frame y.1.0;

@@ -3,14 +3,15 @@
 use mathlib.Core.Path.{◌≡◌, refl}
 use mathlib.Core.List.{List, [], ◌∷◌}
 use Prim.Native.Nat.{ℕ, zero, suc, ◌+◌, ◌-◌, ◌*◌, ◌/◌, min, ◌≤◌, ◌<◌}
-use native.Mathlib.Nat.{mul-le-mul_right, le_of_mul-le-mul_right, div-eq_of_lt, div-lt_iff_lt-mul, le-div_iff_mul-le, div-mul-le_self, suc-mul, mul_comm}
+use native.Mathlib.Nat.{mul-le-mul_right, le_of_mul-le-mul_right, div-eq_of_lt, le-div_iff_mul-le, div-mul-le_self, mul_comm}
 use native.Mathlib.Omega.{arith}
 use native.Mathlib.Decide.{ℕ_discrete}
 use lib.Dec.{eqb}
 use lib.ListN.{length, get_or}
 use borrow.Author.Tests.{eq-eqb, ne_eqb}
+use Rattle.std.proofs.lemmas.Bool.Decides.{nat_tests}
 use Rattle.wsgs.specs.Basics.{pick, Port, updated₂}
-use Rattle.wsgs.specs.Words.{place, word}
+use Rattle.wsgs.specs.Words.{word}
 use Rattle.wsgs.specs.Bookings.{Book, rate_slots, booking, bookings, booking_words}
 use Rattle.wsgs.specs.Book.{with_slots, with_rate}
 use Rattle.wsgs.proofs.Laws.Tests.{at_pair}
@@ -38,9 +39,7 @@ module _ (f b : ℕ) where
   pub word_bookings : (n : ℕ) (m : Book) → n * n ≤ length m.slots → n * n ≤ length m.rates → (i j : ℕ) → Port n i → Port n j
       → word n (booking_words f b m.slots m.rates) i j ≡ bookings n f b m i j
   unfolding word bookings
-  word_bookings n m h g i j pi pj =
-      let p = place_inside n i j pi pj in
-      booking_at m.slots m.rates (place n i j) (omega arith) (omega arith)
+  word_bookings n m h g i j pi pj = grind (arith, nat_tests, place_inside, booking_at)
 
   -- RATES
   -- nothing takes nothing
@@ -67,9 +66,7 @@ module _ (f b : ℕ) where
   -- one that takes at most k slots is at most what k slots carry
   rate_carried : (r k : ℕ) → 1 ≤ b → rate_slots f b r ≤ k → r * f ≤ k * b
   unfolding rate_slots
-  rate_carried r k p h =
-      let e : rate_slots f b r ≡ (r * f + (b - 1)) / b = rw (ne_eqb b 0 (λ z. omega arith)) in
-      omega (arith, (div-lt_iff_lt-mul {k = b} {x = r * f + (b - 1)} {y = suc k} p).0 (omega (arith, e)), suc-mul k b)
+  rate_carried r k p h = grind (arith, nat_tests)
 
   -- one of at most a frame is at most the line's
   pub rate_small : (r k : ℕ) → 1 ≤ b → 1 ≤ f → k ≤ f → rate_slots f b r ≤ k → r ≤ b

@@ -6,10 +6,11 @@ use mathlib.Core.Logic.{◌⊎◌, inl, inr, ◌≢◌}
 use Prim.Native.Nat.{ℕ, zero, suc, ◌+◌, ◌-◌, ◌≤◌, ◌<◌}
 use native.Mathlib.Omega.{arith}
 use native.Mathlib.Decide.{ℕ_discrete, dec_lt, dec_le}
-use lib.Dec.{T, leb, ltb, T_not, lt→ltb, ltb→lt}
+use lib.Dec.{T, leb, ltb, T_not, not_T, lt→ltb, ltb→lt}
 use borrow.Author.Tests.{lt-leb, le-leb, lt-ltb, le-ltb}
+use Rattle.std.proofs.lemmas.Bool.Decides.{nat_tests}
+use Rattle.std.proofs.Math.Facts.{and_yes, yes_and}
 use Rattle.wsgs.specs.Basics.{pick, Port, next, first_from, in_turn, later}
-use Rattle.wsgs.proofs.Laws.Tests.{both, join}
 
 -- THE ORDER. How many of 1..n come before y, where they are told from k on, wrapping from n to 1
 unfoldable pub ahead : (n k y : ℕ) → ℕ
@@ -33,71 +34,29 @@ next_wraps n x h = rw (le-ltb x n h)
 
 -- it is a port
 pub next_port : (n x : ℕ) → 1 ≤ n → Port n (next n x)
-next_port n x h = go (dec_lt x n)
-  where
-    go : Dec (x < n) → Port n (next n x)
-    go (yes l) = rw (next_below n x l) (omega arith)
-    go (no l) = rw (next_wraps n x (omega arith)) (omega arith)
+next_port n x h = grind (arith, nat_tests)
 
 -- told from the next one on, each but k itself comes one earlier
 pub ahead_next : (n k y : ℕ) → Port n k → Port n y → y ≢ k → ahead n k y ≡ suc (ahead n (next n k) y)
-ahead_next n k y pk py d = go (dec_lt k n) (dec_le k y)
-  where
-    go : Dec (k < n) → Dec (k ≤ y) → ahead n k y ≡ suc (ahead n (next n k) y)
-    go (yes l) (yes h) = rw (next_below n k l, ahead_from n k y h, ahead_from n (suc k) y (omega arith)) (omega arith)
-    go (yes l) (no h) = rw (next_below n k l, ahead_below n k y (omega arith), ahead_below n (suc k) y (omega arith)) (omega arith)
-    go (no l) (yes h) = absurd (d (omega arith))
-    go (no l) (no h) = rw (next_wraps n k (omega arith), ahead_below n k y (omega arith), ahead_from n 1 y py.low) (omega arith)
+unfolding ahead
+ahead_next n k y pk py d = grind (arith, nat_tests)
 
 -- k itself is the first, and no two are told at the same place, of which there are n
 pub ahead_own : (n k : ℕ) → ahead n k k ≡ 0
 ahead_own n k = ahead_from n k k (omega arith) ∙ omega arith
 
-module _ (n k x y : ℕ) (pk : Port n k) (px : Port n x) (py : Port n y) where
-  abbrev Cases : Type 0 → Type 0
-  Cases G =
-      (k ≤ x → k ≤ y → ahead n k x ≡ x - k → ahead n k y ≡ y - k → G)
-      → (k ≤ x → y < k → ahead n k x ≡ x - k → ahead n k y ≡ y + n - k → G)
-      → (x < k → k ≤ y → ahead n k x ≡ x + n - k → ahead n k y ≡ y - k → G)
-      → (x < k → y < k → ahead n k x ≡ x + n - k → ahead n k y ≡ y + n - k → G) → G
+pub ahead_once : (n k x y : ℕ) → Port n k → Port n x → Port n y → ahead n k x ≡ ahead n k y → x ≡ y
+unfolding ahead
+ahead_once n k x y pk px py e = grind (arith, nat_tests)
 
-  -- two of them, each from k on or below
-  cases : (G : Type 0) → Cases G
-  cases G a b c d = go (dec_le k x) (dec_le k y)
-    where
-      go : Dec (k ≤ x) → Dec (k ≤ y) → G
-      go (yes u) (yes v) = a u v (ahead_from n k x u) (ahead_from n k y v)
-      go (yes u) (no v) = b u (omega arith) (ahead_from n k x u) (ahead_below n k y (omega arith))
-      go (no u) (yes v) = c (omega arith) v (ahead_below n k x (omega arith)) (ahead_from n k y v)
-      go (no u) (no v) = d (omega arith) (omega arith) (ahead_below n k x (omega arith)) (ahead_below n k y (omega arith))
-
-  pub ahead_once : ahead n k x ≡ ahead n k y → x ≡ y
-  ahead_once e =
-      cases (x ≡ y) (λ u v r s. omega (arith, r, s, e)) (λ u v r s. absurd (omega (arith, r, s, e))) (λ u v r s. absurd (omega (arith, r, s, e)))
-      (λ u v r s. omega (arith, r, s, e))
-
-  -- where y comes after x, it comes earlier when told from one past x
-  pub ahead_nearer : ahead n k x < ahead n k y → ahead n (next n x) y < ahead n k y
-  ahead_nearer h = go (dec_lt x n)
-    where
-      go : Dec (x < n) → ahead n (next n x) y < ahead n k y
-      go (yes l) =
-          rw (next_below n x l)
-          (cases (ahead n (suc x) y < ahead n k y) (λ u v r s. omega (arith, r, s, h, ahead_from n (suc x) y (omega (arith, r, s, h))))
-          (λ u v r s. omega (arith, r, s, h, ahead_below n (suc x) y (omega arith))) (λ u v r s. absurd (omega (arith, r, s, h)))
-          (λ u v r s. omega (arith, r, s, h, ahead_from n (suc x) y (omega (arith, r, s, h)))))
-      go (no l) =
-          rw (next_wraps n x (omega arith))
-          (cases (ahead n 1 y < ahead n k y) (λ u v r s. absurd (omega (arith, r, s, h)))
-          (λ u v r s. omega (arith, r, s, h, ahead_from n 1 y py.low)) (λ u v r s. absurd (omega (arith, r, s, h)))
-          (λ u v r s. absurd (omega (arith, r, s, h))))
+-- where y comes after x, it comes earlier when told from one past x
+pub ahead_nearer : (n k x y : ℕ) → Port n k → Port n x → Port n y → ahead n k x < ahead n k y → ahead n (next n x) y < ahead n k y
+unfolding ahead
+ahead_nearer n k x y pk px py h = grind (arith, nat_tests)
 
 pub ahead_within : (n k y : ℕ) → Port n k → Port n y → ahead n k y < n
-ahead_within n k y pk py = go (dec_le k y)
-  where
-    go : Dec (k ≤ y) → ahead n k y < n
-    go (yes h) = omega (arith, ahead_from n k y h)
-    go (no h) = omega (arith, ahead_below n k y (omega arith))
+unfolding ahead
+ahead_within n k y pk py = grind (arith, nat_tests)
 
 -- THE SEARCH. v is 0 and none of the first m from k on passes the test, or v is the first of them that does
 abbrev pub Found : (ℕ → Bool) → (n k m v : ℕ) → Type 0
@@ -155,36 +114,16 @@ in_turn_is p (suc n) last = go (in_turn p (suc n) last) (first_is p (suc n) k (s
 
 -- the same of a number that is known to be given
 pub in_turn_some : (p : ℕ → Bool) (n last v : ℕ) → v ≡ in_turn p n last → 1 ≤ v → Port n v × T (p v)
-in_turn_some p n last v e h = rw e (go (in_turn p n last) e (in_turn_is p n last))
-  where
-    go : (w : ℕ) → v ≡ w → InTurn p n last w → Port n w × T (p w)
-    go w d (inl r) = absurd (omega arith)
-    go w d (inr r) = (r.0, r.1)
+in_turn_some p n last v e h = grind (arith, nat_tests, in_turn_is)
 
 -- and of one that is known to be 0
 pub in_turn_none : (p : ℕ → Bool) (n last v y : ℕ) → v ≡ in_turn p n last → v ≡ 0 → Port n y → T (not (p y))
-in_turn_none p n last v y e z q = go (in_turn p n last) e (in_turn_is p n last)
-  where
-    go : (w : ℕ) → v ≡ w → InTurn p n last w → T (not (p y))
-    go w d (inl r) = r.1 y q
-    go w d (inr r) = absurd (omega arith)
+in_turn_none p n last v y e z q = grind (arith, nat_tests, in_turn_is)
 
 -- one that passes, and nobody before it in the order, is given
 pub in_turn_at : (p : ℕ → Bool) (n last v : ℕ) → Port n v → T (p v)
     → ((y : ℕ) → Port n y → ahead n (next n last) y < ahead n (next n last) v → T (not (p y))) → in_turn p n last ≡ v
-in_turn_at p n last v pv t h = go (in_turn p n last) (in_turn_is p n last)
-  where
-    k : ℕ
-    k = next n last
-
-    go : (w : ℕ) → InTurn p n last w → w ≡ v
-    go w (inl r) = absurd (T_not (p v) (r.1 v pv) t)
-    go w (inr r) = at (dec_lt (ahead n k w) (ahead n k v)) (dec_lt (ahead n k v) (ahead n k w))
-      where
-        at : Dec (ahead n k w < ahead n k v) → Dec (ahead n k v < ahead n k w) → w ≡ v
-        at (yes l) _ = absurd (T_not (p w) (h w r.0 l) r.1)
-        at (no l) (yes g) = absurd (T_not (p v) (r.2 v pv g) t)
-        at (no l) (no g) = ahead_once n k w v (next_port n last (omega arith)) r.0 pv (omega arith)
+in_turn_at p n last v pv t h = grind (arith, nat_tests, in_turn_is, ahead_once, next_port)
 
 -- the lowest that passes is given where the search begins at 1
 pub in_turn_lowest : (p : ℕ → Bool) (n v : ℕ) → Port n v → T (p v) → ((y : ℕ) → Port n y → y < v → T (not (p y))) → in_turn p n 0 ≡ v
@@ -194,31 +133,12 @@ in_turn_lowest p n v pv t h =
 
 -- where nobody passes, nobody is given
 pub in_turn_nobody : (p : ℕ → Bool) (n last : ℕ) → ((y : ℕ) → Port n y → T (not (p y))) → in_turn p n last ≡ 0
-in_turn_nobody p n last h = go (in_turn p n last) (in_turn_is p n last)
-  where
-    go : (w : ℕ) → InTurn p n last w → w ≡ 0
-    go w (inl r) = r.0
-    go w (inr r) = absurd (T_not (p w) (h w r.0) r.1)
+in_turn_nobody p n last h = grind (arith, nat_tests, in_turn_is)
 
 -- one that passes is given, or comes nearer: it is earlier in the order from one past the one that is given
 pub in_turn_nearer : (p : ℕ → Bool) (n last v y : ℕ) → v ≡ in_turn p n last → Port n y → T (p y) → v ≢ y
     → ahead n (next n v) y < ahead n (next n last) y
-in_turn_nearer p n last v y e py t d = rw e (go (in_turn p n last) e (in_turn_is p n last))
-  where
-    k : ℕ
-    k = next n last
-
-    go : (w : ℕ) → v ≡ w → InTurn p n last w → ahead n (next n w) y < ahead n k y
-    go w f (inl r) = absurd (T_not (p y) (r.1 y py) t)
-    go w f (inr r) = at (dec_lt (ahead n k w) (ahead n k y)) (dec_lt (ahead n k y) (ahead n k w))
-      where
-        pk : Port n k
-        pk = next_port n last (omega arith)
-
-        at : Dec (ahead n k w < ahead n k y) → Dec (ahead n k y < ahead n k w) → ahead n (next n w) y < ahead n k y
-        at (yes l) _ = ahead_nearer n k w y pk r.0 py l
-        at (no l) (yes g) = absurd (T_not (p y) (r.2 y py g) t)
-        at (no l) (no g) = absurd (d (f ∙ ahead_once n k w y pk r.0 py (omega arith)))
+in_turn_nearer p n last v y e py t d = grind (arith, nat_tests, in_turn_is, next_port, ahead_nearer, ahead_once)
 
 -- tests that agree on 1..n are given the same
 first_ext : (p q : ℕ → Bool) (n k m : ℕ) → Port n k → ((y : ℕ) → Port n y → p y ≡ q y) → first_from p n k m ≡ first_from q n k m
@@ -249,7 +169,7 @@ module _ (p : ℕ → Bool) (n last : ℕ) where
         where
           at : Dec (y ≤ last) → y ≤ last
           at (yes h) = h
-          at (no h) = absurd (T_not (above y) (r.1 y q) (join (ltb last y) (p y) (lt→ltb last y (omega arith)) t))
+          at (no h) = absurd (T_not (above y) (r.1 y q) (yes_and (ltb last y) (p y) (lt→ltb last y (omega arith)) t))
 
       go : (w : ℕ) → InTurn p n 0 w → Dec (last < n) → in_turn p n last ≡ w
       go w (inl s) _ = in_turn_nobody p n last s.1 ∙ sym s.0
@@ -263,11 +183,7 @@ module _ (p : ℕ → Bool) (n last : ℕ) where
               l' = rw (next_below n last h) at l
 
               at : Dec (y ≤ last) → T (not (p y))
-              at (no g) = not_low (p y) (low y q)
-                where
-                  not_low : (b : Bool) → (T b → y ≤ last) → T (not b)
-                  not_low true f = absurd (g (f tt))
-                  not_low false f = tt
+              at (no g) = not_T (p y) (λ t. g (low y q t))
               at (yes g) =
                   s.2 y q
                   (rw (next_below n 0 (omega arith))
@@ -282,7 +198,7 @@ module _ (p : ℕ → Bool) (n last : ℕ) where
   from_above v (inr r) = rw (lt-ltb 0 v r.0.low) (in_turn_at p n last v r.0 t.1 before)
     where
       t : T (ltb last v) × T (p v)
-      t = both (ltb last v) (p v) r.1
+      t = and_yes (ltb last v) (p v) r.1
 
       high : last < v
       high = ltb→lt last v t.0
@@ -309,7 +225,7 @@ module _ (p : ℕ → Bool) (n last : ℕ) where
               ))))
             where
               blocked_right : (b : Bool) → T (not (ltb last y && b)) → T (not b)
-              blocked_right true f = absurd (T_not (ltb last y && true) f (join (ltb last y) true (lt→ltb last y (omega arith)) tt))
+              blocked_right true f = absurd (T_not (ltb last y && true) f (yes_and (ltb last y) true (lt→ltb last y (omega arith)) tt))
               blocked_right false f = tt
 
   pub in_turn_above : in_turn p n last ≡ later (in_turn above n 0) (in_turn p n 0)
@@ -321,19 +237,12 @@ module _ (n m : ℕ) (few : n ≤ m) where
   low_wide : (q : ℕ → Bool) → ((y : ℕ) → Port m y → T (q y) → y ≤ n) → in_turn q m 0 ≡ in_turn q n 0
   low_wide q h = go (in_turn q n 0) (in_turn_is q n 0)
     where
-      unless : (b : Bool) → (T b → ⊥) → T (not b)
-      unless true f = absurd (f tt)
-      unless false f = tt
-
       go : (v : ℕ) → InTurn q n 0 v → in_turn q m 0 ≡ v
       go v (inl r) =
-          in_turn_nobody q m 0 (λ y py. unless (q y) (λ t. T_not (q y) (r.1 y (omega (arith, h y py t))) t)) ∙ sym r.0
+          in_turn_nobody q m 0 (λ y py. not_T (q y) (λ t. T_not (q y) (r.1 y (omega (arith, h y py t))) t)) ∙ sym r.0
       go v (inr r) =
           in_turn_lowest q m v (omega arith) r.1
           (λ y py l. r.2 y (omega arith) (rw (next_below n 0 (omega arith)) (omega (arith, ahead_from n 1 y py.low, ahead_from n 1 v r.0.low))))
 
   pub in_turn_wide : (p : ℕ → Bool) (last : ℕ) → ((y : ℕ) → Port m y → T (p y) → y ≤ n) → in_turn p m last ≡ in_turn p n last
-  in_turn_wide p last h =
-      in_turn_above p m last
-      ∙ ap₂ later (low_wide (above p m last) (λ y py t. h y py (both (ltb last y) (p y) t).1)) (low_wide p h)
-      ∙ sym (in_turn_above p n last)
+  in_turn_wide p last h = grind (arith, nat_tests, in_turn_above, low_wide)

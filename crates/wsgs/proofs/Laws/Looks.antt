@@ -4,9 +4,10 @@ use mathlib.Core.Bool.{Bool, true, false, ◌&&◌, ◌||◌, and-true, and-fals
 use mathlib.Core.Logic.{◌⊎◌, inl, inr}
 use Prim.Native.Nat.{ℕ, zero, suc, ◌+◌, min, ◌≤◌, ◌<◌}
 use native.Mathlib.Omega.{arith}
-use native.Mathlib.Decide.{ℕ_discrete, dec_lt, dec_le}
+use native.Mathlib.Decide.{ℕ_discrete}
 use lib.Dec.{eqb, leb, ltb, leb-suc-suc}
-use borrow.Author.Tests.{lt-ltb, le-ltb, lt-leb, le-leb, ne_eqb}
+use borrow.Author.Tests.{lt-ltb, le-ltb, ne_eqb}
+use Rattle.std.proofs.lemmas.Bool.Decides.{nat_tests}
 use Rattle.wsgs.specs.Basics.{pick, bit, Port, sum, next, first_from, in_turn, looks_from, looks, updated}
 use Rattle.wsgs.proofs.Laws.Tests.{updated_at, updated_other}
 use Rattle.wsgs.proofs.Laws.Sums.{sum_ext, sum_zero, sum_changed}
@@ -19,11 +20,8 @@ looked last v y = pick (eqb v 0) true (pick (ltb last v) (ltb last y && leb y v)
 
 -- THE COUNT. Told from the next one on, k itself comes last
 ahead_last : (n k : ℕ) → Port n k → suc (ahead n (next n k) k) ≡ n
-ahead_last n k pk = go (dec_lt k n)
-  where
-    go : Dec (k < n) → suc (ahead n (next n k) k) ≡ n
-    go (yes l) = rw (next_below n k l) (omega (arith, ahead_below n (suc k) k (omega arith)))
-    go (no l) = rw (next_wraps n k (omega arith)) (omega (arith, ahead_from n 1 k pk.low))
+unfolding ahead
+ahead_last n k pk = grind (arith, nat_tests)
 
 -- how many of m numbers from k on come up to v: all of them where v is 0, for none
 abbrev span : (n k m v : ℕ) → ℕ
@@ -83,11 +81,7 @@ module _ (free permitted : ℕ → Bool) (n : ℕ) where
 
 -- THE ORDER. Two numbers that are moved alike keep their order
 moved : (a b x y o d : ℕ) → a + o ≡ x + d → b + o ≡ y + d → ltb a (suc b) ≡ leb x y
-moved a b x y o d e f = go (dec_le x y)
-  where
-    go : Dec (x ≤ y) → ltb a (suc b) ≡ leb x y
-    go (yes h) = rw (lt-ltb a (suc b) (omega arith), le-leb x y h)
-    go (no h) = rw (le-ltb a (suc b) (omega arith), lt-leb x y (omega arith))
+moved a b x y o d e f = grind (arith, nat_tests)
 
 module _ (n last : ℕ) where
   -- the place of y in the order: those past the last one come first, the others after them
@@ -95,36 +89,12 @@ module _ (n last : ℕ) where
   Place y = ((last < y) × (ahead n (next n last) y + suc last ≡ y)) ⊎ ((y ≤ last) × (ahead n (next n last) y + suc (min last n) ≡ y + n))
 
   place : (y : ℕ) → Port n y → Place y
-  place y q = go (dec_lt last n) (dec_lt last y)
-    where
-      go : Dec (last < n) → Dec (last < y) → Place y
-      go (yes l) (yes h) = inl (h, rw (next_below n last l) (omega (arith, ahead_from n (suc last) y h)))
-      go (yes l) (no h) = inr (omega arith, rw (next_below n last l) (omega (arith, ahead_below n (suc last) y (omega arith))))
-      go (no l) _ = inr (omega arith, rw (next_wraps n last (omega arith)) (omega (arith, ahead_from n 1 y q.low)))
+  place y q = grind (arith, nat_tests, next_below, ahead_from, ahead_below, next_wraps)
 
   -- up to the given one in the order is what `looked` says
   in_turn_looked : (p : ℕ → Bool) (y : ℕ) → Port n y
       → ltb (ahead n (next n last) y) (span n (next n last) n (in_turn p n last)) ≡ looked last (in_turn p n last) y
-  in_turn_looked p y q = go (in_turn p n last) (first_is p n k n pk)
-    where
-      k : ℕ
-      k = next n last
-
-      pk : Port n k
-      pk = next_port n last (omega arith)
-
-      a : ℕ
-      a = ahead n k y
-
-      at : (v : ℕ) → Port n v → Place v → Place y → ltb a (suc (ahead n k v)) ≡ pick (ltb last v) (ltb last y && leb y v) (ltb last y || leb y v)
-      at v pv (inl r) (inl s) = rw (lt-ltb last v r.0, lt-ltb last y s.0) (moved a _ y v (suc last) 0 (omega arith) (omega arith))
-      at v pv (inl r) (inr s) = rw (lt-ltb last v r.0, le-ltb last y s.0) (le-ltb a _ (omega arith))
-      at v pv (inr r) (inl s) = rw (le-ltb last v r.0, lt-ltb last y s.0) (lt-ltb a _ (omega arith))
-      at v pv (inr r) (inr s) = rw (le-ltb last v r.0, le-ltb last y s.0) (moved a _ y v (suc (min last n)) n s.1 r.1)
-
-      go : (v : ℕ) → Found p n k n v → ltb a (span n k n v) ≡ looked last v y
-      go v (inl r) = rw r.0 (lt-ltb a n (ahead_within n k y pk q))
-      go v (inr r) = rw (ne_eqb v 0 (omega (arith, r.0.low))) (at v r.0 (place v r.0) (place y q))
+  in_turn_looked p y q = grind (arith, nat_tests, first_is, next_port, moved, ahead_within, place)
 
 -- so the looks are a sum
 pub looks_counted : (free permitted : ℕ → Bool) (n last : ℕ)

@@ -8,6 +8,7 @@ use native.Mathlib.Decide.{ℕ_discrete, le_ind}
 use native.Mathlib.Omega.{arith}
 use lib.Bits.{bit_or, or_block, or_zero_r}
 use lib.Pow.{pow_pos, pow-lt, high, low, field, mod-mod-pow}
+use Rattle.std.proofs.lemmas.Bool.Decides.{nat_tests}
 use Rattle.wsgs.specs.Basics.{bit, Port, sum, updated}
 use Rattle.wsgs.specs.Steps.{marked}
 use Rattle.wsgs.proofs.Laws.Tests.{updated_at, updated_other}
@@ -15,9 +16,7 @@ use Rattle.wsgs.proofs.Laws.Tests.{updated_at, updated_other}
 -- the highest bit and the word below it
 pub marked_suc : (n : ℕ) (p : ℕ → Bool) → marked (suc n) p ≡ bit (p (suc n)) * 2 ^ n + marked n p
 unfolding marked sum
-marked_suc n p =
-    let e : suc n - 1 ≡ n = omega arith in
-    rw e (omega arith)
+marked_suc n p = grind (arith, nat_tests)
 
 -- the word fits
 pub marked_lt : (n : ℕ) (p : ℕ → Bool) → marked n p < 2 ^ n

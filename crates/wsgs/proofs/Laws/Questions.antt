@@ -6,14 +6,15 @@ use mathlib.Core.List.{List, [], ◌∷◌, ◌++◌}
 use mathlib.Core.Logic.{◌≢◌, ◌⊎◌, inl, inr}
 use Prim.Native.Nat.{ℕ, ◌*◌, ◌≤◌, ◌<◌}
 use native.Mathlib.Omega.{arith}
-use lib.Dec.{T, eqb, leb, leb→le}
+use lib.Dec.{T, eqb}
 use lib.ListN.{length}
 use borrow.Author.Tests.{eq-eqb, lt-ltb, le-ltb}
+use Rattle.std.proofs.lemmas.Bool.Decides.{nat_tests}
 use Rattle.wsgs.specs.Basics.{pick}
-use Rattle.wsgs.specs.Questions.{Question, first_no, clock_can_advance, holds_book}
+use Rattle.wsgs.specs.Questions.{Question, first_no, clock_can_advance}
 use Rattle.wsgs.specs.Direct
 use Rattle.wsgs.specs.Pipelined
-use Rattle.wsgs.proofs.Laws.Tests.{both, holds, in_range}
+use Rattle.wsgs.proofs.Laws.Tests.{holds}
 
 -- every question of a list is answered yes
 abbrev pub Yes : List Question → Type 0
@@ -146,46 +147,8 @@ pub record Asked (n f : ℕ) (Long : Type 0) (qs : List Question) : Type 0 where
   pub later : Yes qs
 
 pub direct_yes : (n f : ℕ) (w : Direct.Runs) (qs : List Question) → Yes (Direct.questions n f w qs) → Asked n f (DirectLong n w) qs
-direct_yes n f w qs y =
-    let a = both (holds_book n w.book) _ y.1.1.0 in
-    let m = both (leb (n * n) (length w.book.slots)) _ a.0 in
-    let b = both (leb (n * n) (length w.credits)) _ a.1 in
-    let c = both (leb (n * n) (length w.queues)) _ b.1 in
-    record {
-      ports = in_range 1 32 n y.0;
-      frame = in_range 1 10000 f y.1.0;
-      long =
-          record {
-            slots = leb→le _ _ m.0;
-            rates = leb→le _ _ m.1;
-            credits = leb→le _ _ b.0;
-            queues = leb→le _ _ c.0;
-            given = leb→le _ _ c.1;
-          };
-      later = y.1.1.1;
-    }
+direct_yes n f w qs y = grind (arith, nat_tests)
 
 pub pipelined_yes : (n f : ℕ) (w : Pipelined.Runs) (qs : List Question) → Yes (Pipelined.questions n f w qs)
     → (n ≤ f) × Asked n f (PipelinedLong n w) qs
-pipelined_yes n f w qs y =
-    let a = both (holds_book n w.book) _ y.1.1.1.0 in
-    let m = both (leb (n * n) (length w.book.slots)) _ a.0 in
-    let b = both (leb (n * n) (length w.credits)) _ a.1 in
-    let c = both (leb (n * n) (length w.queues)) _ b.1 in
-    let g = both (leb n (length w.given)) _ c.1 in
-    let d = both (leb (n * n) (length w.copy)) _ g.1 in (
-      leb→le n f y.1.1.0,
-      record {
-        ports = in_range 1 32 n y.0;
-        frame = in_range 1 10000 f y.1.0;
-        long =
-            record {
-              slots = leb→le _ _ m.0;
-              rates = leb→le _ _ m.1;
-              copy = leb→le _ _ d.0;
-              sized =
-                  record { credits = leb→le _ _ b.0; queues = leb→le _ _ c.0; given = leb→le _ _ g.0; flight = leb→le _ _ d.1 };
-            };
-        later = y.1.1.1.1;
-      },
-    )
+pipelined_yes n f w qs y = grind (arith, nat_tests)

@@ -1,18 +1,19 @@
 -- Laws of the book's rule. Its questions are answered yes exactly where it admits a booking. What a book of either kind keeps of all its pairs: inequality
 -- (5) of the paper, which gives inequality (2), or (2) itself. Lower bookings keep it, and so does a booking that the rule admits. Assumes nothing.
 use mathlib.Core.Path.{◌≡◌, refl}
-use mathlib.Core.Bool.{Bool, true, false, ◌||◌, and-false}
+use mathlib.Core.Bool.{Bool, true, false, and-false}
 use mathlib.Core.Logic.{◌⊎◌, inl, inr, ◌≢◌}
-use Prim.Native.Nat.{ℕ, zero, suc, ◌+◌, ◌-◌, ◌*◌, ◌≤◌}
+use Prim.Native.Nat.{ℕ, zero, suc, ◌+◌, ◌*◌, ◌≤◌}
 use native.Mathlib.Omega.{arith}
 use native.Mathlib.Decide.{ℕ_discrete}
-use lib.Dec.{T, eqb, leb, leb→le, le→leb}
+use lib.Dec.{T, leb→le, le→leb}
 use borrow.Author.Tests.{eq-eqb, ne_eqb}
-use Rattle.wsgs.specs.Basics.{pick, Port, sum, sum_without, all_of}
+use Rattle.std.proofs.lemmas.Bool.Decides.{nat_tests}
+use Rattle.std.proofs.Math.Facts.{and_yes, yes_and}
+use Rattle.wsgs.specs.Basics.{Port, sum, sum_without, all_of}
 use Rattle.wsgs.specs.Bookings.{row_sum, column_sum}
 use Rattle.wsgs.specs.Rule.{with_more, booked_fits, sharing_fit, rule}
 use Rattle.wsgs.specs.Claims.{Fits, Admits}
-use Rattle.wsgs.proofs.Laws.Tests.{both, join}
 use Rattle.wsgs.proofs.Laws.Sums.{sum_le, sum_zero, sum_parts, row_changed, column_changed}
 use Rattle.wsgs.proofs.Laws.Questions.{Yes, Numbered}
 
@@ -20,7 +21,7 @@ use Rattle.wsgs.proofs.Laws.Questions.{Yes, Numbered}
 pub every_at : (p : ℕ → Bool) (n x : ℕ) → T (all_of p n) → Port n x → T (p x)
 unfolding all_of
 every_at p zero x t q = absurd (omega arith)
-every_at p (suc n) x t q = let r = both (p (suc n)) (all_of p n) t in go (ℕ_discrete x (suc n)) r.0 (λ q. every_at p n x r.1 q)
+every_at p (suc n) x t q = let r = and_yes (p (suc n)) (all_of p n) t in go (ℕ_discrete x (suc n)) r.0 (λ q. every_at p n x r.1 q)
   where
     go : Dec (x ≡ suc n) → T (p (suc n)) → (Port n x → T (p x)) → T (p x)
     go (yes e) now before = rw e now
@@ -29,23 +30,17 @@ every_at p (suc n) x t q = let r = both (p (suc n)) (all_of p n) t in go (ℕ_di
 pub every_all : (p : ℕ → Bool) (n : ℕ) → ((x : ℕ) → Port n x → T (p x)) → T (all_of p n)
 unfolding all_of
 every_all p zero h = tt
-every_all p (suc n) h = join (p (suc n)) (all_of p n) (h (suc n) (omega arith)) (every_all p n (λ x q. h x (omega (arith, q))))
+every_all p (suc n) h = yes_and (p (suc n)) (all_of p n) (h (suc n) (omega arith)) (every_all p n (λ x q. h x (omega (arith, q))))
 
 -- (2) as a test, and as a statement
 module _ (n f : ℕ) (a : ℕ → ℕ → ℕ) (x y : ℕ) where
   pub fits_is : Port n y → T (booked_fits n f a x y) → Fits n f a x y
   unfolding booked_fits row_sum
-  fits_is p t h =
-      let e : eqb (a x y) 0 ≡ false = ne_eqb (a x y) 0 (λ z. omega arith) in
-      omega (arith, leb→le (row_sum n a x + column_sum n a y - a x y) f (rw e at t), sum_parts (λ v. a x v) n y p)
+  fits_is p t h = grind (arith, nat_tests)
 
   pub is_fits : Fits n f a x y → T (booked_fits n f a x y)
   unfolding booked_fits
-  is_fits h = go (ℕ_discrete (a x y) 0)
-    where
-      go : Dec (a x y ≡ 0) → T (eqb (a x y) 0 || leb (row_sum n a x + column_sum n a y - a x y) f)
-      go (yes e) = rw (eq-eqb (a x y) 0 e) tt
-      go (no d) = rw (ne_eqb (a x y) 0 d) (le→leb (row_sum n a x + column_sum n a y - a x y) f (omega (arith, h (omega arith))))
+  is_fits h = grind (arith, nat_tests)
 
 -- THE QUESTIONS of the rule have numbers, and are answered yes exactly where it admits
 pub rule_numbered : (g : Bool) (n f : ℕ) (a : ℕ → ℕ → ℕ) (i j d : ℕ) → Numbered (rule g n f a i j d)
@@ -61,7 +56,7 @@ module _ (n f : ℕ) (a : ℕ → ℕ → ℕ) (i j d : ℕ) (pi : Port n i) (pj
   rule_admits true y = λ u v pu pv. go u v pu pv
     where
       t : T (all_of (λ v. booked_fits n f after i v) n) × T (all_of (λ u. booked_fits n f after u j) n)
-      t = unfold sharing_fit in both (all_of (λ v. booked_fits n f after i v) n) (all_of (λ u. booked_fits n f after u j) n) y.0
+      t = unfold sharing_fit in and_yes (all_of (λ v. booked_fits n f after i v) n) (all_of (λ u. booked_fits n f after u j) n) y.0
 
       go : (u v : ℕ) → Port n u → Port n v → (u ≡ i) ⊎ (v ≡ j) → Fits n f after u v
       go u v pu pv (inl e) = rw e (fits_is n f after i v pv (every_at (λ v. booked_fits n f after i v) n v t.0 pv))
@@ -71,7 +66,7 @@ module _ (n f : ℕ) (a : ℕ → ℕ → ℕ) (i j d : ℕ) (pi : Port n i) (pj
   unfolding sharing_fit
   admits_rule false h = (le→leb _ _ h.0, (le→leb _ _ h.1, tt))
   admits_rule true h = (
-    join (all_of (λ v. booked_fits n f after i v) n) (all_of (λ u. booked_fits n f after u j) n)
+    yes_and (all_of (λ v. booked_fits n f after i v) n) (all_of (λ u. booked_fits n f after u j) n)
         (every_all _ n (λ v pv. is_fits n f after i v (h i v pi pv (inl refl))))
         (every_all _ n (λ u pu. is_fits n f after u j (h u j pu pj (inr refl)))),
     tt,
@@ -115,11 +110,7 @@ module _ (n f : ℕ) (a b : ℕ → ℕ → ℕ) (below : Below n a b) where
   column_below j p = sum_le _ _ n (λ x q. below x j q p)
 
   without_below : (g h : ℕ → ℕ) (z : ℕ) → ((x : ℕ) → Port n x → g x ≤ h x) → sum_without z g n ≤ sum_without z h n
-  without_below g h z k = sum_le _ _ n (λ x q. go (eqb x z) x q)
-    where
-      go : (t : Bool) (x : ℕ) → Port n x → pick t 0 (g x) ≤ pick t 0 (h x)
-      go true x q = omega arith
-      go false x q = k x q
+  without_below g h z k = grind (arith, nat_tests, sum_le)
 
   pub fits_below : (i j : ℕ) → Port n i → Port n j → Fits n f b i j → Fits n f a i j
   unfolding row_sum column_sum

@@ -11,10 +11,11 @@ use native.Mathlib.Decide.{ℕ_discrete, dec_le}
 use lib.Dec.{T, eqb, ltb, eqb→eq, ltb→lt}
 use lib.ListN.{length, set}
 use borrow.Author.Tests.{eq-eqb, ne_eqb, lt-ltb}
+use Rattle.std.proofs.Math.Facts.{and_yes}
 use Rattle.wsgs.specs.Basics.{pick, bit, Port, sum, updated}
 use Rattle.wsgs.specs.Words.{word, less_one}
 use Rattle.wsgs.specs.Pipelined.{TurnRuns, flight_place, in_flight, output_in, reserved, reloaded, turn_one, turn_two, turns_of, turns, slot_one, slot_two, row_cleared}
-use Rattle.wsgs.proofs.Laws.Tests.{both, bit_under, bit_ne}
+use Rattle.wsgs.proofs.Laws.Tests.{bit_under, bit_ne}
 use Rattle.wsgs.proofs.Laws.Sums.{sum_ext, sum_last, sum_changed, sum_round}
 use Rattle.wsgs.proofs.Laws.Words.{less_is}
 use Rattle.wsgs.proofs.Laws.Questions.{TurningLong}
@@ -140,7 +141,7 @@ module _ (n : ℕ) (few : n ≤ 32) (i j : ℕ) (pi : Port n i) (pj : Port n j) 
         rw (turn_one_is n s x w)
         (choice_holds (wants₁ n s x w) (less_one n w.credits x (choice₁ n s x w)) (100 + choice₁ n s x w) (choice₁ n s x w)
         (choice_is n true _ (wants₁ n s x w) _ x)
-        (λ t. ltb→lt 0 _ (both (ltb 0 (word n w.credits x (choice₁ n s x w))) _ t).1)
+        (λ t. ltb→lt 0 _ (and_yes (ltb 0 (word n w.credits x (choice₁ n s x w))) _ t).1)
         (λ p. rw (lt-ltb 0 (choice₁ n s x w) p.low) at (output_code n (choice₁ n s x w) 0 few p.high (omega arith))))
 
     -- by pass two

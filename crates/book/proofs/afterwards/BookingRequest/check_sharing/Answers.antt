@@ -4,12 +4,6 @@ use Rattle.book.proofs.Laws.Sharing.{row_unfit, column_unfit, both_fit}
 use Rattle.book.proofs.afterwards.BookingRequest.check_sharing.Goals as goal
 use Rattle.book.proofs.afterwards.BookingRequest.check_sharing.Goals.{else-line_fits-via-then-line_fits+else-line_fits-2, else-line_fits-via-else-line_fits}
 
-pub line_fits-requires : goal.line_fits-requires
-line_fits-requires c = record { totals = c.all_sums-totals.ensures.totals }
-
-pub line_fits-requires-then-line_fits : goal.line_fits-requires-then-line_fits
-line_fits-requires-then-line_fits c = record { totals = c.all_sums-totals.ensures.totals }
-
 pub returns-then-line_fits-2 : goal.returns-then-line_fits-2
 returns-then-line_fits-2 c =
     record {
