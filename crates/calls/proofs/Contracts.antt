@@ -38,7 +38,7 @@ use Rattle.clock.specs.contracts.tick_pipelined as clock_tick_pipelined
 use Rattle.clock.specs.contracts.step_direct as clock_step_direct
 use Rattle.clock.specs.contracts.step_pipelined as clock_step_pipelined
 use Rattle.calls.specs.Says.{Says, switch_of, direct_switch, pipelined_switch, PreviewTold}
-use Rattle.calls.proofs.Facts.{from_two, from_three}
+use Rattle.calls.proofs.Facts.{from_two, from_three, from_four}
 
 module _ {M : Type 1} {𝓤 : Ura M} (𝓛 : Logic 𝓤) (mem : Memory → SProp 𝓤) (run : Routine → Fun 𝓤) where
   -- `starts::start_direct`, `starts::start_pipelined`: ports, frame, line, the kind of the book, slots, rates, and the other runs; of a switch that had any clock
@@ -142,10 +142,10 @@ module _ {M : Type 1} {𝓤 : Ura M} (𝓛 : Logic 𝓤) (mem : Memory → SProp
       SameTurnRuns a.1.1.0.now e.1.1.0.now × ((copy flight : List ℕ)
       → let s = direct_switch a.0.now (book_lent a.1.0) a.1.1.0.now copy flight in
       of_direct s (tick_outcome (effect (result_of e.0.now (answer_told r)) (direct_lent a.1.0 e.1.1.0.now))) ≡ apply (tick direct) s))
-  tick_direct_in_place κs a g r e = from_two 𝓤 (λ loans told. (loans, λ copy flight. Calls.tick_direct _ _ (ap by_value told)))
+  tick_direct_in_place κs a g r e = from_three 𝓤 (λ loans stays told. (loans, λ copy flight. Calls.tick_direct _ _ (ap by_value told)))
 
   pub tick_pipelined_in_place : Says 𝓤 clock_tick_pipelined.ended (clock_tick_pipelined.clauses 𝓛 mem run) (λ κs a r e.
       SameTurnRuns a.1.1.0.now e.1.1.0.now × (SamePipelineRuns a.1.1.1.0.now e.1.1.1.0.now × (
       let s = pipelined_switch a.0.now (book_lent a.1.0) a.1.1.0.now a.1.1.1.0.now in
       of_pipelined (tick_outcome (effect (result_of e.0.now (answer_told r)) (pipelined_lent a.1.0 e.1.1.0.now e.1.1.1.0.now))) ≡ apply (tick pipelined) s)))
-  tick_pipelined_in_place κs a g r e = from_three 𝓤 (λ loans pipeline told. (loans, (pipeline, Calls.tick_pipelined _ _ (ap by_value told))))
+  tick_pipelined_in_place κs a g r e = from_four 𝓤 (λ loans pipeline stays told. (loans, (pipeline, Calls.tick_pipelined _ _ (ap by_value told))))

@@ -12,3 +12,10 @@ module _ {M : Type 1} (𝓤 : Ura M) where
   from_three {P} {Q} {R} {S} f =
       fact_use 𝓤 P (fact∗ 𝓤 P (sep 𝓤 (fact 𝓤 Q) (fact 𝓤 R)))
       (λ p. via 𝓤 (sep 𝓤 (fact 𝓤 Q) (fact 𝓤 R)) (snd∗ 𝓤 (fact 𝓤 P) (sep 𝓤 (fact 𝓤 Q) (fact 𝓤 R))) (from_two (f p)))
+
+  pub from_four : {P Q R S T : Type 0} → (P → Q → R → S → T)
+      → ent 𝓤 (sep 𝓤 (fact 𝓤 P) (sep 𝓤 (fact 𝓤 Q) (sep 𝓤 (fact 𝓤 R) (fact 𝓤 S)))) (fact 𝓤 T)
+  from_four {P} {Q} {R} {S} {T} f =
+      fact_use 𝓤 P (fact∗ 𝓤 P (sep 𝓤 (fact 𝓤 Q) (sep 𝓤 (fact 𝓤 R) (fact 𝓤 S))))
+      (λ p. via 𝓤 (sep 𝓤 (fact 𝓤 Q) (sep 𝓤 (fact 𝓤 R) (fact 𝓤 S)))
+      (snd∗ 𝓤 (fact 𝓤 P) (sep 𝓤 (fact 𝓤 Q) (sep 𝓤 (fact 𝓤 R) (fact 𝓤 S)))) (from_three (f p)))

@@ -81,7 +81,7 @@ pub fn kivdrag_start_pipelined(
         queues,
         given,
     };
-    let mut pipeline = PipelineRuns { copy, flight };
+    let mut rows = PipelineRuns { copy, flight };
     let begun = starts::start_pipelined(
         ports,
         frame,
@@ -90,7 +90,7 @@ pub fn kivdrag_start_pipelined(
         slots,
         rates,
         &mut runs,
-        &mut pipeline,
+        &mut rows,
     );
     put_start(begun, clock)
 }
@@ -301,14 +301,14 @@ pub fn kivdrag_tick_direct(
         ≡ c_tick_of (Direct.tick (clock_in_words clock.old)
         (direct_runs_of slots.now rates.now credits.old queues.old given.old)) }
 {
-    let before = Clock::from(ClockWords(*clock));
+    let at = Clock::from(ClockWords(*clock));
     let book = book_runs(slots, rates);
     let mut runs = TurnRuns {
         credits,
         queues,
         given,
     };
-    let answered = clock::step_direct(before, book, &mut runs);
+    let answered = clock::step_direct(at, book, &mut runs);
     put_tick(answered, clock, outputs, first_pass)
 }
 
@@ -333,13 +333,13 @@ pub fn kivdrag_tick_pipelined(
         given.old copy.old flight.old)) }
 {
     let before = Clock::from(ClockWords(*clock));
+    let mut pipeline = PipelineRuns { copy, flight };
     let book = book_runs(slots, rates);
     let mut runs = TurnRuns {
         credits,
         queues,
         given,
     };
-    let mut pipeline = PipelineRuns { copy, flight };
     let ticked = clock::step_pipelined(before, book, &mut runs, &mut pipeline);
     put_tick(ticked, clock, outputs, first_pass)
 }
