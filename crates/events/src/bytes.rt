@@ -12,20 +12,23 @@ use lines::refusal_line;
 use machine::{Machine, SwitchRuns, obey};
 use records::read_record;
 
-// What is kept where a record has ended.
-fn ended(machine: Machine, slots_left: u64) -> Progress
-    ensures progress { result ≡ ended_progress machine slots_left }
-{
-    Progress {
-        machine,
-        past_heading: true,
-        after_cr: false,
-        count: 0,
-        slots_left,
+impl Progress {
+    // What is kept where a record has ended.
+    fn ended(machine: Machine, slots_left: u64) -> Progress
+        ensures progress { result ≡ ended_progress machine slots_left }
+    {
+        Progress {
+            machine,
+            past_heading: true,
+            after_cr: false,
+            count: 0,
+            slots_left,
+        }
     }
 }
 
 // The end of a record: the heading is passed over, and any other record is obeyed.
+// Stays (a): `State` of the clauses has the whole lent buffer, of any length from 65 on, so each function tells the length that it needs.
 fn end_record(
     progress: Progress,
     buffer: &[u8],
@@ -42,23 +45,25 @@ fn end_record(
     let machine = progress.machine;
     if !progress.past_heading {
         return FeedResult {
-            progress: ended(machine, 0),
+            progress: Progress::ended(machine, 0),
             taken: 1,
             written: 0,
         };
     }
     let kept = progress.count.saturating_sub(1).min(KEPT_BYTES);
-    let reading = read_record(machine.form.is_some(), &buffer[..kept]);
+    let running = machine.form.is_some();
+    let reading = read_record(running, &buffer[..kept]);
     let obeyed = obey(machine, reading, runs);
     let outcome = obeyed.outcome;
     FeedResult {
-        progress: ended(obeyed.machine, outcome.unwrap_or(0)),
+        progress: Progress::ended(obeyed.machine, outcome.unwrap_or(0)),
         taken: 1,
         written: refusal_line(out, outcome.err()),
     }
 }
 
 // Keeps a byte of the record so far, if it is one of the first 65.
+// Stays (a): the buffer is the caller's, and is lent anew to each call of `feed`: what is kept between calls is the count.
 fn keep(buffer: &mut [u8], count: usize, byte: u8)
     requires buffer { kept_bytes ≤ length buffer.old }
     ensures buffer_exit { buffer.new
