@@ -10,6 +10,7 @@ pub struct ClockWords(pub [u32; 5]);
 impl From<ClockWords> for Clock {
     ghost from_gives = { HoldsClock };
 
+    #[inline(always)]
     fn from(words: ClockWords) -> Clock {
         let [ports, frame, slot, line, fine] = words.0;
         Clock {
@@ -25,6 +26,7 @@ impl From<ClockWords> for Clock {
 impl From<Clock> for ClockWords {
     ghost from_gives = { HasWords };
 
+    #[inline(always)]
     fn from(clock: Clock) -> ClockWords {
         ClockWords([clock.ports, clock.frame, clock.slot, clock.line, clock.fine])
     }

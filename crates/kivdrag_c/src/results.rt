@@ -1,6 +1,6 @@
 // What C is told of an answer: the number of its refusal, 0 for none, is given back, and the rest is written into lent words.
 // Stays (a): the C interface (include/kivdrag.h) has numbers for refusals and for the kind of the book, and a lent word for each value besides. `pair_of` and
-// `kind_of` are no From, which only crates/wsgs may write for its types, and which would take a pair without saying which number is the input.
+// `kind_of` read numbers of C as what they mean there; a From would take a pair without saying which number is the input.
 ghost use Rattle.std.specs.Prelude.{◌≡◌};
 ghost use Rattle.wsgs.specs.Preview.{preview_of};
 ghost use Rattle.wsgs.specs.Told.{refusal_number, kind_is_fine, start_told, tick_told, headroom_told, preview_told};
