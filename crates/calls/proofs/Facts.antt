@@ -1,6 +1,6 @@
 -- A contract of several clauses is a row of facts side by side: what follows from them together. Assumes nothing.
 use seplogic.Ra.Ura.{Ura}
-use base.Logic.{SProp, ent, sep, via, snd∗}
+use base.Logic.{ent, sep, via, snd∗}
 use contract.Monad.{fact, fact_i, fact_use, fact∗}
 
 module _ {M : Type 1} (𝓤 : Ura M) where

@@ -17,6 +17,7 @@ pub struct Printer<'a> {
 }
 
 impl<'a> Printer<'a> {
+    // Stays (d): the constructor; a From would not say that the count begins at 0.
     pub fn new(out: &'a mut [u8]) -> Printer<'a>
         ensures same_buffer { result.out.ghost_name ≡ out.entry.ghost_name }
         ensures buffer { result.out.now ≡ out.old }

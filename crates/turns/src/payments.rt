@@ -6,6 +6,8 @@ ghost use Rattle.turns.specs.Charges.{PairOf};
 use words::places::row_of;
 use wsgs::{Credits, Input, Output};
 
+// Stays (d): input and output come from the turn, which has them apart; `PairOf` in the clause says of both that they are ports.
+//
 // Where the word of a pair of ports stands.
 fn place(ports: usize, input: Input, output: Output) -> usize
     requires pair { PairOf ports input.0 output.0 }
