@@ -1,4 +1,5 @@
 // A byte of the input: one more of the record so far, or the end of the record.
+// Stays (a): `State` of the clauses has the whole lent buffer, of any length from 65 on, so each function here tells the length that it needs.
 ghost use Rattle.std.specs.Prelude.{◌≡◌, ◌+◌, ◌≤◌, ltb, length, set};
 ghost use Rattle.wsgs.specs.Basics.{pick};
 ghost use Rattle.lines.specs.Lines.{refusal_room};
@@ -28,7 +29,6 @@ impl Progress {
 }
 
 // The end of a record: the heading is passed over, and any other record is obeyed.
-// Stays (a): `State` of the clauses has the whole lent buffer, of any length from 65 on, so each function tells the length that it needs.
 fn end_record(
     progress: Progress,
     buffer: &[u8],
