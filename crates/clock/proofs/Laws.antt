@@ -4,7 +4,6 @@ use Rattle.std.specs.Prelude.{Result, Ok, Err}
 use Rattle.std.specs.Result.{IsErrAnd}
 use Rattle.wsgs.specs.declared.Clock.{Clock}
 use Rattle.wsgs.specs.declared.Refused.{Refused}
-use Rattle.wsgs.specs.declared.Served.{Served}
 use Rattle.wsgs.specs.declared.Ticked.{Ticked}
 use Rattle.wsgs.specs.Questions.{Outcome, effect}
 use Rattle.wsgs.specs.Answers.{tick_effect, answer_effect, by_value}

@@ -1,19 +1,18 @@
 -- A slot of the direct form: its steps together are the definition's, for pass two leaves what pass one gave. Assumes nothing.
 use mathlib.Core.Path.{◌≡◌, refl, sym, ◌∙◌}
 use mathlib.Core.List.{List}
-use Prim.Native.Nat.{ℕ, ◌+◌, ◌*◌, ◌≤◌, ◌<◌}
+use Prim.Native.Nat.{ℕ, ◌+◌, ◌*◌, ◌<◌}
 use native.Mathlib.Decide.{dec_lt}
 use native.Mathlib.Omega.{arith}
 use borrow.Author.Tests.{eq-eqb, ne_eqb, lt-ltb, le-ltb}
 use lib.Dec.{ltb}
-use lib.ListN.{replicate}
 use Rattle.wsgs.specs.declared.Clock.{Clock}
 use Rattle.wsgs.specs.Clocks.{at_slot}
 use Rattle.wsgs.specs.Basics.{pick, Port}
 use Rattle.wsgs.specs.Words.{word, port_word, copied}
 use Rattle.wsgs.specs.Bookings.{booking_words}
 use Rattle.wsgs.specs.Frames.{first_of_frame}
-use Rattle.wsgs.specs.Steps.{Matching, empty_matching, pass_two, listed, marked, outputs_of, pass_word_of}
+use Rattle.wsgs.specs.Steps.{Matching, pass_two, listed, marked, outputs_of, pass_word_of}
 use Rattle.std.specs.Prelude.{Result, Ok, Err}
 use Rattle.std.specs.Result.{IsErrAnd}
 use Rattle.wsgs.specs.declared.Refused.{Refused}
@@ -24,8 +23,6 @@ use Rattle.questions.proofs.Laws.Answers.{number_some}
 use Rattle.wsgs.specs.Answers.{direct_runs_of, tick_effect}
 use Rattle.wsgs.specs.Direct.{Runs, loaded, paired, spent, tick_refusal, ticked, tick}
 use Rattle.wsgs.proofs.Steps.{two_keeps}
-use Rattle.wsgs.proofs.Laws.Listed.{listed_none}
-use Rattle.wsgs.proofs.Laws.Marked.{marked_none}
 use Rattle.direct.specs.Passes.{PassState, ones, SlotRun}
 use Rattle.direct.proofs.Spent.{spent_ext}
 

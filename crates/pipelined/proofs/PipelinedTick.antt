@@ -1,5 +1,5 @@
 -- A pipelined tick: what an accepted one found, and that its parts together are the definition's. Assumes nothing.
-use Rattle.std.proofs.Common.{◌≡◌, ℕ, ◌+◌, ◌*◌, ◌<◌, ◌≤◌, ◌≢◌, List, [], ◌∷◌, length, replicate, ap, ◌∙◌, arith, ltb→lt, eq-eqb, ne_eqb}
+use Rattle.std.proofs.Common.{◌≡◌, ℕ, ◌+◌, ◌*◌, ◌≤◌, ◌≢◌, List, [], ◌∷◌, ap, ◌∙◌, arith, ltb→lt, eq-eqb, ne_eqb}
 use Rattle.wsgs.specs.declared.Clock.{Clock}
 use Rattle.wsgs.specs.declared.Refused.{Refused}
 use Rattle.wsgs.specs.declared.Ticked.{Ticked}

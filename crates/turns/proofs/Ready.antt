@@ -4,8 +4,8 @@ use mathlib.Core.Path.{◌≡◌, refl, sym, ◌∙◌, ap}
 use mathlib.Core.Bool.{Bool, true, false, not, ◌&&◌, ◌||◌, and-true, and-false}
 use mathlib.Core.List.{List}
 use Prim.Native.Nat.{ℕ, zero, suc, ◌+◌, ◌-◌, ◌*◌, ◌/◌, ◌%◌, ◌^◌, ◌≤◌, ◌<◌}
-use native.Mathlib.Decide.{dec_le}
-use borrow.Author.Tests.{lt-ltb}
+use native.Mathlib.Decide.{dec_lt, dec_le}
+use borrow.Author.Tests.{ne_eqb, lt-ltb}
 use native.Mathlib.Nat.{zero-div}
 use native.Mathlib.Numerals.{add-one}
 use native.Mathlib.Omega.{arith}
@@ -14,9 +14,6 @@ use lib.Count.{count_trailing_zeros}
 use lib.Dec.{T, eqb, ltb}
 use lib.ListN.{get_or}
 use Rattle.std.proofs.Math.Facts.{and_yes}
-use Rattle.std.specs.Prelude.{Option, Some, None}
-use Rattle.std.specs.Option.{option_or}
-use Rattle.wsgs.specs.declared.Output.{Output}
 use Rattle.wsgs.specs.Basics.{pick, bit, Port, some_of, in_turn, later}
 use Rattle.wsgs.specs.Words.{place, word}
 use Rattle.wsgs.specs.Steps.{marked}
@@ -25,7 +22,6 @@ use Rattle.wsgs.proofs.Laws.InTurn.{in_turn_ext, in_turn_lowest, in_turn_nobody,
 use Rattle.wsgs.proofs.Laws.Marked.{marked_suc, marked_lt, marked_bit, marked_ext, marked_none}
 use Rattle.words.proofs.Laws.{or_none}
 use Rattle.turns.specs.Masks.{in_mask, all_free, ready_mask}
-use Rattle.turns.specs.Charges.{output_told, HasNumber}
 use Rattle.turns.specs.Requests.{common_in_turn}
 use Rattle.turns.proofs.BitLaws.{bits, mask_bit}
 use Rattle.turns.proofs.MaskLaws.{free_first, past_unset}
@@ -173,19 +169,22 @@ unset_in_0 (suc k) h = rw (mask_bit 0 k, no_bits k) tt
 pub none_in_turn : (w last : ℕ) → w ≡ 0 → 0 ≡ in_turn (in_mask w) 32 last
 none_in_turn w last e = sym (in_turn_nobody (in_mask w) 32 last (λ y p. rw e (unset_in_0 y p.low)))
 
--- of the outputs of a word, the lowest above the last one, else the lowest, is the first in turn
-pub first_of : (w last higher : ℕ) → ((j : ℕ) → Port 32 j → in_mask higher j ≡ (ltb last j && in_mask w j)) → (one two : Option Output)
-    → output_told one ≡ in_turn (in_mask higher) 32 0 → output_told two ≡ in_turn (in_mask w) 32 0 → HasNumber one
-    → output_told (option_or one two) ≡ in_turn (in_mask w) 32 last
-first_of w last higher above one two e d h =
-    go one e h
-    ∙ sym (in_turn_above (in_mask w) 32 last
-    ∙ ap (λ v. later v (in_turn (in_mask w) 32 0)) (in_turn_ext _ _ 32 0 0 (λ y p. sym (above y p)) refl))
+-- of the outputs of a word that is not 0, the lowest above the last one, else the lowest, is the first in turn
+pub first_of_pool : (w last higher pool : ℕ) → 1 ≤ w → w < 2 ^ 32 → ((j : ℕ) → Port 32 j → in_mask higher j ≡ (ltb last j && in_mask w j)) → higher ≤ w
+    → pool ≡ pick (eqb higher 0) w higher → suc (count_trailing_zeros 32 pool) ≡ in_turn (in_mask w) 32 last
+first_of_pool w last higher pool h fits above within e = ap (λ v. suc (count_trailing_zeros 32 v)) e ∙ go (dec_lt 0 higher) ∙ sym in_order
   where
-    go : (o : Option Output) → output_told o ≡ in_turn (in_mask higher) 32 0 → HasNumber o
-        → output_told (option_or o two) ≡ later (in_turn (in_mask higher) 32 0) (in_turn (in_mask w) 32 0)
-    go None k s = rw (← k) d
-    go (Some j) k s = rw (← k, lt-ltb 0 j.0 s)
+    in_order : in_turn (in_mask w) 32 last ≡ later (in_turn (in_mask higher) 32 0) (in_turn (in_mask w) 32 0)
+    in_order =
+        in_turn_above (in_mask w) 32 last
+        ∙ ap (λ v. later v (in_turn (in_mask w) 32 0)) (in_turn_ext _ _ 32 0 0 (λ y p. sym (above y p)) refl)
+
+    go : Dec (0 < higher)
+        → suc (count_trailing_zeros 32 (pick (eqb higher 0) w higher)) ≡ later (in_turn (in_mask higher) 32 0) (in_turn (in_mask w) 32 0)
+    go (yes s) = rw (ne_eqb higher 0 (λ z. absurd (omega arith)), lowest_is higher s (omega arith), lt-ltb 0 (suc (count_trailing_zeros 32 higher)) (omega arith))
+    go (no s) =
+        let z : higher ≡ 0 = omega arith in
+        rw (z, in_turn_nobody (in_mask 0) 32 0 (λ y p. unset_in_0 y p.low), lowest_is w h fits)
 
 -- the free outputs of n ports, and those of them that are asked for
 module _ (n : ℕ) (few : n ≤ 32) (free all : ℕ) (full : all ≡ all_free n) where

@@ -17,7 +17,7 @@ fn place(ports: usize, input: Input, output: Output) -> usize
     row_of(ports, input) + (output.0 - 1) as usize
 }
 
-// Stays (b): `words::places::place_of` asks whether both ports are some, which a turn knows of them.
+// Stays (d): `words::places::place_of` would ask again whether both are ports, which a turn knows of them.
 //
 // The pair's queue falls by 1.
 pub fn take_packet(queues: &mut [u32], ports: usize, input: Input, output: Output)

@@ -12,19 +12,21 @@ use wsgs::Output;
 // The outputs of a set above a number, 0 for none.
 fn above(set: u32, number: u32) -> u32
     ensures higher { (j : ℕ) → Port 32 j → in_mask result j ≡ (ltb number j && in_mask set j) }
+    ensures within { result ≤ set }
 {
     set & !all_free(number as usize)
 }
 
-// The lowest output of a set.
-fn lowest(set: u32) -> Option<Output>
-    ensures some { HasNumber result }
-    ensures lowest { output_told result ≡ in_turn (in_mask set) 32 0 }
+// Stays (b): tried as `lowest(above(set, last)).or(lowest(set))` on Options, whose branch made pipelined ticks 2 to 15 % longer in time and direct ones of 4 ports 14 %.
+//
+// A set, or another one where it is empty.
+fn or_else(set: u32, other: u32) -> u32
+    ensures set { result ≡ pick (eqb set 0) other set }
 {
     if set == 0 {
-        return None;
+        return other;
     }
-    Some(Output(u32::trailing_zeros(set) as u64 + 1))
+    set
 }
 
 // Of a set of outputs the first from one past the last given one, wrapping from 32 to 1: the lowest above that one, else the lowest; none of an empty set.
@@ -32,7 +34,11 @@ fn first_in_turn(set: u32, last: u32) -> Option<Output>
     ensures some { HasNumber result }
     ensures first { output_told result ≡ in_turn (in_mask set) 32 last }
 {
-    lowest(above(set, last)).or(lowest(set))
+    if set == 0 {
+        return None;
+    }
+    let pool = or_else(above(set, last), set);
+    Some(Output(u32::trailing_zeros(pool) as u64 + 1))
 }
 
 // The free outputs at which a search has looked that comes to an output: all where it comes to none; else those past the last given one up to it,

@@ -2,8 +2,8 @@
 // whole row, so that the compiler can use vector instructions.
 //
 // Stays (b): the sweeps count columns and index the runs from where the row begins, as `place` does. Tried on the row as a slice, with `for .. in row.iter()
-// .enumerate()`: up to 58 instructions a tick more at 8 ports (3 %), for the row's address is then kept beside its place. With `zip` of two rows the sweep
-// has no vector instructions: 475 for 151 in a row of 32. `any`, which stops at the first credit, has none either.
+// .enumerate()`: up to 58 instructions a tick more at 8 ports (3 %), for the row's address is then kept beside its place; pipelined ticks took up to 13 % longer.
+// With `zip` of two rows the sweep of 32 columns takes 475 instructions in place of 151; `any`, which stops at the first credit, takes more as well.
 ghost use Rattle.std.specs.Prelude.{◌≡◌, ◌+◌, ◌-◌, ◌^◌, ◌≤◌, ◌<◌, true, false, ltb, length, get_or, IfSome, IfNone};
 ghost use Rattle.wsgs.specs.Basics.{pick, some_of};
 ghost use Rattle.turns.specs.Masks.{ready_mask};

@@ -1,5 +1,4 @@
 -- `pipelined::run_tick` meets its contract: what its calls ensure are the definition's steps. Assumes nothing.
-use Rattle.std.proofs.Common.{arith}
 use Rattle.wsgs.specs.Told.{pipelined_lent}
 use Rattle.pipelined.proofs.PipelinedTick.{ticked_left}
 use Rattle.pipelined.proofs.run_tick.Goals as goal

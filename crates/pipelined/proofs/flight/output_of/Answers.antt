@@ -1,5 +1,5 @@
 -- `flight::output_of` meets its contract: by its test the word has a column below the ports or none. Assumes nothing.
-use Rattle.std.proofs.Common.{sym, arith}
+use Rattle.std.proofs.Common.{sym}
 use Rattle.pipelined.proofs.flight.output_of.Goals as goal
 
 pub returns-then-column-highest-clause-read : goal.returns-then-column-highest-clause-read

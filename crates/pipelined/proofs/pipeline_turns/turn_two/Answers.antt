@@ -1,5 +1,5 @@
 -- `pipeline_turns::turn_two` meets its contract: the ways that its tests leave are those of the definition. Assumes nothing.
-use Rattle.std.proofs.Common.{◌≡◌, ◌-◌, ◌*◌, ◌≤◌, length, sym, ap, ◌∙◌, arith}
+use Rattle.std.proofs.Common.{◌≡◌, ◌-◌, ◌*◌, length, ap, arith}
 use Rattle.wsgs.specs.Basics.{Port, in_turn}
 use Rattle.wsgs.specs.Words.{port_word}
 use Rattle.wsgs.proofs.Laws.InTurn.{in_turn_some}
