@@ -10,7 +10,7 @@ use wsgs::{Pair, Refused};
 
 impl BookingRequest<'_> {
     // Whether the booking is admitted: what the book asks, which is plain or fine.
-    // Stays (a): the kind is a word of any value in the clock that C keeps (`kivdrag_switch`, `fine`), and wsgs reads it so (`is_fine`).
+    // Stays (a): the kind is a word of any value in the clock that C keeps (`uint32_t clock[5]`, the last), and wsgs reads it so (`is_fine`).
     pub fn check_rule(self) -> Result<(), Refused>
         ensures refusal { refusal_number result
             ≡ rule_refusal self.entry.asked.clock (book_lent self.entry.asked.runs)

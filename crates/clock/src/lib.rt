@@ -11,6 +11,9 @@ ghost use Rattle.wsgs.specs.Pipelined;
 
 use wsgs::{BookRuns, Clock, PipelineRuns, Refused, Served, Ticked, TurnRuns};
 
+// Stays (d), of the four functions: a tick of each form is lent its own runs and promises its own definition (`Direct.tick`, `Pipelined.tick`), so one for both
+// would want a trait with the runs, the definition and the loans as ghost members and an impl for each form, for bodies of three lines.
+//
 // A tick of the direct form, which advances the lent clock.
 pub fn tick_direct(
     clock: &mut Clock,
@@ -27,6 +30,8 @@ pub fn tick_direct(
     Ok(ticked.served)
 }
 
+// Stays (d): as `tick_direct`.
+//
 // The same by value: code that has a clock of its own runs the tick above through this, and lends no clock.
 pub fn step_direct(
     clock: Clock,
@@ -45,6 +50,8 @@ pub fn step_direct(
     })
 }
 
+// Stays (d): as `tick_direct`.
+//
 // A tick of the pipelined form, which advances the lent clock.
 pub fn tick_pipelined(
     clock: &mut Clock,
@@ -63,6 +70,8 @@ pub fn tick_pipelined(
     Ok(ticked.served)
 }
 
+// Stays (d): as `tick_direct`.
+//
 // The same by value: code that has a clock of its own runs the tick above through this, and lends no clock.
 pub fn step_pipelined(
     clock: Clock,

@@ -1,4 +1,5 @@
 // A byte of the input: one more of the record so far, or the end of the record.
+// Stays (a): `State` of the clauses has the whole lent buffer, of any length from 65 on, so each function here tells the length that it needs.
 ghost use Rattle.std.specs.Prelude.{◌≡◌, ◌+◌, ◌≤◌, ltb, length, set};
 ghost use Rattle.wsgs.specs.Basics.{pick};
 ghost use Rattle.lines.specs.Lines.{refusal_room};
@@ -12,16 +13,18 @@ use lines::refusal_line;
 use machine::{Machine, SwitchRuns, obey};
 use records::read_record;
 
-// What is kept where a record has ended.
-fn ended(machine: Machine, slots_left: u64) -> Progress
-    ensures progress { result ≡ ended_progress machine slots_left }
-{
-    Progress {
-        machine,
-        past_heading: true,
-        after_cr: false,
-        count: 0,
-        slots_left,
+impl Progress {
+    // What is kept where a record has ended.
+    fn ended(machine: Machine, slots_left: u64) -> Progress
+        ensures progress { result ≡ ended_progress machine slots_left }
+    {
+        Progress {
+            machine,
+            past_heading: true,
+            after_cr: false,
+            count: 0,
+            slots_left,
+        }
     }
 }
 
@@ -42,23 +45,25 @@ fn end_record(
     let machine = progress.machine;
     if !progress.past_heading {
         return FeedResult {
-            progress: ended(machine, 0),
+            progress: Progress::ended(machine, 0),
             taken: 1,
             written: 0,
         };
     }
     let kept = progress.count.saturating_sub(1).min(KEPT_BYTES);
-    let reading = read_record(machine.form.is_some(), &buffer[..kept]);
+    let running = machine.form.is_some();
+    let reading = read_record(running, &buffer[..kept]);
     let obeyed = obey(machine, reading, runs);
     let outcome = obeyed.outcome;
     FeedResult {
-        progress: ended(obeyed.machine, outcome.unwrap_or(0)),
+        progress: Progress::ended(obeyed.machine, outcome.unwrap_or(0)),
         taken: 1,
         written: refusal_line(out, outcome.err()),
     }
 }
 
 // Keeps a byte of the record so far, if it is one of the first 65.
+// Stays (a): the buffer is the caller's, and is lent anew to each call of `feed`: what is kept between calls is the count.
 fn keep(buffer: &mut [u8], count: usize, byte: u8)
     requires buffer { kept_bytes ≤ length buffer.old }
     ensures buffer_exit { buffer.new

@@ -29,6 +29,8 @@ pub struct Lent<'a> {
 
 // What is kept between two bytes beside what is lent: the machine, whether the heading is past, whether the last byte of the record so far
 // is a CR, how many bytes it has, counted up to 66, and the slots of a tick record that are still to run.
+// Stays (a): these are the fields of `State` in the clauses. Neither flag tells whether another value is there, and the count goes past the
+// bytes that the lent buffer keeps.
 #[derive(Clone, Copy)]
 pub struct Progress {
     pub machine: Machine,
@@ -40,6 +42,7 @@ pub struct Progress {
 
 // What a call of `feed` answers, and a step of it: what is kept, how many bytes of the block are taken, and how many are written into the
 // output.
+// Stays (a): the clauses of `feed` tell both numbers of slices that its caller keeps. `feeding::TextResult` tells other things.
 #[derive(Clone, Copy)]
 pub struct FeedResult {
     pub progress: Progress,
@@ -77,6 +80,7 @@ pub fn has_work(progress: Progress, bytes: usize, buffer: usize, room: usize) ->
 }
 
 // Feeds the program a block: takes bytes and runs slots while what they may print has room in the output.
+// Stays (d): each step takes and writes what the step before left, so no iterator counts the steps.
 pub fn feed(progress: Progress, block: &[u8], lent: &mut Lent<'_>) -> FeedResult
     ensures loans { SameLent lent.old lent.new }
     ensures outcome { feed_effect_of result lent.new

@@ -3,23 +3,12 @@ ghost use Rattle.std.specs.Prelude.{◌≡◌, List, ℕ, ◌≤◌, ◌<◌, le
 ghost use Rattle.lines.specs.Lines.{slot_room};
 ghost use Rattle.machine.specs.View.{SameSwitchRuns};
 ghost use Rattle.events.specs.Feeding.{kept_bytes, slot_step, next_step, next_taken};
-ghost use Rattle.events.specs.View.{state_of, moved_progress, StepWritten};
+ghost use Rattle.events.specs.View.{state_of, StepWritten};
 
 use crate::bytes::take_byte;
 use crate::{FeedResult, Progress};
 use lines::{refusal_line, slot_lines};
-use machine::{Machine, SwitchRuns, run_slot};
-
-// What is kept with another machine and other slots to run.
-fn moved(progress: Progress, machine: Machine, slots_left: u64) -> Progress
-    ensures progress { result ≡ moved_progress progress machine slots_left }
-{
-    Progress {
-        machine,
-        slots_left,
-        ..progress
-    }
-}
+use machine::{SwitchRuns, run_slot};
 
 // A slot of a tick record: the first slot that is refused ends the record.
 fn step_slot(progress: Progress, out: &mut [u8], runs: &mut SwitchRuns<'_>) -> FeedResult
@@ -34,12 +23,20 @@ fn step_slot(progress: Progress, out: &mut [u8], runs: &mut SwitchRuns<'_>) -> F
     let machine = slot.machine;
     match slot.outcome {
         Ok(pairs) => FeedResult {
-            progress: moved(progress, machine, progress.slots_left - 1),
+            progress: Progress {
+                machine,
+                slots_left: progress.slots_left - 1,
+                ..progress
+            },
             taken: 0,
             written: slot_lines(out, pairs.slot, machine.clock.ports, pairs.served),
         },
         Err(line) => FeedResult {
-            progress: moved(progress, machine, 0),
+            progress: Progress {
+                machine,
+                slots_left: 0,
+                ..progress
+            },
             taken: 0,
             written: refusal_line(out, Some(line)),
         },
@@ -47,6 +44,8 @@ fn step_slot(progress: Progress, out: &mut [u8], runs: &mut SwitchRuns<'_>) -> F
 }
 
 // A step: a slot where one is to run, else a byte.
+// Stays (a): `State` of the clause has the whole lent buffer, of any length from 65 on, so each function tells the length that it needs.
+// Stays (d): the two steps take other arguments, and are told apart here alone.
 pub fn step(
     progress: Progress,
     block: &[u8],

@@ -22,6 +22,7 @@ pub struct TextResult {
 }
 
 // Writes the front of a buffer to standard output, and tells whether it could.
+// Stays (d): both callers have the count from a call that wrote so many bytes, and would cut the buffer by it.
 fn write_front(rt: &impl Print, out: &[u8], count: usize) -> bool {
     match out.get(..count) {
         Some(front) => rt.write_all(front).is_ok(),
@@ -54,6 +55,7 @@ fn feed_rest(rt: &impl Print, fed: TextResult, text: &[u8], lent: &mut Lent<'_>)
 }
 
 // Feeds a whole text, or as far as its output can be written. A buffer or an output that is too short for `feed` leaves all as it is.
+// Stays (d): each call takes what the call before left, so no iterator counts the calls.
 pub fn feed_text(
     rt: &impl Print,
     progress: Progress,
@@ -88,8 +90,6 @@ pub fn feed_end(rt: &impl Print, progress: Progress, lent: &mut Lent<'_>) -> Tex
     ensures outcome { TextFed (ending (lent_state progress lent.old)) (text_begun progress lent.old)
         (text_state_of result lent.new) result.is_written }
 {
-    if progress.count == 0 {
-        return feed_text(rt, progress, b"", lent);
-    }
-    feed_text(rt, progress, b"\r\n", lent)
+    let end: &[u8] = if progress.count == 0 { b"" } else { b"\r\n" };
+    feed_text(rt, progress, end, lent)
 }

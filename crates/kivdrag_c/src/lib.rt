@@ -20,11 +20,11 @@ ghost use Rattle.kivdrag_c.specs.Results.{c_start, c_start_of, c_headroom, c_tic
 mod clocks;
 mod results;
 
-use clocks::ClockWords;
+use clocks::clock_in;
 use results::{
     book_runs, kind_of, number_of, pair_of, put_headroom, put_preview, put_start, put_tick,
 };
-use wsgs::{BookedSlots, Clock, PipelineRuns, TurnRuns};
+use wsgs::{BookedSlots, PipelineRuns, TurnRuns};
 
 // Starts a direct switch, with a plain book where `fine` is 0, and else with a fine one.
 pub fn kivdrag_start_direct(
@@ -108,7 +108,7 @@ pub fn kivdrag_book(
         ≡ book_effect (clock_in_words clock.now)
         (book_of slots.old rates.now) input output amount }
 {
-    let clock = Clock::from(ClockWords(*clock));
+    let clock = clock_in(clock);
     let amount = BookedSlots(amount);
     number_of(book::book(clock, slots, rates, pair_of(input, output), amount))
 }
@@ -126,7 +126,7 @@ pub fn kivdrag_book_rate(
         ≡ rate_effect (clock_in_words clock.now)
         (book_of slots.now rates.old) input output rate }
 {
-    let clock = Clock::from(ClockWords(*clock));
+    let clock = clock_in(clock);
     number_of(book::book_rate(clock, slots, rates, pair_of(input, output), rate))
 }
 
@@ -143,7 +143,7 @@ pub fn kivdrag_release(
         ≡ release_effect (clock_in_words clock.now)
         (book_of slots.old rates.now) input output amount }
 {
-    let clock = Clock::from(ClockWords(*clock));
+    let clock = clock_in(clock);
     let amount = BookedSlots(amount);
     number_of(book::release(clock, slots, rates, pair_of(input, output), amount))
 }
@@ -161,7 +161,7 @@ pub fn kivdrag_release_rate(
         ≡ release_rate_effect (clock_in_words clock.now)
         (book_of slots.now rates.old) input output rate }
 {
-    let clock = Clock::from(ClockWords(*clock));
+    let clock = clock_in(clock);
     number_of(book::release_rate(clock, slots, rates, pair_of(input, output), rate))
 }
 
@@ -178,7 +178,7 @@ pub fn kivdrag_headroom(
         ≡ headroom_result (clock_in_words clock.now)
         (book_of slots.now rates.now) input output }
 {
-    let clock = Clock::from(ClockWords(*clock));
+    let clock = clock_in(clock);
     let book = book_runs(slots, rates);
     let told = previews::headroom(clock, book, pair_of(input, output));
     put_headroom(told, headroom)
@@ -199,7 +199,7 @@ pub fn kivdrag_preview_book(
         ≡ preview slots_booking (clock_in_words clock.now)
         (book_of slots.now rates.now) input output amount }
 {
-    let clock = Clock::from(ClockWords(*clock));
+    let clock = clock_in(clock);
     let book = book_runs(slots, rates);
     let amount = BookedSlots(amount);
     let told = previews::preview_book(clock, book, pair_of(input, output), amount);
@@ -221,7 +221,7 @@ pub fn kivdrag_preview_book_rate(
         ≡ preview rate_booking (clock_in_words clock.now)
         (book_of slots.now rates.now) input output rate }
 {
-    let clock = Clock::from(ClockWords(*clock));
+    let clock = clock_in(clock);
     let book = book_runs(slots, rates);
     let told = previews::preview_book_rate(clock, book, pair_of(input, output), rate);
     put_preview(told, row, column)
@@ -242,7 +242,7 @@ pub fn kivdrag_preview_release(
         ≡ preview slots_release (clock_in_words clock.now)
         (book_of slots.now rates.now) input output amount }
 {
-    let clock = Clock::from(ClockWords(*clock));
+    let clock = clock_in(clock);
     let book = book_runs(slots, rates);
     let amount = BookedSlots(amount);
     let told = previews::preview_release(clock, book, pair_of(input, output), amount);
@@ -264,7 +264,7 @@ pub fn kivdrag_preview_release_rate(
         ≡ preview rate_release (clock_in_words clock.now)
         (book_of slots.now rates.now) input output rate }
 {
-    let clock = Clock::from(ClockWords(*clock));
+    let clock = clock_in(clock);
     let book = book_runs(slots, rates);
     let told = previews::preview_release_rate(clock, book, pair_of(input, output), rate);
     put_preview(told, row, column)
@@ -281,7 +281,7 @@ pub fn kivdrag_arrive(
     ensures outcome { effect result queues.new
         ≡ arrive_effect (clock_in_words clock.now) queues.old input output packets }
 {
-    let clock = Clock::from(ClockWords(*clock));
+    let clock = clock_in(clock);
     number_of(book::arrive(clock, queues, pair_of(input, output), packets))
 }
 
@@ -301,7 +301,7 @@ pub fn kivdrag_tick_direct(
         ≡ c_tick_of (Direct.tick (clock_in_words clock.old)
         (direct_runs_of slots.now rates.now credits.old queues.old given.old)) }
 {
-    let at = Clock::from(ClockWords(*clock));
+    let at = clock_in(clock);
     let book = book_runs(slots, rates);
     let mut runs = TurnRuns {
         credits,
@@ -332,7 +332,7 @@ pub fn kivdrag_tick_pipelined(
         (pipelined_runs_of slots.now rates.now credits.old queues.old
         given.old copy.old flight.old)) }
 {
-    let before = Clock::from(ClockWords(*clock));
+    let before = clock_in(clock);
     let mut pipeline = PipelineRuns { copy, flight };
     let book = book_runs(slots, rates);
     let mut runs = TurnRuns {

@@ -1,6 +1,6 @@
 // What C is told of an answer: the number of its refusal, 0 for none, is given back, and the rest is written into lent words.
 // Stays (a): the C interface (include/kivdrag.h) has numbers for refusals and for the kind of the book, and a lent word for each value besides. `pair_of` and
-// `kind_of` are no From, which only crates/wsgs may write for its types, and which would take a pair without saying which number is the input.
+// `kind_of` read numbers of C as what they mean there; a From would take a pair without saying which number is the input.
 ghost use Rattle.std.specs.Prelude.{◌≡◌};
 ghost use Rattle.wsgs.specs.Preview.{preview_of};
 ghost use Rattle.wsgs.specs.Told.{refusal_number, kind_is_fine, start_told, tick_told, headroom_told, preview_told};
@@ -8,7 +8,7 @@ ghost use Rattle.wsgs.specs.Clocks.{is_fine};
 ghost use Rattle.kivdrag_c.specs.Clocks.{clock_in_words, clock_words};
 ghost use Rattle.kivdrag_c.specs.Results.{c_headroom};
 
-use crate::clocks::ClockWords;
+use crate::clocks::put_clock;
 use wsgs::{BookKind, BookRuns, Clock, Input, Output, Pair, Previewed, Refused, Served, Ticked};
 
 // The pair of two numbers of C.
@@ -58,8 +58,7 @@ pub fn put_start(started: Result<Clock, Refused>, clock: &mut [u32; 5]) -> u32
 {
     match started {
         Ok(first) => {
-            let ClockWords(words) = ClockWords::from(first);
-            *clock = words;
+            put_clock(clock, first);
             0
         }
         Err(refused) => u32::from(refused),
@@ -80,12 +79,11 @@ pub fn put_tick(
 {
     match ticked {
         Ok(ticked) => {
-            let ClockWords(words) = ClockWords::from(ticked.clock);
             let Served {
                 outputs: found,
                 first_pass: passes,
             } = ticked.served;
-            *clock = words;
+            put_clock(clock, ticked.clock);
             *outputs = found;
             *first_pass = passes;
             0

@@ -31,9 +31,9 @@ spare_digits (suc k) n h = go (dec_lt n 10) (spare_digits k (n / 10))
 
 -- a number of a machine word
 module _ (n : ℕ) where
-  pub decimal_last : n < 10 → (48 + n % 10) ∷ [] ≡ decimal n
+  pub decimal_one : n < 10 → (48 + n) ∷ [] ≡ decimal n
   unfolding decimal
-  decimal_last h = rw (mod-eq_of_lt {n = n} {m = 10} (omega arith)) (sym (one_digit 18 n h))
+  decimal_one h = sym (one_digit 18 n h)
 
   pub decimal_more : 10 ≤ n → n < 2 ^ 64 → decimal (n / 10) ++ ((48 + n % 10) ∷ []) ≡ decimal n
   unfolding decimal

@@ -8,8 +8,8 @@ ghost use Rattle.lines.specs.Lines.{Printed, HasRoom, line_room, match_room, slo
 use wsgs::Served;
 
 // A lent buffer, and how many bytes are put into it.
-// Stays (c): std's `write!` into a cursor over the buffer promises nothing of the buffer at an Err, nor that none comes, so what the lines
-// promise does not follow.
+// Stays (c): tried as an `fmt::Write` over the buffer, which `write!` puts the numbers into. The one clause of that `write`, `writes`, speaks of
+// an Ok, and none says that an Ok comes, so the goal `returns` of `put_number` stays open.
 #[derive(Drop)]
 pub struct Printer<'a> {
     out: &'a mut [u8],
@@ -17,6 +17,7 @@ pub struct Printer<'a> {
 }
 
 impl<'a> Printer<'a> {
+    // Stays (d): the constructor; a From would not say that the count begins at 0.
     pub fn new(out: &'a mut [u8]) -> Printer<'a>
         ensures same_buffer { result.out.ghost_name ≡ out.entry.ghost_name }
         ensures buffer { result.out.now ≡ out.old }
@@ -46,14 +47,15 @@ impl<'a> Printer<'a> {
     }
 
     // A number in decimal.
-    // Stays (c): as above, `write!` with its Display is not proved to put it.
+    // Stays (c): as above, by `write!` with its Display the goal `returns` stays open.
     fn put_number(&mut self, number: u64)
         requires room { HasRoom self.old (length (decimal number)) }
         ensures text { Printed self.old (decimal number) self.new }
     {
-        if number >= 10 {
-            self.put_number(number / 10);
+        if number < 10 {
+            return self.put_byte(b'0' + number as u8);
         }
+        self.put_number(number / 10);
         self.put_byte(b'0' + (number % 10) as u8);
     }
 

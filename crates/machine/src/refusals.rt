@@ -9,6 +9,7 @@ use crate::Machine;
 use wsgs::{RefusalLine, Refused};
 
 // A refusal that has its number alone.
+// Stays (d): a From<Refused> of wsgs would not say that all but the number is 0.
 pub fn number_alone(refused: Refused) -> RefusalLine
     ensures line { refusal_told (Some result) ≡ number_alone (number refused) }
 {
@@ -20,7 +21,8 @@ pub fn number_alone(refused: Refused) -> RefusalLine
     }
 }
 
-// A call's refusal. Before any accepted start or pipe it has its number alone.
+// A call's refusal, with the second and third field of its record, which of a start are no ports. Before any accepted start or pipe it has its number alone.
+// Stays (d): so no Pair is made of them.
 pub fn refusal_line(machine: Machine, input: u64, output: u64, refused: Refused) -> RefusalLine
     ensures line { (r : SwitchRuns) → refusal_told (Some result)
         ≡ refusal_of (machine_of machine r) input output (number refused) }

@@ -28,6 +28,7 @@ pub fn shown_slot(machine: Machine) -> u64
 }
 
 // The tick.
+// Stays (d): the two ticks take other runs, and are told apart here alone.
 pub fn run_tick(machine: Machine, runs: &mut SwitchRuns<'_>) -> Result<Ticked, Refused>
     ensures loans { SameSwitchRuns runs.old runs.new }
     ensures outcome { tick_outcome_of machine.clock result runs.new

@@ -1,3 +1,6 @@
+// Stays (d), of the clauses on the ports: each is of one function that works on a number of ports alone; a type for a number up to 32 would be made by each caller
+// from the number that its own clause bounds.
+//
 // The rows in flight: 2N rows of N words, row (s mod 2N) for slot s. A word is 0 for none, j for output j by pass two, and 100 + j by pass one;
 // any other is read as 0.
 ghost use Rattle.std.specs.Prelude.{◌≡◌, ℕ, ◌+◌, ◌-◌, ◌*◌, ◌%◌, ◌<◌, ◌≤◌, not, length};
@@ -81,6 +84,8 @@ fn byte_of(output: Option<Output>) -> u8
     }
 }
 
+// Stays (a): a rule of the project has the rows in flight as a run of words that is indexed by row and column.
+//
 // The outputs that are free for a slot: those that do not stand in its row. The row is given by where it begins. A word that stands for none
 // takes an output past the ports, so that no word needs a branch and the loop compiles to vector instructions.
 pub fn free_for(ports: usize, row: usize, flight: &[u32]) -> u32
@@ -98,6 +103,8 @@ pub fn free_for(ports: usize, row: usize, flight: &[u32]) -> u32
     free
 }
 
+// Stays (a): as `free_for`; an output stands in the answer at its input's place.
+//
 // The pairs that the row of the slot after a clock's hands out. The row is then set to 0.
 pub fn hand_out(clock: Clock, flight: &mut [u32]) -> Served
     requires ports { Port 32 clock.ports }

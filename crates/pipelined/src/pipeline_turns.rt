@@ -12,6 +12,9 @@ use words::copy_words;
 use words::places::row_of;
 use wsgs::{Input, PipelineRuns, TurnRuns};
 
+// Stays (d): pass one asks first and then looks whether the input has an output, pass two the other way, each for speed (docs/DECISIONS.md), and each has its own
+// definition (`turn_one`, `turn_two`); a row stands in the run in flight at a place, as a rule of the project has it.
+//
 // An input's pass-one turn for the slot whose row begins at a place: it takes an output if it has none for the slot yet. Where it asks for none the row is
 // not read.
 fn turn_one(ports: usize, row: usize, input: Input, runs: &mut TurnRuns<'_>, flight: &mut [u32])
@@ -39,6 +42,8 @@ fn turn_one(ports: usize, row: usize, input: Input, runs: &mut TurnRuns<'_>, fli
     }
 }
 
+// Stays (d): as `turn_one`; and pass two is lent no credits.
+//
 // An input's pass-two turn for the slot whose row begins at a place, likewise. It often has an output by then, so that is asked first.
 fn turn_two(
     ports: usize,
@@ -68,6 +73,8 @@ fn turn_two(
     }
 }
 
+// Stays (d): that a run holds the pairs is said of two runs here; `RunsFit` says it of all, one of which this may write.
+//
 // An input sets its row of credits from the frame copy where its slot of pass one is the first of a frame. `into` tells how many slots of its
 // frame come before slot time + 2N, which is that of input 1; that of input i comes i - 1 slots before.
 fn reload_row(
@@ -104,6 +111,8 @@ pub struct SlotsAhead {
     pub ghost known: { Lookahead ports frame time one two into },
 }
 
+// Stays (d): this is where the ports are looked at, which its caller has asked about; what it gives has its facts as a ghost field.
+//
 // What a tick knows of the slots ahead, so that no turn divides.
 pub fn look_ahead(ports: usize, frame: u64, time: u64) -> SlotsAhead
     requires ports { Port 32 ports }
@@ -163,6 +172,8 @@ fn turns_of(
     }
 }
 
+// Stays (d): an input is its number, so the loop goes over the numbers.
+//
 // The turns of all inputs.
 pub fn all_turns(ahead: SlotsAhead, runs: &mut TurnRuns<'_>, pipeline: &mut PipelineRuns<'_>)
     requires fits { RunsFit ahead.ports pipeline.old.copy.now (turning_lent runs.old pipeline.old) }

@@ -18,6 +18,7 @@ const INPUT_BYTES: usize = 65_536;
 const OUTPUT_BYTES: usize = 3_000;
 
 // Feeds the input in pieces of 1 to 5 bytes, as their places have it, and gives what is kept at its end, if its output could be written.
+// Stays (d): the pieces have lengths of their own, which no method of a slice cuts.
 fn feed_pieces(rt: &impl Print, input: &[u8], lent: &mut Lent<'_>) -> Option<Progress> {
     let mut progress = begin();
     let mut rest = input;

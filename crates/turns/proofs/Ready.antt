@@ -24,7 +24,7 @@ use Rattle.wsgs.proofs.Laws.Some.{some_there}
 use Rattle.wsgs.proofs.Laws.InTurn.{in_turn_ext, in_turn_lowest, in_turn_nobody, in_turn_above, in_turn_wide}
 use Rattle.wsgs.proofs.Laws.Marked.{marked_suc, marked_lt, marked_bit, marked_ext, marked_none}
 use Rattle.words.proofs.Laws.{or_none}
-use Rattle.turns.specs.Masks.{in_mask, all_free, ready_mask, ready_row}
+use Rattle.turns.specs.Masks.{in_mask, all_free, ready_mask}
 use Rattle.turns.specs.Charges.{output_told, HasNumber}
 use Rattle.turns.specs.Requests.{common_in_turn}
 use Rattle.turns.proofs.BitLaws.{bits, mask_bit}
@@ -42,33 +42,37 @@ column_two v true false x y d e = rw (d, and_zero_l)
 column_two v false true x y d e = rw (e, and_zero_r)
 column_two v false false x y d e = rw (d, and_zero_l)
 
-module _ (one two : List ℕ) where
-  abbrev both_there : ℕ → Bool
-  both_there k = ltb 0 (get_or one k 0) && ltb 0 (get_or two k 0)
-
+module _ (one two : List ℕ) (row : ℕ) where
   -- no column has been swept
-  pub ready_start : 0 ≡ ready_row one two 0
-  unfolding marked
+  pub ready_start : 0 ≡ ready_mask one two row 0
+  unfolding ready_mask marked
   ready_start = refl
 
   -- one column more, by an or with its bit
-  pub ready_next : (n w b : ℕ) → w ≡ ready_row one two n → b ≡ pick (both_there n) (2 ^ n) 0 → bit_or w b ≡ ready_row one two (n + 1)
+  pub ready_next : (n w b : ℕ) → w ≡ ready_mask one two row n → b ≡ pick (both_above one two row n) (2 ^ n) 0 → bit_or w b ≡ ready_mask one two row (n + 1)
+  unfolding ready_mask
   ready_next n w b e f =
-      let p : ℕ → Bool = λ j. both_there (j - 1) in
+      let p : ℕ → Bool = λ j. both_above one two row (j - 1) in
       let d : suc n - 1 ≡ n = omega arith in
       rw (e, f, add-one n)
-      (ap (bit_or (marked n p)) (chosen (both_there n) ∙ ap (λ z. bit (both_there z) * 2 ^ n) (sym d))
+      (ap (bit_or (marked n p)) (chosen (both_above one two row n) ∙ ap (λ z. bit (both_above one two row z) * 2 ^ n) (sym d))
       ∙ or_shifted_r (bit (p (suc n))) n (marked n p) (marked_lt n p) ∙ sym (marked_suc n p))
     where
       chosen : (a : Bool) → pick a (2 ^ n) 0 ≡ bit a * 2 ^ n
       chosen true = omega arith
       chosen false = omega arith
 
-  -- a row that has nothing is not ready anywhere
-  pub nothing_ready : (n : ℕ) → some_of (λ j. ltb 0 (get_or one (j - 1) 0)) n ≡ false → 0 ≡ ready_row one two n
-  nothing_ready n h = sym (marked_ext n _ (λ j. false) (λ j p. none j (ltb 0 (get_or one (j - 1) 0)) (some_there _ n j p)) ∙ marked_none n)
+  -- by where the row begins
+  pub ready_at : (n place : ℕ) {r : ℕ} → row ≡ place → r ≡ ready_mask one two row n → r ≡ ready_mask one two place n
+  ready_at n place e h = h ∙ ap (λ z. ready_mask one two z n) e
+
+  -- a row of which the first run has nothing is not ready anywhere
+  pub nothing_ready : (n : ℕ) → some_of (λ j. ltb 0 (get_or one (row + (j - 1)) 0)) n ≡ false → 0 ≡ ready_mask one two row n
+  unfolding ready_mask
+  nothing_ready n h = sym (marked_ext n _ (λ j. false) (λ j p. none j (ltb 0 (get_or one (row + (j - 1)) 0)) (some_there _ n j p)) ∙ marked_none n)
     where
-      none : (j : ℕ) (b : Bool) → (T b → T (some_of (λ j. ltb 0 (get_or one (j - 1) 0)) n)) → (b && ltb 0 (get_or two (j - 1) 0)) ≡ false
+      none : (j : ℕ) (b : Bool) → (T b → T (some_of (λ j. ltb 0 (get_or one (row + (j - 1)) 0)) n))
+          → (b && ltb 0 (get_or two (row + (j - 1)) 0)) ≡ false
       none j true f = absurd (rw h at (f tt))
       none j false f = refl
 
@@ -77,16 +81,16 @@ pub ready_pairs : (n i : ℕ) (one two : List ℕ) → ready_mask one two ((i - 
 unfolding ready_mask word place
 ready_pairs n i one two = refl
 
--- whether a row has something, one word after the other: the or of its words so far is above 0
-module _ (run : List ℕ) where
+-- whether a row has something, one column after the other: the or of its words so far is above 0
+module _ (run : List ℕ) (row : ℕ) where
   abbrev above_zero : ℕ → Bool
-  above_zero j = ltb 0 (get_or run (j - 1) 0)
+  above_zero j = ltb 0 (get_or run (row + (j - 1)) 0)
 
   pub none_yet : ltb 0 0 ≡ some_of above_zero 0
   unfolding some_of
   none_yet = refl
 
-  pub some_next : (n found word : ℕ) → ltb 0 found ≡ some_of above_zero n → word ≡ get_or run n 0
+  pub some_next : (n found word : ℕ) → ltb 0 found ≡ some_of above_zero n → word ≡ get_or run (row + n) 0
       → ltb 0 (bit_or found word) ≡ some_of above_zero (n + 1)
   unfolding some_of
   some_next n found word e f =

@@ -1,27 +1,25 @@
 -- When an input has a turn; and, where it has one, what it asks for, and what it takes: the first in turn of the outputs that are open to it. Assumes
 -- nothing.
-use mathlib.Core.Path.{◌≡◌, refl, sym, ◌∙◌, ap₂}
+use mathlib.Core.Path.{◌≡◌, refl, sym, ◌∙◌}
 use mathlib.Core.Bool.{Bool, true, false, not, ◌&&◌, and-false, and_self}
 use mathlib.Core.List.{List}
-use Prim.Native.Nat.{ℕ, ◌+◌, ◌-◌, ◌*◌, ◌≤◌}
+use Prim.Native.Nat.{ℕ, ◌-◌, ◌*◌, ◌≤◌}
 use native.Mathlib.Omega.{arith}
 use borrow.Author.Tests.{le-leb, not-true, not-false}
 use lib.Dec.{leb, ltb, leb→le}
-use lib.ListN.{length, get_or, drop, length-take, length-drop}
+use lib.ListN.{length}
 use Rattle.std.proofs.Math.Facts.{and_yes}
-use Rattle.std.proofs.lemmas.List.{get_or-take, get_or-drop}
-use Rattle.wsgs.specs.Basics.{pick, Port, in_turn}
+use Rattle.wsgs.specs.Basics.{pick, in_turn}
 use Rattle.std.specs.Prelude.{Option, Some}
 use Rattle.wsgs.specs.declared.Output.{Output}
-use Rattle.wsgs.specs.Words.{place, word, port_word}
+use Rattle.wsgs.specs.Words.{word, port_word}
 use Rattle.wsgs.specs.Steps.{marked}
 use Rattle.wsgs.proofs.Laws.Tests.{holds}
 use Rattle.wsgs.proofs.Laws.Marked.{marked_ext}
-use Rattle.wsgs.proofs.Laws.Words.{row_within}
 use Rattle.wsgs.proofs.Laws.InTurn.{in_turn_some}
 use Rattle.words.specs.Places.{is_port}
 use Rattle.words.proofs.PlaceLaws.{known, port_passes}
-use Rattle.turns.specs.Masks.{ready_mask, ready_row}
+use Rattle.turns.specs.Masks.{ready_mask}
 use Rattle.turns.specs.Requests.{has_turn, Turn, RowOf, first_requested, second_requested, common_in_turn, first_output, second_output}
 use Rattle.turns.specs.Charges.{output_told, HasNumber, PairOf}
 use Rattle.turns.proofs.Ready.{ready_pairs, is_open, requested_in_turn}
@@ -56,22 +54,6 @@ module _ (n i : ℕ) (run : List ℕ) where
   pub is_due : Turn n i (length run) → has_turn n i (length run) ≡ true
   is_due t = sym (run_decides n i (length run) (port_passes n i t.few t.port)) ∙ le-leb (n * n) (length run) t.long
 
--- THE ROW of an input that has a turn
-module _ (n i : ℕ) (run row : List ℕ) (r : RowOf n i run row) where
-  row_inside : (i - 1) * n + n ≤ length run
-  row_inside = omega (arith, row_within n i r.turn.port, r.turn.long)
-
-  pub row_length : length row ≡ n
-  row_length =
-      let a : (i - 1) * n + n - (i - 1) * n ≡ n = omega arith in
-      rw (r.words, a) (simp (length-take, length-drop) (omega (arith, row_inside)))
-
-  pub row_word : (j : ℕ) → Port n j → get_or row (j - 1) 0 ≡ word n run i j
-  unfolding word place
-  row_word j p =
-      let a : (i - 1) * n + n - (i - 1) * n ≡ n = omega arith in
-      rw (r.words, a) (get_or-take n (drop ((i - 1) * n) run) (j - 1) 0 (omega (arith, p.low, p.high)) ∙ get_or-drop ((i - 1) * n) run (j - 1) 0)
-
 -- an answer where there is a turn, and where there is none
 pub with_turn : {a : Bool} {r x : ℕ} → a ≡ true → r ≡ x → r ≡ pick a x 0
 with_turn p e = rw p e
@@ -93,21 +75,14 @@ second_no a q = rw (q, and-false a)
 pub row_waits : (n i : ℕ) (queues : List ℕ) → marked n (λ j. ltb 0 (word n queues i j) && ltb 0 (word n queues i j)) ≡ marked n (λ j. ltb 0 (word n queues i j))
 row_waits n i queues = marked_ext n _ _ (λ j p. and_self (ltb 0 (word n queues i j)))
 
--- what two rows of an input are ready for, by its pairs
-pub rows_ready : (n i : ℕ) (one two first second : List ℕ) → RowOf n i one first → RowOf n i two second
-    → ready_row first second (length first) ≡ marked n (λ j. ltb 0 (word n one i j) && ltb 0 (word n two i j))
-rows_ready n i one two first second r q =
-    rw (row_length n i one first r)
-    (marked_ext n _ _ (λ j p. ap₂ (λ a b. ltb 0 a && ltb 0 b) (row_word n i one first r j p) (row_word n i two second q j p)))
+-- what is ready in the row of an input is what it asks for in pass one, and what is ready in one run in pass two
+pub rows_requested : (n i : ℕ) (credits queues : List ℕ) (row : ℕ) → RowOf n i (length credits) row → Turn n i (length queues)
+    → ready_mask credits queues row n ≡ first_requested n i credits queues
+rows_requested n i credits queues row r q =
+    rw (r.begin, both_yes (is_due n i credits r.turn) (is_due n i queues q)) (ready_pairs n i credits queues)
 
--- so it is what the input asks for in pass one, and of a row with itself in pass two
-pub rows_requested : (n i : ℕ) (credits queues first second : List ℕ) → RowOf n i credits first → RowOf n i queues second
-    → ready_row first second (length first) ≡ first_requested n i credits queues
-rows_requested n i credits queues first second r q =
-    rw (both_yes (is_due n i credits r.turn) (is_due n i queues q.turn)) (rows_ready n i credits queues first second r q)
-
-pub row_requested : (n i : ℕ) (queues row : List ℕ) → RowOf n i queues row → ready_row row row (length row) ≡ second_requested n i queues
-row_requested n i queues row r = rw (is_due n i queues r.turn) (rows_ready n i queues queues row row r r ∙ row_waits n i queues)
+pub row_requested : (n i : ℕ) (queues : List ℕ) (row : ℕ) → RowOf n i (length queues) row → ready_mask queues queues row n ≡ second_requested n i queues
+row_requested n i queues row r = rw (r.begin, is_due n i queues r.turn) (ready_pairs n i queues queues ∙ row_waits n i queues)
 
 -- the columns of the row of input i that have packets, by its pairs
 pub waiting_pairs : (n i : ℕ) (queues : List ℕ) → ready_mask queues queues ((i - 1) * n) n ≡ marked n (λ j. ltb 0 (word n queues i j))

@@ -25,7 +25,3 @@ all_free n = 2 ^ min n 32 - 1
 unfoldable pub ready_mask : List ℕ → List ℕ → ℕ → ℕ → ℕ
 unfolding marked
 ready_mask one two row n = marked n (λ j. ltb 0 (get_or one (row + (j - 1)) 0) && ltb 0 (get_or two (row + (j - 1)) 0))
-
--- the columns of two rows of n words in which both are above 0
-abbrev pub ready_row : (one two : List ℕ) (n : ℕ) → ℕ
-ready_row one two n = marked n (λ j. ltb 0 (get_or one (j - 1) 0) && ltb 0 (get_or two (j - 1) 0))

@@ -1,5 +1,5 @@
 -- What a turn goes by and what it answers, for any runs and any numbers. Assumes nothing.
-use Rattle.std.specs.Prelude.{◌≡◌, ◌≤◌, Bool, ◌&&◌, List, ℕ, ◌+◌, ◌-◌, ◌*◌, leb, ltb, length, slice_range}
+use Rattle.std.specs.Prelude.{◌≡◌, ◌≤◌, Bool, ◌&&◌, List, ℕ, ◌+◌, ◌-◌, ◌*◌, leb, ltb, length}
 use Rattle.wsgs.specs.Basics.{pick, Port, in_turn, looks}
 use Rattle.wsgs.specs.Words.{word, port_word}
 use Rattle.wsgs.specs.Steps.{marked}
@@ -17,10 +17,11 @@ pub record Turn (n i words : ℕ) : Type 0 where
   pub port : Port n i
   pub long : n * n ≤ words
 
--- and this is the input's row
-pub record RowOf (n i : ℕ) (run row : List ℕ) : Type 0 where
-  pub turn : Turn n i (length run)
-  pub words : row ≡ slice_range run ((i - 1) * n) ((i - 1) * n + n)
+-- and the input's row begins at a place of the run
+pub record RowOf (n i words row : ℕ) : Type 0 where
+  pub turn : Turn n i words
+  pub begin : row ≡ (i - 1) * n
+  pub within : row + n ≤ n * n
 
 -- the first in turn of the outputs 1..n that stand in two sets, or 0
 abbrev pub common_in_turn : (free asked n last : ℕ) → ℕ

@@ -13,6 +13,8 @@ pub fn last_given(given: &[u32], input: Input) -> u32
     given[(input.0 - 1) as usize]
 }
 
+// Stays (d): one input and one output are named apart, since the word of the one holds the other; a `Pair` would be made for this call.
+//
 // An output is given to an input.
 pub fn note_given(given: &mut [u32], input: Input, output: Output)
     requires some_input { 1 ≤ input.0 }

@@ -19,32 +19,37 @@ use search::choose;
 use sweep::{has_credit, has_turn, ready_in, turn_row};
 use wsgs::{Input, Output, TurnRuns};
 
+// Stays (d): pass one asks for credits first and does not read the queues where there is none; pass two has no credits. A function of both would take an
+// Option of credits and begin with its two arms, which are these.
+//
 // What an input asks for at its turn of pass one: the outputs for which it has a credit and a packet. An input
 // without a credit asks for nothing, and its queues are not read.
 pub fn first_requests(ports: usize, input: Input, runs: &TurnRuns<'_>) -> u32
     ensures asked { result
         ≡ first_requested ports input.0 runs.now.credits.now runs.now.queues.now }
 {
-    let Some(left) = turn_row(ports, input, runs.credits) else {
+    let Some(row) = turn_row(ports, input, runs.credits.len()) else {
         return 0;
     };
-    let Some(waiting) = turn_row(ports, input, runs.queues) else {
-        return 0;
-    };
-    if !has_credit(left) {
+    if !has_turn(ports, input, runs.queues.len()) {
         return 0;
     }
-    ready_in(left, waiting)
+    if !has_credit(ports, row, runs.credits) {
+        return 0;
+    }
+    ready_in(ports, row, runs.credits, runs.queues)
 }
 
+// Stays (d): as `first_requests`.
+//
 // What it asks for at its turn of pass two: the outputs for which it has a packet.
 pub fn second_requests(ports: usize, input: Input, queues: &[u32]) -> u32
     ensures asked { result ≡ second_requested ports input.0 queues.now }
 {
-    let Some(waiting) = turn_row(ports, input, queues) else {
+    let Some(row) = turn_row(ports, input, queues.len()) else {
         return 0;
     };
-    ready_in(waiting, waiting)
+    ready_in(ports, row, queues, queues)
 }
 
 // What a turn gives: the output that the input takes, if it takes one, and the count of looks.
@@ -54,6 +59,9 @@ pub struct Choice {
     pub looks: u32,
 }
 
+// Stays (a): pass two is lent no credits (`kivdrag_test_second_turn`, which C calls), so this takes the two runs and not `TurnRuns`. Pass one is this turn
+// and a credit, and calls it.
+//
 // A turn of pass two that asks for some outputs: it costs a packet, and what the input takes becomes its last given output.
 pub fn second_turn(
     free: u32,
@@ -86,6 +94,8 @@ pub fn second_turn(
     choice
 }
 
+// Stays (a): as `second_turn`.
+//
 // A turn of pass one that asks for some outputs: it costs a credit besides.
 pub fn first_turn(
     free: u32,

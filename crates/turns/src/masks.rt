@@ -4,15 +4,12 @@ ghost use Rattle.turns.specs.Masks.{all_free, is_free, without};
 
 use wsgs::{MAX_PORTS, Output};
 
-// The word of which every bit is set.
-const ALL_BITS: u32 = 4_294_967_295;
-
 // All outputs are free: a bit for each, and from 32 ports on all the bits of a word.
 pub fn all_free(ports: usize) -> u32
     ensures mask { result ≡ all_free ports }
 {
     if ports >= MAX_PORTS as usize {
-        return ALL_BITS;
+        return u32::MAX;
     }
     (1 << ports) - 1
 }

@@ -53,6 +53,8 @@ fn looked_at(free: u32, last: u32, output: Option<Output>) -> u32
     above(free, last) | up_to
 }
 
+// Stays (d): a number of ports up to 32, which the turn has asked about; a type for it would be made for this call.
+//
 // The search among the free outputs of the ports for the first that is asked for, from one past the last given one; and at how many of them it has looked.
 pub fn choose(free: u32, asked: u32, ports: usize, last: u32) -> Choice
     requires ports { ports ≤ 32 }

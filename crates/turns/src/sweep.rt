@@ -1,8 +1,12 @@
 // Whether an input has a turn; and the sweep of its row, which tells for which outputs it has what a pass asks for: bit j - 1 for output j. It reads the
 // whole row, so that the compiler can use vector instructions.
-ghost use Rattle.std.specs.Prelude.{◌≡◌, ◌-◌, ◌^◌, ◌≤◌, ◌<◌, true, false, ltb, length, get_or, IfSome, IfNone};
+//
+// Stays (b): the sweeps count columns and index the runs from where the row begins, as `place` does. Tried on the row as a slice, with `for .. in row.iter()
+// .enumerate()`: up to 58 instructions a tick more at 8 ports (3 %), for the row's address is then kept beside its place. With `zip` of two rows the sweep
+// has no vector instructions: 475 for 151 in a row of 32. `any`, which stops at the first credit, has none either.
+ghost use Rattle.std.specs.Prelude.{◌≡◌, ◌+◌, ◌-◌, ◌^◌, ◌≤◌, ◌<◌, true, false, ltb, length, get_or, IfSome, IfNone};
 ghost use Rattle.wsgs.specs.Basics.{pick, some_of};
-ghost use Rattle.turns.specs.Masks.{ready_row};
+ghost use Rattle.turns.specs.Masks.{ready_mask};
 ghost use Rattle.turns.specs.Requests.{has_turn, Turn, RowOf};
 
 use words::places::{is_port, row_of};
@@ -19,25 +23,25 @@ pub fn has_turn(ports: usize, input: Input, words: usize) -> bool
     ports * ports <= words
 }
 
-// The row of an input in a run on which it has a turn.
-pub fn turn_row(ports: usize, input: Input, run: &[u32]) -> Option<&[u32]>
-    ensures there { IfSome result (λ row. RowOf ports input.0 run.now row.now) }
-    ensures none { IfNone result (has_turn ports input.0 (length run.now) ≡ false) }
+// Where the row of an input begins in a run of so many words on which it has a turn.
+pub fn turn_row(ports: usize, input: Input, words: usize) -> Option<usize>
+    ensures there { IfSome result (λ row. RowOf ports input.0 words row) }
+    ensures none { IfNone result (has_turn ports input.0 words ≡ false) }
 {
-    if !has_turn(ports, input, run.len()) {
+    if !has_turn(ports, input, words) {
         return None;
     }
-    let begin = row_of(ports, input);
-    Some(&run[begin..begin + ports])
+    Some(row_of(ports, input))
 }
 
-// Whether a row has a credit.
-pub fn has_credit(credits: &[u32]) -> bool
-    ensures tested { result ≡ some_of (λ j. ltb 0 (get_or credits.now (j - 1) 0)) (length credits.now) }
+// Whether the row that begins at a place has a credit.
+pub fn has_credit(ports: usize, row: usize, credits: &[u32]) -> bool
+    requires credits_fit { row + ports ≤ length credits.now }
+    ensures tested { result ≡ some_of (λ j. ltb 0 (get_or credits.now (row + (j - 1)) 0)) ports }
 {
     let mut found = 0u32;
-    for word in credits {
-        found |= Credits(*word).0;
+    for column in 0..ports {
+        found |= Credits(credits[row + column]).0;
     }
     found > 0
 }
@@ -53,16 +57,17 @@ fn bit_if(test: bool, column: usize) -> u32
     0
 }
 
-// The outputs for which two rows have something: credits and packets, or packets, as one row with itself.
-pub fn ready_in(credits: &[u32], queues: &[u32]) -> u32
-    requires few { length credits.now ≤ 32 }
-    requires same { length queues.now ≡ length credits.now }
-    ensures ready { result ≡ ready_row credits.now queues.now (length credits.now) }
+// The outputs for which the row that begins at a place has something in two runs: credits and packets, or packets, as one run with itself.
+pub fn ready_in(ports: usize, row: usize, credits: &[u32], queues: &[u32]) -> u32
+    requires few { ports ≤ 32 }
+    requires credits_fit { row + ports ≤ length credits.now }
+    requires queues_fit { row + ports ≤ length queues.now }
+    ensures ready { result ≡ ready_mask credits.now queues.now row ports }
 {
     let mut ready = 0u32;
-    for (column, word) in credits.iter().enumerate() {
-        let packet = bit_if(queues[column] > 0, column);
-        let credit = bit_if(Credits(*word).0 > 0, column);
+    for column in 0..ports {
+        let packet = bit_if(queues[row + column] > 0, column);
+        let credit = bit_if(Credits(credits[row + column]).0 > 0, column);
         ready |= packet & credit;
     }
     ready

@@ -16,6 +16,6 @@ pub returns-clause-outcome : goal.returns-clause-outcome
 returns-clause-outcome c =
     let refusal = refusal_in c.obey-obeyed.result.outcome in
     record_written c.args.progress c.args.buffer.now c.args.runs.now c.obey-obeyed.new.runs c.obey-obeyed.result _ _ c.min-kept.result _ (not-false _ c.if-not-progress.false)
-    (omega (arith, c.min-kept.ensures, c.saturating_sub.ensures)) (rw c.is_some.ensures at c.read_record-reading.ensures.reading) c.obey-obeyed.ensures.outcome
+    (omega (arith, c.min-kept.ensures, c.saturating_sub.ensures)) (rw c.is_some-running.ensures at c.read_record-reading.ensures.reading) c.obey-obeyed.ensures.outcome
     (wrote_front refusal_room c.args.out.now _ c.requires.room (refusal_short refusal) (rw c.err.ensures.value at c.refusal_line.ensures.outcome))
     (rw c.unwrap_or.ensures at c.ended-2.ensures.progress)

@@ -1,11 +1,7 @@
--- `payments::spend_credit` meets its contract: in the input's row the pair's word falls by 1. Assumes nothing.
-use mathlib.Core.Path.{◌∙◌}
-use native.Mathlib.Omega.{arith}
-use Rattle.words.proofs.PlaceLaws.{row_is}
-use Rattle.turns.proofs.Falls.{row_less}
+-- `payments::spend_credit` meets its contract: the pair's place is inside the run, and its credits fall by 1. Assumes nothing.
+use Rattle.turns.proofs.Falls.{at_less}
 use Rattle.turns.proofs.payments.spend_credit.Goals as goal
 
 pub returns : goal.returns
 returns c =
-    let p = c.requires.pair in
-    record { less = row_less _ _ _ _ (c.row_of-begin.ensures.row ∙ row_is _ _ p.few p.input) p.output c.args.credits.now (omega (arith, c.row_of-begin.ensures.within, c.requires.credits_fit)) _ c.spend.ensures.less }
+    record { less = at_less _ _ _ _ c.place-at.ensures.place _ _ c.spend.ensures.less }
