@@ -16,7 +16,7 @@ pub struct PassResult {
     pub served: Served,
 }
 
-// Stays (a), of both loops: a rule of the project has the answer as a `[u8; 32]` by value, in which an input's number is its place; the loop goes over the inputs.
+// Stays (d), of both loops: they go over the inputs, whose number each turn takes; the answer's byte is written in one of a turn's two ways alone.
 //
 // Pass one: the inputs in turn, each with the first in its order of the free outputs for which it has a credit and a packet.
 pub fn pass_one(ports: usize, runs: &mut TurnRuns<'_>) -> PassResult
@@ -55,7 +55,7 @@ pub fn pass_one(ports: usize, runs: &mut TurnRuns<'_>) -> PassResult
     }
 }
 
-// Stays (a): as `pass_one`; and pass two is lent no credits, so it takes the two runs that it changes and not `TurnRuns`.
+// Stays (d): as `pass_one`; and pass two is lent no credits, so it takes the two runs that it changes and not `TurnRuns`.
 //
 // Pass two: the inputs in turn that pass one did not serve, each with the first in its order of the free outputs for which it has a packet.
 pub fn pass_two(

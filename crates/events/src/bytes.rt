@@ -1,5 +1,6 @@
 // A byte of the input: one more of the record so far, or the end of the record.
 // Stays (a): `State` of the clauses has the whole lent buffer, of any length from 65 on, so each function here tells the length that it needs.
+// Buffer, output and runs come apart, since a step is given what is left of the output, and `Lent` has the whole of it.
 ghost use Rattle.std.specs.Prelude.{◌≡◌, ◌+◌, ◌≤◌, ltb, length, set};
 ghost use Rattle.wsgs.specs.Basics.{pick};
 ghost use Rattle.lines.specs.Lines.{refusal_room};

@@ -22,7 +22,7 @@ pub struct TextResult {
 }
 
 // Writes the front of a buffer to standard output, and tells whether it could.
-// Stays (d): both callers have the count from a call that wrote so many bytes, and would cut the buffer by it.
+// Stays (d): the cut may fail for all that a contract tells (`get`), and stands once for both callers.
 fn write_front(rt: &impl Print, out: &[u8], count: usize) -> bool {
     match out.get(..count) {
         Some(front) => rt.write_all(front).is_ok(),

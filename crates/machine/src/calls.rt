@@ -1,6 +1,7 @@
 // What a request does at once to the machine, by its operation.
 ghost use Rattle.std.specs.Prelude.{◌≡◌, Ok};
-ghost use Rattle.wsgs.specs.Program.{obey};
+ghost use Rattle.wsgs.specs.Program.{obey, run_start};
+ghost use Rattle.wsgs.specs.Switch.{direct, pipelined};
 ghost use Rattle.wsgs.specs.Told.{reading_told};
 ghost use Rattle.machine.specs.View.{machine_of, SameSwitchRuns, request_outcome_of};
 
@@ -14,6 +15,53 @@ const MAX_TICK_SLOTS: u64 = 10_000;
 
 // The rate of a line that a start or pipe record gives: none, since no record books by rate.
 const LINE_RATE: u64 = 0;
+
+// Starts a direct switch.
+fn obey_start(
+    machine: Machine,
+    request: Request,
+    runs: &mut SwitchRuns<'_>,
+) -> Result<(Machine, u64), Refused>
+    ensures loans { SameSwitchRuns runs.old runs.new }
+    ensures outcome { request_outcome_of machine request result runs.new
+        ≡ run_start (machine_of machine runs.old) direct request.input request.output }
+{
+    let clock = start_direct(
+        request.input,
+        request.output,
+        LINE_RATE,
+        BookKind::Plain,
+        runs.slots,
+        runs.rates,
+        &mut runs.turns,
+    )?;
+    let form = Some(Form::Direct);
+    Ok((Machine { form, clock }, 0))
+}
+
+// Starts a pipelined switch.
+fn obey_pipe(
+    machine: Machine,
+    request: Request,
+    runs: &mut SwitchRuns<'_>,
+) -> Result<(Machine, u64), Refused>
+    ensures loans { SameSwitchRuns runs.old runs.new }
+    ensures outcome { request_outcome_of machine request result runs.new
+        ≡ run_start (machine_of machine runs.old) pipelined request.input request.output }
+{
+    let clock = start_pipelined(
+        request.input,
+        request.output,
+        LINE_RATE,
+        BookKind::Plain,
+        runs.slots,
+        runs.rates,
+        &mut runs.turns,
+        &mut runs.pipeline,
+    )?;
+    let form = Some(Form::Pipelined);
+    Ok((Machine { form, clock }, 0))
+}
 
 // A request: the machine after it, and the slots that it leaves to run.
 pub fn obey_request(
@@ -32,33 +80,8 @@ pub fn obey_request(
     };
     let amount = BookedSlots(request.amount);
     match request.operation {
-        Operation::Start => {
-            let clock = start_direct(
-                request.input,
-                request.output,
-                LINE_RATE,
-                BookKind::Plain,
-                runs.slots,
-                runs.rates,
-                &mut runs.turns,
-            )?;
-            let form = Some(Form::Direct);
-            Ok((Machine { form, clock }, 0))
-        }
-        Operation::Pipe => {
-            let clock = start_pipelined(
-                request.input,
-                request.output,
-                LINE_RATE,
-                BookKind::Plain,
-                runs.slots,
-                runs.rates,
-                &mut runs.turns,
-                &mut runs.pipeline,
-            )?;
-            let form = Some(Form::Pipelined);
-            Ok((Machine { form, clock }, 0))
-        }
+        Operation::Start => obey_start(machine, request, runs),
+        Operation::Pipe => obey_pipe(machine, request, runs),
         Operation::Book => {
             let rates = &mut *runs.rates;
             book::book(clock, runs.slots, rates, pair, amount)?;

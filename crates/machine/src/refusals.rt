@@ -22,7 +22,7 @@ pub fn number_alone(refused: Refused) -> RefusalLine
 }
 
 // A call's refusal, with the second and third field of its record, which of a start are no ports. Before any accepted start or pipe it has its number alone.
-// Stays (d): so no Pair is made of them.
+// Stays (d): the two fields of a start's record are sizes and no ports, so no Pair is made of them.
 pub fn refusal_line(machine: Machine, input: u64, output: u64, refused: Refused) -> RefusalLine
     ensures line { (r : SwitchRuns) → refusal_told (Some result)
         ≡ refusal_of (machine_of machine r) input output (number refused) }

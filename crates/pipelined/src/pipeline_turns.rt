@@ -111,7 +111,7 @@ pub struct SlotsAhead {
     pub ghost known: { Lookahead ports frame time one two into },
 }
 
-// Stays (d): this is where the ports are looked at, which its caller has asked about; what it gives has its facts as a ghost field.
+// Stays (d): its caller's `Running` says these facts of the clock; here they become the ghost field.
 //
 // What a tick knows of the slots ahead, so that no turn divides.
 pub fn look_ahead(ports: usize, frame: u64, time: u64) -> SlotsAhead

@@ -14,7 +14,7 @@ use wsgs::{Operation, Refused, Request};
 pub const MAX_RECORD: usize = 64;
 
 // The operation that a record's first field names.
-// Stays (d): a `TryFrom` would want an error type, where `None` says all that there is to say.
+// Stays (d): a `TryFrom` would stand in wsgs, away from the names; here a missing field and an unknown name get one refusal by `and_then`.
 #[tactic(auto, using(crate::proofs::Names::by_letters))]
 fn look_up(text: &[u8]) -> Option<Operation>
     ensures operation { result ≡ look_up names text.now }

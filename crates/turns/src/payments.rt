@@ -36,7 +36,7 @@ fn spend(left: Credits) -> Credits
     Credits(left.0.saturating_sub(1))
 }
 
-// Stays (a): credits are a type of their own, so they fall by `spend` and packets by a number.
+// Stays (a): a rule of the project has credits as a tuple struct, so they fall by `spend` and packets by a number.
 //
 // The pair's credits fall by 1.
 pub fn spend_credit(credits: &mut [u32], ports: usize, input: Input, output: Output)

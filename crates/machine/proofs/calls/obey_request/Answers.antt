@@ -3,11 +3,10 @@ use mathlib.Core.Path.{◌≡◌, refl, sym, ap, ◌∙◌}
 use mathlib.Core.Bool.{true, false}
 use Rattle.wsgs.specs.Basics.{between}
 use Rattle.wsgs.specs.Program.{obey}
-use Rattle.wsgs.specs.Switch.{book, release, arrive, direct, pipelined}
-use Rattle.wsgs.proofs.Calls.{books, releases, arrives, start_direct, start_pipelined}
-use Rattle.questions.proofs.Laws.Answers.{number_some}
+use Rattle.wsgs.specs.Switch.{book, release, arrive}
+use Rattle.wsgs.proofs.Calls.{books, releases, arrives}
 use Rattle.machine.specs.View.{machine_of}
-use Rattle.machine.proofs.RecordLaws.{handed, accepted, started, not_started, called, not_called}
+use Rattle.machine.proofs.RecordLaws.{handed, accepted, called, not_called}
 use Rattle.machine.proofs.calls.obey_request.Goals as goal
 
 pub returns-in_ok-book-in-Book-clause-outcome : goal.returns-in_ok-book-in-Book-clause-outcome
@@ -22,7 +21,7 @@ unfolding obey
 returns-in_err-book-in-Book-clause-outcome c =
     let q = c.args.request in
     let m = machine_of c.args.machine c.args.runs.now in
-    handed c.args.machine q _ _ _ c.from_residual-in_err-book-in-Book.ensures.1
+    handed c.args.machine q _ _ _ c.from_residual.ensures.1
     (rw c.in-Book.is
     (not_called m q.input q.output (book q.input q.output q.amount) (books m.switch _ _ _ _ c.in_err-book-in-Book.ensures.outcome)))
 
@@ -58,41 +57,13 @@ returns-in_err-arrive-in-Arrive-clause-outcome c =
     (rw c.in-Arrive.is
     (not_called m q.input q.output (arrive q.input q.output q.amount) (arrives m.switch _ _ _ _ c.in_err-arrive-in-Arrive.ensures.outcome)))
 
-pub returns-in_ok-clock-in-Start-clause-outcome : goal.returns-in_ok-clock-in-Start-clause-outcome
+pub returns-in-Start-clause-outcome : goal.returns-in-Start-clause-outcome
 unfolding obey
-returns-in_ok-clock-in-Start-clause-outcome c =
-    let q = c.args.request in
-    let m = machine_of c.args.machine c.args.runs.now in
-    rw c.in-Start.is
-    (started m q.input q.output direct (start_direct m.switch _ _ _ _ _ (c.in_ok-clock-in-Start.ensures.outcome c.args.machine.clock)) refl)
+returns-in-Start-clause-outcome c = rw c.in-Start.is c.obey_start.ensures.outcome
 
-pub returns-in_err-clock-in-Start-clause-outcome : goal.returns-in_err-clock-in-Start-clause-outcome
+pub returns-in-Pipe-clause-outcome : goal.returns-in-Pipe-clause-outcome
 unfolding obey
-returns-in_err-clock-in-Start-clause-outcome c =
-    let q = c.args.request in
-    let m = machine_of c.args.machine c.args.runs.now in
-    handed c.args.machine q _ _ _ c.from_residual.ensures.1
-    (rw c.in-Start.is
-    (not_started m q.input q.output direct (start_direct m.switch _ _ _ _ _ (c.in_err-clock-in-Start.ensures.outcome c.args.machine.clock))
-    (number_some _)))
-
-pub returns-in_ok-clock-in-Pipe-clause-outcome : goal.returns-in_ok-clock-in-Pipe-clause-outcome
-unfolding obey
-returns-in_ok-clock-in-Pipe-clause-outcome c =
-    let q = c.args.request in
-    let m = machine_of c.args.machine c.args.runs.now in
-    rw c.in-Pipe.is
-    (started m q.input q.output pipelined (start_pipelined m.switch _ _ _ _ _ (c.in_ok-clock-in-Pipe.ensures.outcome c.args.machine.clock)) refl)
-
-pub returns-in_err-clock-in-Pipe-clause-outcome : goal.returns-in_err-clock-in-Pipe-clause-outcome
-unfolding obey
-returns-in_err-clock-in-Pipe-clause-outcome c =
-    let q = c.args.request in
-    let m = machine_of c.args.machine c.args.runs.now in
-    handed c.args.machine q _ _ _ c.from_residual-in_err-clock-in-Pipe.ensures.1
-    (rw c.in-Pipe.is
-    (not_started m q.input q.output pipelined (start_pipelined m.switch _ _ _ _ _ (c.in_err-clock-in-Pipe.ensures.outcome c.args.machine.clock))
-    (number_some _)))
+returns-in-Pipe-clause-outcome c = rw c.in-Pipe.is c.obey_pipe.ensures.outcome
 
 pub returns-then-is_between-clause-outcome : goal.returns-then-is_between-clause-outcome
 unfolding obey
