@@ -10,6 +10,8 @@ use crate::{FeedResult, Progress};
 use lines::{refusal_line, slot_lines};
 use machine::{SwitchRuns, run_slot};
 
+// Stays (d): the new progress is the old one with two fields set; no field is copied from another struct by hand.
+//
 // A slot of a tick record: the first slot that is refused ends the record.
 fn step_slot(progress: Progress, out: &mut [u8], runs: &mut SwitchRuns<'_>) -> FeedResult
     requires some { 1 ≤ progress.slots_left }

@@ -16,6 +16,8 @@ const MAX_TICK_SLOTS: u64 = 10_000;
 // The rate of a line that a start or pipe record gives: none, since no record books by rate.
 const LINE_RATE: u64 = 0;
 
+// Stays (d), of both starts: each form has its own call and definition (starts::start_direct), and what they share is two lines.
+//
 // Starts a direct switch.
 fn obey_start(
     machine: Machine,
@@ -39,6 +41,8 @@ fn obey_start(
     Ok((Machine { form, clock }, 0))
 }
 
+// Stays (d): as `obey_start`.
+//
 // Starts a pipelined switch.
 fn obey_pipe(
     machine: Machine,
@@ -63,6 +67,8 @@ fn obey_pipe(
     Ok((Machine { form, clock }, 0))
 }
 
+// Stays (d): the operation comes as data, and each arm is one call with its own words; closures would be made by such a match too.
+//
 // A request: the machine after it, and the slots that it leaves to run.
 pub fn obey_request(
     machine: Machine,

@@ -5,6 +5,7 @@ ghost use Rattle.wsgs.specs.Words.{port_word, put_port};
 use wsgs::{Input, Output};
 
 // The word of an input.
+#[tactic(auto, unfolding(wsgs::specs::Words::port_word))]
 pub fn last_given(given: &[u32], input: Input) -> u32
     requires some_input { 1 ≤ input.0 }
     requires inside { input.0 ≤ length given.now }
@@ -16,6 +17,7 @@ pub fn last_given(given: &[u32], input: Input) -> u32
 // Stays (d): one input and one output are named apart, since the word of the one holds the other; a `Pair` would be made for this call.
 //
 // An output is given to an input.
+#[tactic(auto, unfolding(wsgs::specs::Words::put_port))]
 pub fn note_given(given: &mut [u32], input: Input, output: Output)
     requires some_input { 1 ≤ input.0 }
     requires inside { input.0 ≤ length given.old }
