@@ -24,7 +24,19 @@ pub fn copy_words(from: &[u32], to: &mut [u32], count: usize)
 {
     if count <= from.len() {
         if count <= to.len() {
-            to[..count].copy_from_slice(&from[..count]);
+            copy_first(from, to, count);
         }
+    }
+}
+
+// The first count words copied, where both runs have them.
+// Stays (a): `copy_from_slice` calls memmove, and the library for C calls memset and memcpy alone (include/kivdrag.h, tests/install).
+fn copy_first(from: &[u32], to: &mut [u32], count: usize)
+    requires from_long { count ≤ length from.now }
+    requires to_long { count ≤ length to.old }
+    ensures to_exit { to.new ≡ copied count from.now to.old }
+{
+    for i in 0..count {
+        to[i] = from[i];
     }
 }
