@@ -19,25 +19,25 @@ use search::choose;
 use sweep::{has_credit, has_turn, ready_in, turn_row};
 use wsgs::{Input, Output, TurnRuns};
 
-// Stays (d): pass one asks for credits first and does not read the queues where there is none; pass two has no credits. A function of both would take an
-// Option of credits and begin with its two arms, which are these.
+// Stays (a): the runs are only read, so this asks for shared slices, as before: `TurnRuns` would ask its callers for them as `&mut`, and for a run that
+// is not read. (d): pass one asks for credits first and does not read the queues where there is none; pass two has no credits. A function of both would
+// take an Option of credits and begin with its two arms, which are these.
 //
 // What an input asks for at its turn of pass one: the outputs for which it has a credit and a packet. An input
 // without a credit asks for nothing, and its queues are not read.
-pub fn first_requests(ports: usize, input: Input, runs: &TurnRuns<'_>) -> u32
-    ensures asked { result
-        ≡ first_requested ports input.0 runs.now.credits.now runs.now.queues.now }
+pub fn first_requests(ports: usize, input: Input, credits: &[u32], queues: &[u32]) -> u32
+    ensures asked { result ≡ first_requested ports input.0 credits.now queues.now }
 {
-    let Some(row) = turn_row(ports, input, runs.credits.len()) else {
+    let Some(row) = turn_row(ports, input, credits.len()) else {
         return 0;
     };
-    if !has_turn(ports, input, runs.queues.len()) {
+    if !has_turn(ports, input, queues.len()) {
         return 0;
     }
-    if !has_credit(ports, row, runs.credits) {
+    if !has_credit(ports, row, credits) {
         return 0;
     }
-    ready_in(ports, row, runs.credits, runs.queues)
+    ready_in(ports, row, credits, queues)
 }
 
 // Stays (d): as `first_requests`.
