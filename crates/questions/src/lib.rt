@@ -6,17 +6,15 @@ mod runs;
 ghost use Rattle.std.specs.Prelude.{◌≡◌};
 ghost use Rattle.wsgs.specs.Basics.{between};
 ghost use Rattle.wsgs.specs.Questions.{pair_in_range, holds_pairs, holds_book, holds_ports};
-ghost use Rattle.wsgs.specs.Told.{refusal_number, book_lent, direct_lent, pipelined_lent};
+ghost use Rattle.wsgs.specs.Told.{refusal_number, book_lent};
+ghost use Rattle.wsgs.specs.Answers.{direct_runs_of, pipelined_runs_of};
 ghost use Rattle.wsgs.specs.Direct;
 ghost use Rattle.wsgs.specs.Pipelined;
 ghost use Rattle.questions.specs.Refusals.{sizes_refusal, line_refusal, clock_refusal, pair_refusal};
 ghost use Rattle.questions.specs.Refusals.{direct_runs_refusal, pipelined_runs_refusal};
 
 use runs::{direct_runs_suffice, pipelined_runs_suffice};
-use wsgs::{
-    BookRuns, Clock, MAX_FRAME, MAX_LINE_RATE, MAX_PORTS, MAX_SLOT, Pair, PipelineRuns, Refused,
-    TurnRuns,
-};
+use wsgs::{BookRuns, Clock, MAX_FRAME, MAX_LINE_RATE, MAX_PORTS, MAX_SLOT, Pair, Refused};
 
 // Whether a number is one of low to high.
 pub fn is_between(low: u64, high: u64, number: u64) -> bool
@@ -103,101 +101,134 @@ pub fn check_pair(clock: Clock, enough: bool, pair: Pair) -> Result<(), Refused>
 }
 
 // The sizes and the runs of a direct switch: questions 1, 2 and 4.
-// Stays (d): one function for both forms would take an Option of the pipeline, ask twice whether it is there, and promise the refusal by cases;
-// so each form cites its own definition, in Direct or Pipelined, and a start or a tick of it is this and one question.
+// Stays (a): the runs are only read, so this asks for shared slices, as before: `TurnRuns` and `PipelineRuns` would ask its callers for each as `&mut`.
+// (d): one function for both forms would take Options of the frame copy and the rows in flight, ask twice whether they are there, and promise the refusal
+// by cases; so each form cites its own definition, in Direct or Pipelined, and a start or a tick of it is this and one question.
 fn check_direct_runs(
     ports: u64,
     frame: u64,
     book: BookRuns<'_>,
-    runs: &TurnRuns<'_>,
+    credits: &[u32],
+    queues: &[u32],
+    given: &[u32],
 ) -> Result<(), Refused>
-    ensures result { refusal_number result ≡ direct_runs_refusal ports frame (direct_lent book.entry runs.now) }
+    ensures result { refusal_number result ≡ direct_runs_refusal ports frame
+        (direct_runs_of book.entry.slots.now book.entry.rates.now credits.now queues.now given.now) }
 {
     check_sizes(ports, frame)?;
-    if !direct_runs_suffice(ports, book, runs) {
+    if !direct_runs_suffice(ports, book, credits, queues, given) {
         return Err(Refused::Runs);
     }
     Ok(())
 }
 
 // The start of a direct switch: those, and question 6.
-// Stays (d): as check_direct_runs; and ports, frame and line are the words of one call, read here and nowhere kept.
+// Stays (a), (d): as check_direct_runs; and ports, frame and line are the words of one call, read here and nowhere kept.
 pub fn check_direct_start(
     ports: u64,
     frame: u64,
     line: u64,
     book: BookRuns<'_>,
-    runs: &TurnRuns<'_>,
+    credits: &[u32],
+    queues: &[u32],
+    given: &[u32],
 ) -> Result<(), Refused>
-    ensures result { refusal_number result ≡ Direct.start_refusal ports frame line (direct_lent book.entry runs.now) }
+    ensures result { refusal_number result ≡ Direct.start_refusal ports frame line
+        (direct_runs_of book.entry.slots.now book.entry.rates.now credits.now queues.now given.now) }
 {
-    check_direct_runs(ports, frame, book, runs)?;
+    check_direct_runs(ports, frame, book, credits, queues, given)?;
     check_line(line)
 }
 
 // A tick of a direct switch: questions 1, 2, 4 and 7.
-// Stays (d): as check_direct_runs.
+// Stays (a), (d): as check_direct_runs.
 pub fn check_direct_tick(
     clock: Clock,
     book: BookRuns<'_>,
-    runs: &TurnRuns<'_>,
+    credits: &[u32],
+    queues: &[u32],
+    given: &[u32],
 ) -> Result<(), Refused>
-    ensures result { refusal_number result ≡ Direct.tick_refusal clock (direct_lent book.entry runs.now) }
+    ensures result { refusal_number result ≡ Direct.tick_refusal clock
+        (direct_runs_of book.entry.slots.now book.entry.rates.now credits.now queues.now given.now) }
 {
-    check_direct_runs(clock.ports as u64, clock.frame as u64, book, runs)?;
+    let ports = clock.ports as u64;
+    let length = clock.frame as u64;
+    check_direct_runs(ports, length, book, credits, queues, given)?;
     check_clock(clock)
 }
 
 // The sizes and the runs of a pipelined switch: questions 1 to 4.
-// Stays (d): as check_direct_runs.
+// Stays (a), (d): as check_direct_runs.
 fn check_pipelined_runs(
     ports: u64,
     frame: u64,
     book: BookRuns<'_>,
-    runs: &TurnRuns<'_>,
-    pipeline: &PipelineRuns<'_>,
+    credits: &[u32],
+    queues: &[u32],
+    given: &[u32],
+    copy: &[u32],
+    flight: &[u32],
 ) -> Result<(), Refused>
-    ensures result { refusal_number result
-        ≡ pipelined_runs_refusal ports frame (pipelined_lent book.entry runs.now pipeline.now) }
+    ensures result { refusal_number result ≡ pipelined_runs_refusal ports frame
+        (pipelined_runs_of book.entry.slots.now book.entry.rates.now credits.now queues.now
+        given.now copy.now flight.now) }
 {
     check_sizes(ports, frame)?;
     if frame < ports {
         return Err(Refused::ShortFrame);
     }
-    if !pipelined_runs_suffice(ports, book, runs, pipeline) {
+    if !pipelined_runs_suffice(ports, book, credits, queues, given, copy, flight) {
         return Err(Refused::Runs);
     }
     Ok(())
 }
 
 // The start of a pipelined switch: those, and question 6.
-// Stays (d): as check_direct_start.
+// Stays (a), (d): as check_direct_start.
 pub fn check_pipelined_start(
     ports: u64,
     frame: u64,
     line: u64,
     book: BookRuns<'_>,
-    runs: &TurnRuns<'_>,
-    pipeline: &PipelineRuns<'_>,
+    credits: &[u32],
+    queues: &[u32],
+    given: &[u32],
+    copy: &[u32],
+    flight: &[u32],
 ) -> Result<(), Refused>
-    ensures result { refusal_number result
-        ≡ Pipelined.start_refusal ports frame line (pipelined_lent book.entry runs.now pipeline.now) }
+    ensures result { refusal_number result ≡ Pipelined.start_refusal ports frame line
+        (pipelined_runs_of book.entry.slots.now book.entry.rates.now credits.now queues.now
+        given.now copy.now flight.now) }
 {
-    check_pipelined_runs(ports, frame, book, runs, pipeline)?;
+    check_pipelined_runs(ports, frame, book, credits, queues, given, copy, flight)?;
     check_line(line)
 }
 
 // A tick of a pipelined switch: questions 1 to 4 and 7.
-// Stays (d): as check_direct_runs.
+// Stays (a), (d): as check_direct_runs.
 pub fn check_pipelined_tick(
     clock: Clock,
     book: BookRuns<'_>,
-    runs: &TurnRuns<'_>,
-    pipeline: &PipelineRuns<'_>,
+    credits: &[u32],
+    queues: &[u32],
+    given: &[u32],
+    copy: &[u32],
+    flight: &[u32],
 ) -> Result<(), Refused>
-    ensures result { refusal_number result
-        ≡ Pipelined.tick_refusal clock (pipelined_lent book.entry runs.now pipeline.now) }
+    ensures result { refusal_number result ≡ Pipelined.tick_refusal clock
+        (pipelined_runs_of book.entry.slots.now book.entry.rates.now credits.now queues.now
+        given.now copy.now flight.now) }
 {
-    check_pipelined_runs(clock.ports as u64, clock.frame as u64, book, runs, pipeline)?;
+    check_pipelined_runs(
+        clock.ports as u64,
+        clock.frame as u64,
+        book,
+        credits,
+        queues,
+        given,
+        copy,
+        flight,
+    )?;
     check_clock(clock)
 }
