@@ -34,7 +34,16 @@ pub fn start_direct(
         ≡ start_effect (Direct.start ports frame line (kind_is_fine kind) c
         (direct_runs_of slots.old rates.old runs.old.credits.now runs.old.queues.now runs.old.given.now)) }
 {
-    check_direct_start(ports, frame, line, BookRuns { slots, rates }, runs)?;
+    // `&mut *`, though the runs are only read: two fields behind a `&mut` that are lent as `&` at once have no proof in this kit.
+    check_direct_start(
+        ports,
+        frame,
+        line,
+        BookRuns { slots, rates },
+        &mut *runs.credits,
+        &mut *runs.queues,
+        &mut *runs.given,
+    )?;
     clear_runs(ports, slots, rates, runs);
     Ok(first_clock(ports, frame, line, kind))
 }
@@ -60,13 +69,17 @@ pub fn start_pipelined(
         (pipelined_runs_of slots.old rates.old runs.old.credits.now runs.old.queues.now
         runs.old.given.now pipeline.old.copy.now pipeline.old.flight.now)) }
 {
+    // `&mut *` as in start_direct.
     check_pipelined_start(
         ports,
         frame,
         line,
         BookRuns { slots, rates },
-        runs,
-        pipeline,
+        &mut *runs.credits,
+        &mut *runs.queues,
+        &mut *runs.given,
+        &mut *pipeline.copy,
+        &mut *pipeline.flight,
     )?;
     clear_runs(ports, slots, rates, runs);
     clear_pipeline(ports, pipeline);
