@@ -38,7 +38,8 @@ pub fn pass_one(ports: usize, runs: &mut TurnRuns<'_>) -> PassResult
     let mut first_pass = 0u32;
     for row in 0..ports {
         let input = Input(row as u64 + 1);
-        let asked = first_requests(ports, input, runs);
+        // `&mut *`, though the runs are only read: two fields behind a `&mut` that are lent as `&` at once have no proof in this kit.
+        let asked = first_requests(ports, input, &mut *runs.credits, &mut *runs.queues);
         let choice = first_turn(free, asked, ports, input, runs);
         if let Some(output) = choice.output {
             free = take(free, output);
