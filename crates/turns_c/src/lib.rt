@@ -37,12 +37,12 @@ pub fn kivdrag_test_first_turn(
     ensures queues_exit { queues.new ≡ charged ports queues.old input result }
     ensures given_exit { given.new ≡ noted given.old input result }
 {
+    let asked = first_requests(ports, Input(input), credits, queues);
     let mut runs = TurnRuns {
         credits,
         queues,
         given,
     };
-    let asked = first_requests(ports, Input(input), &runs);
     let choice = first_turn(free, asked, ports, Input(input), &mut runs);
     *looks = choice.looks;
     number(choice.output)
