@@ -72,6 +72,15 @@ pub fn tick(
     ensures outcome { effect (tick_told clock result) (pipelined_lent book.entry runs.new pipeline.new)
         ≡ tick_effect (Pipelined.tick clock (pipelined_lent book.entry runs.old pipeline.old)) }
 {
-    check_pipelined_tick(clock, book, runs, pipeline)?;
+    // `&mut *`, though the runs are only read: two fields behind a `&mut` that are lent as `&` at once have no proof in this kit.
+    check_pipelined_tick(
+        clock,
+        book,
+        &mut *runs.credits,
+        &mut *runs.queues,
+        &mut *runs.given,
+        &mut *pipeline.copy,
+        &mut *pipeline.flight,
+    )?;
     Ok(run_tick(clock, book, runs, pipeline))
 }

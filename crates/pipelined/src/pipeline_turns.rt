@@ -27,7 +27,8 @@ fn turn_one(ports: usize, row: usize, input: Input, runs: &mut TurnRuns<'_>, fli
         ≡ turn_one ports s input.0
         (turn_runs_of runs.old.credits.now runs.old.queues.now runs.old.given.now flight.old) }
 {
-    let asked = first_requests(ports, input, runs);
+    // `&mut *`, though the runs are only read: two fields behind a `&mut` that are lent as `&` at once have no proof in this kit.
+    let asked = first_requests(ports, input, &mut *runs.credits, &mut *runs.queues);
     if asked == 0 {
         return;
     }
