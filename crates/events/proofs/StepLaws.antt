@@ -7,25 +7,28 @@ use native.Mathlib.Omega.{arith}
 use borrow.Author.Tests.{lt-ltb, le-ltb, le-leb, lt-leb, ne_eqb}
 use lib.Dec.{eqb, ltb, leb}
 use lib.ListN.{length, get_or, take}
-use Rattle.std.specs.Prelude.{Some, Ok, Err}
-use Rattle.std.specs.Option.{is_some}
-use Rattle.std.specs.Result.{result_unwrap_or}
+use Rattle.std.specs.Prelude.{Some, Result, Ok, Err, IfErr}
+use Rattle.std.specs.Result.{result_unwrap_or, MatchResult, IsErrAnd}
+use Rattle.std.proofs.lemmas.Result.{IfErr-at_err}
+use Rattle.wsgs.specs.declared.Refused.{Refused}
+use Rattle.wsgs.specs.declared.Request.{Request}
 use Rattle.wsgs.specs.declared.RefusalLine.{RefusalLine}
 use Rattle.wsgs.specs.Text.{LF}
 use Rattle.wsgs.specs.Records.{Reading, read_record}
+use Rattle.wsgs.specs.Records
 use Rattle.wsgs.specs.Answers.{matching_of}
 use Rattle.wsgs.specs.Questions.{effect}
 use Rattle.wsgs.specs.Program.{RecordOutcome, SlotOutcome, obey, run_slot, refusal_text, slot_text, match_lines}
 use Rattle.wsgs.specs.Program
-use Rattle.wsgs.specs.Told.{number, refusal_told}
-use Rattle.lines.proofs.Printing.{numbered, refusal_short}
+use Rattle.wsgs.specs.Told.{number, reading_of, reading_told, refusal_told}
+use Rattle.lines.proofs.Printing.{refusal_short}
 use Rattle.lines.specs.Lines.{TextWritten, slot_room, refusal_room, put_effect}
 use Rattle.lines.proofs.Writing.{wrote_none, wrote_is, wrote_front}
 use Rattle.machine.specs.declared.RecordResult.{RecordResult}
 use Rattle.machine.specs.declared.SlotPairs.{SlotPairs}
 use Rattle.machine.specs.declared.SlotResult.{SlotResult}
 use Rattle.machine.specs.declared.SwitchRuns.{SwitchRuns}
-use Rattle.machine.specs.View.{machine_of, refusal_in, record_outcome_of, slot_outcome_of}
+use Rattle.machine.specs.View.{book_in, machine_of, refusal_in, record_outcome_of, slot_outcome_of}
 use Rattle.events.specs.declared.Progress.{Progress}
 use Rattle.events.specs.Feeding.{kept_bytes, State, kept_reading, StepOutcome, with_machine, ended, appended, slots_after, slot_step, record_step, record_end, byte_step, next_step, has_work}
 use Rattle.events.specs.View.{state_of, ended_progress, moved_progress, StepWritten}
@@ -34,6 +37,13 @@ use Rattle.events.proofs.Whole.{end_read, end_heading, byte_ends, byte_more}
 -- a step by another name
 step_is : {o o' : StepOutcome} {s : State} {out out' : List ℕ} {at next : ℕ} → o ≡ o' → StepWritten o' s out at next out' → StepWritten o s out at next out'
 step_is {s = s} {out = out} {out' = out'} {at = at} {next = next} e h = subst⁻¹ (λ (o : StepOutcome). StepWritten o s out at next out') e h
+
+-- a reader's refusal by its number
+pub read_by_number : (r : Result Request Refused) (m : Result Request ℕ)
+    → MatchResult r (λ q. m ≡ Ok q) (λ d. IsErrAnd m (λ n. n ≡ number d)) → reading_of m ≡ reading_told r
+read_by_number (Ok q) m h = ap reading_of h
+read_by_number (Err d) (Ok q) h = absurd h
+read_by_number (Err d) (Err n) h = ap Records.Refused h
 
 module _ (k : Progress) (b : List ℕ) (before : SwitchRuns) where
   abbrev S : State
@@ -60,11 +70,11 @@ module _ (k : Progress) (b : List ℕ) (before : SwitchRuns) where
         }
 
     pub record_written : (n : ℕ) (reading : Reading) → k.past_heading ≡ true → n ≡ min (k.count - 1) kept_bytes
-        → reading ≡ read_record (is_some k.machine.form) (take n b) → record_outcome_of r after ≡ obey M reading
+        → reading ≡ read_record k.machine.running (take n b) → record_outcome_of r after ≡ obey M reading
         → TextWritten out 0 (refusal_text (refusal_in r.outcome)) count out' → k' ≡ ended_progress r.machine (result_unwrap_or r.outcome 0)
         → StepWritten (record_end S) (state_of k' b after) out 0 count out'
     record_written n reading h en er e w ek =
-        let is : reading ≡ kept_reading S = er ∙ ap (λ n. read_record (is_some k.machine.form) (take n b)) en in
+        let is : reading ≡ kept_reading S = er ∙ ap (λ n. read_record k.machine.running (take n b)) en in
         step_is (end_read S h ∙ ap (record_step S) (sym is)) (obeyed_written reading e w ek)
 
   -- A BYTE
@@ -77,8 +87,8 @@ module _ (k : Progress) (b : List ℕ) (before : SwitchRuns) where
     byte_kept {out = out} t h = step_is (byte_more S x t) (record { state = h; text = wrote_none out 0 (omega arith) })
 
   -- A SLOT
-  module _ {out out' : List ℕ} (after : SwitchRuns) (r : SlotResult) (k' : Progress) (left count : ℕ) (is : slot_outcome_of r after ≡ run_slot M) where
-    slot_written : TextWritten out 0 (slot_text (slot_outcome_of r after)) count out' → left ≡ slots_after (refusal_in r.outcome).number k.slots_left
+  module _ {out out' : List ℕ} (after : SwitchRuns) (r : SlotResult) (k' : Progress) (left count : ℕ) (is : slot_outcome_of r (book_in after) after.turns after.pipeline ≡ run_slot M) where
+    slot_written : TextWritten out 0 (slot_text (slot_outcome_of r (book_in after) after.turns after.pipeline)) count out' → left ≡ slots_after (refusal_in r.outcome).number k.slots_left
         → k' ≡ moved_progress k r.machine left → StepWritten (slot_step S) (state_of k' b after) out 0 count out'
     unfolding slot_step
     slot_written w en ek =
@@ -99,11 +109,12 @@ module _ (k : Progress) (b : List ℕ) (before : SwitchRuns) where
     pairs_written pairs e short room w l ek =
         slot_written (wrote_is (wrote_front slot_room out _ room short w) (rw e)) (rw e l) ek
 
-    pub slot_refused : (line : RefusalLine) → r.outcome ≡ Err line → slot_room ≤ length out
+    pub slot_refused : (line : RefusalLine) → r.outcome ≡ Err line → IfErr r.outcome (λ l. 1 ≤ l.number) → slot_room ≤ length out
         → effect count out' ≡ put_effect refusal_room (refusal_text (refusal_told (Some line))) out
         → left ≡ 0 → k' ≡ moved_progress k r.machine left → StepWritten (slot_step S) (state_of k' b after) out 0 count out'
-    slot_refused line e room w l ek =
-        let some : eqb (number line.refused) 0 ≡ false = ne_eqb (number line.refused) 0 (numbered line.refused) in
+    slot_refused line e h room w l ek =
+        let numbered : 1 ≤ line.number = IfErr-at_err (λ (l : RefusalLine). 1 ≤ l.number) e h in
+        let some : eqb line.number 0 ≡ false = ne_eqb line.number 0 (λ z. omega arith) in
         slot_written
         (wrote_is (wrote_front refusal_room out _ (omega arith) (refusal_short (refusal_told (Some line))) w) (rw (e, some)))
         (rw (e, some) l) ek

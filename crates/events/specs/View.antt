@@ -1,5 +1,6 @@
 -- The declared types beside the lent slices, as the definitions have them. Assumes nothing.
-use Rattle.std.specs.Prelude.{◌≡◌, true, false, List, ℕ, length, None}
+use Rattle.std.specs.Prelude.{◌≡◌, true, false, List, ℕ, length}
+use Rattle.wsgs.specs.declared.Form.TheVariants as Forms
 use Rattle.wsgs.specs.Clocks.{first_clock}
 use Rattle.wsgs.specs.Switch.{plain}
 use Rattle.lines.specs.Lines.{with_text, TextWritten}
@@ -59,7 +60,7 @@ moved_progress k m left =
 abbrev pub first_progress : Progress
 first_progress =
     record {
-      machine = record { form = None; clock = first_clock 0 0 0 plain };
+      machine = record { running = false; form = Forms.Direct; clock = first_clock 0 0 0 plain };
       past_heading = false;
       after_cr = false;
       count = 0;

@@ -52,9 +52,8 @@ fn end_record(
         };
     }
     let kept = progress.count.saturating_sub(1).min(KEPT_BYTES);
-    let running = machine.form.is_some();
-    let reading = read_record(running, &buffer[..kept]);
-    let obeyed = obey(machine, reading, runs);
+    let reading = read_record(machine.running, &buffer[..kept]);
+    let obeyed = obey(machine, reading.map_err(u32::from), runs);
     let outcome = obeyed.outcome;
     FeedResult {
         progress: Progress::ended(obeyed.machine, outcome.unwrap_or(0)),

@@ -12,7 +12,7 @@ use lines::SLOT_ROOM;
 use machine::{Machine, SwitchRuns};
 use records::MAX_RECORD;
 use steps::step;
-use wsgs::Clock;
+use wsgs::{Clock, Form};
 
 // The bytes that are kept of a record, one more than the longest that can be read has; and the most that are counted.
 pub const KEPT_BYTES: usize = MAX_RECORD + 1;
@@ -62,7 +62,11 @@ pub fn begin() -> Progress
         fine: 0,
     };
     Progress {
-        machine: Machine { form: None, clock },
+        machine: Machine {
+            running: false,
+            form: Form::Direct,
+            clock,
+        },
         past_heading: false,
         after_cr: false,
         count: 0,

@@ -9,6 +9,7 @@ use crate::bytes::take_byte;
 use crate::{FeedResult, Progress};
 use lines::{refusal_line, slot_lines};
 use machine::{SwitchRuns, run_slot};
+use wsgs::BookRuns;
 
 // Stays (d): the new progress is the old one with two fields set; no field is copied from another struct by hand.
 //
@@ -21,7 +22,10 @@ fn step_slot(progress: Progress, out: &mut [u8], runs: &mut SwitchRuns<'_>) -> F
     ensures outcome { (b : List ℕ) → StepWritten (slot_step (state_of progress b runs.old))
         (state_of result.progress b runs.new) out.old 0 result.written out.new }
 {
-    let slot = run_slot(progress.machine, runs);
+    let slots = &mut *runs.slots;
+    let rates = &mut *runs.rates;
+    let book = BookRuns { slots, rates };
+    let slot = run_slot(progress.machine, book, &mut runs.turns, &mut runs.pipeline);
     let machine = slot.machine;
     match slot.outcome {
         Ok(pairs) => FeedResult {

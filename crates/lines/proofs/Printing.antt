@@ -2,7 +2,6 @@
 use mathlib.Core.Path.{◌≡◌, refl, sym, ◌∙◌}
 use mathlib.Core.Bool.{Bool}
 use mathlib.Core.List.{List, [], ◌∷◌, ◌++◌, map, append_assoc, append-nil}
-use mathlib.Core.Logic.{◌≢◌}
 use Prim.Native.Nat.{ℕ, zero, suc, ◌+◌, ◌-◌, ◌*◌, ◌/◌, ◌^◌, ◌≤◌, ◌<◌, min}
 use native.Mathlib.Decide.{ℕ_discrete, dec_le}
 use native.Mathlib.Nat.{add-zero, add-suc}
@@ -13,9 +12,6 @@ use lib.Dec.{eqb}
 use lib.Bits.{bit_and, and_mask}
 use lib.ListN.{length, get_or, take, length-append, get_or-eq_default}
 use lib.Seq.{length-take-le, get_or-take}
-use Rattle.wsgs.specs.declared.Refused.{Refused}
-use Rattle.wsgs.specs.declared.Refused.TheVariants as Why
-use Rattle.wsgs.specs.Told.{number}
 use Rattle.wsgs.specs.Answers.{matching_of}
 use Rattle.wsgs.specs.Basics.{pick}
 use Rattle.wsgs.specs.Steps.{Matching}
@@ -64,24 +60,6 @@ pub line_short : (name : List ℕ) (a b c d : ℕ)
     → length (line (name ∷ decimal a ∷ decimal b ∷ decimal c ∷ decimal d ∷ [])) ≤ length name + line_room
 line_short name a b c d =
     rw (← line_of name (a ∷ b ∷ c ∷ d ∷ [])) (simp length-append (omega (arith, fields_short (a ∷ b ∷ c ∷ d ∷ []))))
-
--- each refusal has a number
-pub numbered : (r : Refused) → number r ≢ 0
-numbered Why.Ports e = omega arith
-numbered Why.Frame e = omega arith
-numbered Why.ShortFrame e = omega arith
-numbered Why.Runs e = omega arith
-numbered Why.Pair e = omega arith
-numbered Why.Amount e = omega arith
-numbered Why.Clock e = omega arith
-numbered Why.Row e = omega arith
-numbered Why.Column e = omega arith
-numbered Why.Held e = omega arith
-numbered Why.Queue e = omega arith
-numbered Why.Record e = omega arith
-numbered Why.Fields e = omega arith
-numbered Why.Number e = omega arith
-numbered Why.Sharing e = omega arith
 
 -- no refusal, and the line of one
 module _ (r : Refusal) where

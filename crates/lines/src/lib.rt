@@ -34,7 +34,7 @@ pub fn heading_line(out: &mut [u8]) -> usize
     printer.count
 }
 
-// A refusal's line, if there is a refusal.
+// A refusal's line, if there is a refusal. Number 0 is none.
 pub fn refusal_line(out: &mut [u8], refusal: Option<RefusalLine>) -> usize
     ensures outcome { effect result out.new
         ≡ put_effect refusal_room (refusal_text (refusal_told refusal)) out.old }
@@ -45,7 +45,10 @@ pub fn refusal_line(out: &mut [u8], refusal: Option<RefusalLine>) -> usize
     let Some(line) = refusal else {
         return 0;
     };
-    let number = u64::from(u32::from(line.refused));
+    if line.number == 0 {
+        return 0;
+    }
+    let number = u64::from(line.number);
     let mut printer = Printer::new(out);
     printer.put_line(b"refused", [line.slot, line.input, line.output, number]);
     printer.count

@@ -1,19 +1,18 @@
 -- The declared types beside the lent runs, as the definitions have them. Assumes nothing.
-use Rattle.std.specs.Prelude.{◌≡◌, ℕ, Option, Some, None, Result, Ok, Err}
-use Rattle.std.specs.Option.{is_some}
+use Rattle.std.specs.Prelude.{◌≡◌, ℕ, Result, Ok, Err}
 use Rattle.std.specs.Result.{result_err, result_unwrap_or}
 use Rattle.wsgs.specs.declared.Clock.{Clock}
-use Rattle.wsgs.specs.declared.Form
 use Rattle.wsgs.specs.declared.Refused.{Refused}
 use Rattle.wsgs.specs.declared.RefusalLine.{RefusalLine}
 use Rattle.wsgs.specs.declared.Request.{Request}
 use Rattle.wsgs.specs.declared.Ticked.{Ticked}
+use Rattle.wsgs.specs.declared.TurnRuns.{TurnRuns}
+use Rattle.wsgs.specs.declared.PipelineRuns.{PipelineRuns}
 use Rattle.wsgs.specs.Answers.{TickResult, matching_of}
-use Rattle.wsgs.specs.Bookings.{book_of}
+use Rattle.wsgs.specs.Bookings.{Book, book_of}
 use Rattle.wsgs.specs.Ledger.{slot_of_tick}
 use Rattle.wsgs.specs.Steps.{Matching, empty_matching}
-use Rattle.wsgs.specs.Switch.{Switch, Outcome, direct}
-use Rattle.wsgs.specs.Switch
+use Rattle.wsgs.specs.Switch.{Switch, Outcome}
 use Rattle.wsgs.specs.Told.{number, form_told, tick_told, refusal_told, SameTurnRuns, SamePipelineRuns}
 use Rattle.wsgs.specs.Program.{number_alone, refusal_of, Refusal, RecordOutcome, SlotOutcome}
 use Rattle.wsgs.specs.Program
@@ -23,26 +22,28 @@ use Rattle.machine.specs.declared.RecordResult.{RecordResult}
 use Rattle.machine.specs.declared.SlotPairs.{SlotPairs}
 use Rattle.machine.specs.declared.SlotResult.{SlotResult}
 
--- the form of a machine: before any accepted start or pipe it is direct
-abbrev pub form_of : Option Form.Form → Switch.Form
-form_of None = direct
-form_of (Some f) = form_told f
-
--- a machine with its runs
-abbrev pub switch_of : Clock → SwitchRuns → Switch
-switch_of k r =
+-- a machine with its book and the other runs that it is lent
+abbrev pub switch_lent : Clock → Book → TurnRuns → PipelineRuns → Switch
+switch_lent k b t p =
     record {
       clock = k;
-      book = book_of r.slots.now r.rates.now;
-      credits = r.turns.credits.now;
-      queues = r.turns.queues.now;
-      given = r.turns.given.now;
-      copy = r.pipeline.copy.now;
-      flight = r.pipeline.flight.now;
+      book = b;
+      credits = t.credits.now;
+      queues = t.queues.now;
+      given = t.given.now;
+      copy = p.copy.now;
+      flight = p.flight.now;
     }
 
+abbrev pub machine_lent : Machine → Book → TurnRuns → PipelineRuns → Program.Machine
+machine_lent m b t p = record { running = m.running; form = form_told m.form; switch = switch_lent m.clock b t p }
+
+-- and with all its runs
+abbrev pub book_in : SwitchRuns → Book
+book_in r = book_of r.slots.now r.rates.now
+
 abbrev pub machine_of : Machine → SwitchRuns → Program.Machine
-machine_of m r = record { running = is_some m.form; form = form_of m.form; switch = switch_of m.clock r }
+machine_of m r = machine_lent m (book_in r) r.turns r.pipeline
 
 -- after a call these are still the same loans
 pub record SameSwitchRuns (before after : SwitchRuns) : Type 0 where
@@ -66,24 +67,24 @@ request_outcome_of m q (Err refused) r =
     record { machine = machine_of m r; slots = 0; refusal = refusal_of (machine_of m r) q.input q.output (number refused) }
 
 -- what the tick of a slot leaves
-abbrev pub tick_outcome_of : Clock → Result Ticked Refused → SwitchRuns → Outcome
-tick_outcome_of k t r =
-    let o : TickResult = tick_told k t in
-    record { refusal = o.refusal; matching = matching_of o.outputs o.first_pass; after = switch_of o.clock r }
+abbrev pub tick_outcome_of : Clock → Result Ticked Refused → Book → TurnRuns → PipelineRuns → Outcome
+tick_outcome_of k o b t p =
+    let told : TickResult = tick_told k o in
+    record { refusal = told.refusal; matching = matching_of told.outputs told.first_pass; after = switch_lent told.clock b t p }
 
 -- what a slot leaves, with the runs: a refused one has no pairs, and keeps the clock
 abbrev pub slot_in : Machine → Result SlotPairs RefusalLine → ℕ
 slot_in m (Ok pairs) = pairs.slot
-slot_in m (Err line) = slot_of_tick (form_of m.form) m.clock.slot
+slot_in m (Err line) = slot_of_tick (form_told m.form) m.clock.slot
 
 abbrev pub pairs_in : Result SlotPairs RefusalLine → Matching
 pairs_in (Ok pairs) = matching_of pairs.served.outputs pairs.served.first_pass
 pairs_in (Err line) = empty_matching
 
-abbrev pub slot_outcome_of : SlotResult → SwitchRuns → SlotOutcome
-slot_outcome_of o r =
+abbrev pub slot_outcome_of : SlotResult → Book → TurnRuns → PipelineRuns → SlotOutcome
+slot_outcome_of o b t p =
     record {
-      machine = machine_of o.machine r;
+      machine = machine_lent o.machine b t p;
       slot = slot_in o.machine o.outcome;
       matching = pairs_in o.outcome;
       refusal = refusal_in o.outcome;

@@ -2,7 +2,7 @@
 ghost use Rattle.std.specs.Prelude.{◌≡◌, Ok};
 ghost use Rattle.wsgs.specs.Program.{obey, run_start};
 ghost use Rattle.wsgs.specs.Switch.{direct, pipelined};
-ghost use Rattle.wsgs.specs.Told.{reading_told};
+ghost use Rattle.wsgs.specs.Told.{reading_of};
 ghost use Rattle.machine.specs.View.{machine_of, SameSwitchRuns, request_outcome_of};
 
 use crate::{Machine, SwitchRuns};
@@ -37,8 +37,12 @@ fn obey_start(
         runs.rates,
         &mut runs.turns,
     )?;
-    let form = Some(Form::Direct);
-    Ok((Machine { form, clock }, 0))
+    let machine = Machine {
+        running: true,
+        form: Form::Direct,
+        clock,
+    };
+    Ok((machine, 0))
 }
 
 // Stays (d): as `obey_start`.
@@ -63,8 +67,12 @@ fn obey_pipe(
         &mut runs.turns,
         &mut runs.pipeline,
     )?;
-    let form = Some(Form::Pipelined);
-    Ok((Machine { form, clock }, 0))
+    let machine = Machine {
+        running: true,
+        form: Form::Pipelined,
+        clock,
+    };
+    Ok((machine, 0))
 }
 
 // Stays (d): the operation comes as data, and each arm is one call with its own words; closures would be made by such a match too.
@@ -77,7 +85,7 @@ pub fn obey_request(
 ) -> Result<(Machine, u64), Refused>
     ensures loans { SameSwitchRuns runs.old runs.new }
     ensures outcome { request_outcome_of machine request result runs.new
-        ≡ obey (machine_of machine runs.old) (reading_told (Ok request)) }
+        ≡ obey (machine_of machine runs.old) (reading_of (Ok request)) }
 {
     let clock = machine.clock;
     let pair = Pair {

@@ -5,15 +5,15 @@ mod calls;
 mod refusals;
 mod slots;
 
-ghost use Rattle.std.specs.Prelude.{◌≡◌};
+ghost use Rattle.std.specs.Prelude.{◌≡◌, ◌≤◌, IfErr};
 ghost use Rattle.wsgs.specs.Program.{obey, run_slot};
-ghost use Rattle.wsgs.specs.Told.{reading_told};
-ghost use Rattle.machine.specs.View.{machine_of, SameSwitchRuns, record_outcome_of, slot_outcome_of};
+ghost use Rattle.wsgs.specs.Told.{reading_of, book_lent, SameTurnRuns, SamePipelineRuns};
+ghost use Rattle.machine.specs.View.{machine_lent, machine_of, SameSwitchRuns, record_outcome_of, slot_outcome_of};
 
 use calls::obey_request;
 use refusals::{number_alone, refusal_line};
 use slots::{run_tick, shown_slot};
-use wsgs::{Clock, Form, PipelineRuns, RefusalLine, Refused, Request, Served, Ticked, TurnRuns};
+use wsgs::{BookRuns, Clock, Form, PipelineRuns, RefusalLine, Request, Served, Ticked, TurnRuns};
 
 // The words of a run that holds a word for each pair of 32 ports, of one that holds a word for each input, and of one that holds the rows in
 // flight.
@@ -23,10 +23,14 @@ pub const PORT_WORDS: usize = 32;
 
 pub const FLIGHT_WORDS: usize = 2_048;
 
-// The machine beside its lent runs: the form of the last start or pipe that was accepted, if there is one, and the clock.
+// The machine beside its lent runs: whether a start or pipe has been accepted, the form of its slots, which is that of the last one, and the
+// clock.
+// Stays (a): `machine::obey`, `run_slot`, `events::feed`, `feeding::feed_text` and `feed_end` answer for a machine of either form that has not
+// been started, so the form stands beside `running`, and is no `Option<Form>`.
 #[derive(Clone, Copy)]
 pub struct Machine {
-    pub form: Option<Form>,
+    pub running: bool,
+    pub form: Form,
     pub clock: Clock,
 }
 
@@ -59,22 +63,30 @@ pub struct SlotResult {
     pub outcome: Result<SlotPairs, RefusalLine>,
 }
 
-// A record: what it does at once. Slots that it asks for are left to run.
+// A record: what it does at once. Slots that it asks for are left to run. One that cannot be read is refused by its reader's number, of which 0
+// is none.
 pub fn obey(
     machine: Machine,
-    reading: Result<Request, Refused>,
+    reading: Result<Request, u32>,
     runs: &mut SwitchRuns<'_>,
 ) -> RecordResult
     ensures loans { SameSwitchRuns runs.old runs.new }
     ensures outcome { record_outcome_of result runs.new
-        ≡ obey (machine_of machine runs.old) (reading_told reading) }
+        ≡ obey (machine_of machine runs.old) (reading_of reading) }
+    ensures refused { IfErr result.outcome (λ line. 1 ≤ line.number) }
 {
     let request = match reading {
         Ok(request) => request,
-        Err(refused) => {
+        Err(0) => {
             return RecordResult {
                 machine,
-                outcome: Err(number_alone(refused)),
+                outcome: Ok(0),
+            };
+        }
+        Err(number) => {
+            return RecordResult {
+                machine,
+                outcome: Err(number_alone(number)),
             };
         }
     };
@@ -91,14 +103,21 @@ pub fn obey(
 }
 
 // One of the slots that are left to run: the tick of the machine's form.
-pub fn run_slot(machine: Machine, runs: &mut SwitchRuns<'_>) -> SlotResult
-    ensures loans { SameSwitchRuns runs.old runs.new }
-    ensures outcome { slot_outcome_of result runs.new ≡ run_slot (machine_of machine runs.old) }
+pub fn run_slot(
+    machine: Machine,
+    book: BookRuns<'_>,
+    turns: &mut TurnRuns<'_>,
+    pipeline: &mut PipelineRuns<'_>,
+) -> SlotResult
+    ensures loans { SameTurnRuns turns.old turns.new }
+    ensures pipeline_loans { SamePipelineRuns pipeline.old pipeline.new }
+    ensures outcome { slot_outcome_of result (book_lent book.entry) turns.new pipeline.new
+        ≡ run_slot (machine_lent machine (book_lent book.entry) turns.old pipeline.old) }
+    ensures refused { IfErr result.outcome (λ line. 1 ≤ line.number) }
 {
-    match run_tick(machine, runs) {
+    match run_tick(machine, book, turns, pipeline) {
         Ok(Ticked { clock, served }) => {
-            let form = machine.form;
-            let machine = Machine { form, clock };
+            let machine = Machine { clock, ..machine };
             let slot = shown_slot(machine);
             SlotResult {
                 machine,

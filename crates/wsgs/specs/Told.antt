@@ -111,11 +111,16 @@ headroom_told (Err refused) = record { refusal = number refused; headroom = pos 
 abbrev pub preview_told : Previewed → PreviewResult
 preview_told p = preview_of (refusal_number p.outcome) p.row p.column
 
--- what a record reads as, and what is printed of a refusal, if there is one
+-- what a record reads as: refused by a number, whichever it is, and by a `Refused`
+abbrev pub reading_of : Result Request ℕ → Records.Reading
+reading_of (Ok r) = Records.Request r.operation r.input r.output r.amount
+reading_of (Err n) = Records.Refused n
+
 abbrev pub reading_told : Result Request Refused → Records.Reading
 reading_told (Ok r) = Records.Request r.operation r.input r.output r.amount
 reading_told (Err refused) = Records.Refused (number refused)
 
+-- what is printed of a refusal, if there is one
 abbrev pub refusal_told : Option RefusalLine → Refusal
 refusal_told None = number_alone 0
-refusal_told (Some l) = record { slot = l.slot; input = l.input; output = l.output; number = number l.refused }
+refusal_told (Some l) = record { slot = l.slot; input = l.input; output = l.output; number = l.number }

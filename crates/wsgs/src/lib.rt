@@ -165,11 +165,12 @@ pub struct Request {
     pub amount: u64,
 }
 
-// A refusal as its line of the event program has it: the last slot run, the record's second and third field, and why.
+// A refusal as its line of the event program has it: the last slot run, the record's second and third field, and the number of the refusal.
+// Stays (a): `lines::refusal_line` prints any number but 0, also one that is no number of a `Refused`, so the number is a word.
 #[derive(Clone, Copy)]
 pub struct RefusalLine {
     pub slot: u64,
     pub input: u64,
     pub output: u64,
-    pub refused: Refused,
+    pub number: u32,
 }
