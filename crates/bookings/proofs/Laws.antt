@@ -4,7 +4,7 @@ use mathlib.Core.Bool.{Bool, true, false, ◌||◌, true≢false}
 use mathlib.Core.List.{List, [], ◌∷◌, ◌++◌}
 use mathlib.Core.Logic.{◌⊎◌, inl, inr}
 use Prim.Native.Nat.{ℕ, zero, suc, ◌+◌, ◌-◌, ◌*◌, ◌/◌, min, ◌≤◌, ◌<◌}
-use native.Mathlib.Nat.{mul-le-mul_left, suc-mul, div-lt_iff_lt-mul}
+use native.Mathlib.Nat.{mul-le-mul_left, mul-le-mul_right, suc-mul, div-lt_iff_lt-mul}
 use native.Mathlib.Omega.{arith}
 use native.Mathlib.Decide.{ℕ_discrete, dec_le}
 use lib.Dec.{ltb}
@@ -26,10 +26,10 @@ use Rattle.bookings.specs.Rises.{rise_of, has_rate}
 
 module _ (f b r : ℕ) where
   -- no rate, and no line, take no slots
-  no_rate : r ≡ 0 → rate_slots f b r ≡ 0
+  pub no_rate : r ≡ 0 → rate_slots f b r ≡ 0
   no_rate e = ap (rate_slots f b) e ∙ rate_slots_none f b
 
-  no_line : b ≡ 0 → rate_slots f b r ≡ 0
+  pub no_line : b ≡ 0 → rate_slots f b r ≡ 0
   unfolding rate_slots
   no_line e = rw (eq-eqb b 0 e)
 
@@ -49,6 +49,13 @@ module _ (f b r : ℕ) where
         arith,
         (div-lt_iff_lt-mul {k = b} {x = x + (b - 1)} {y = suc x} h).1 (omega (arith, suc-mul x b, mul-le-mul_left {m = 1} {n = b} x h)),
       )
+
+  -- products of words, and of a summed rate with a frame in range
+  pub words_product : r ≤ 4294967295 → f ≤ 4294967295 → r * f ≤ 18446744065119617025
+  words_product h g = omega (arith, mul-le-mul_right f h, mul-le-mul_left {n = 4294967295} 4294967295 g)
+
+  pub sum_product : r ≤ 8589934590 → f ≤ 10000 → r * f ≤ 85899345900000
+  sum_product h g = omega (arith, mul-le-mul_right f h, mul-le-mul_left {n = 10000} 8589934590 g)
 
 -- the rise of a booking
 module _ (f b s r more : ℕ) where

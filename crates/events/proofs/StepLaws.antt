@@ -2,7 +2,7 @@
 use mathlib.Core.Path.{◌≡◌, sym, ap, subst⁻¹, ◌∙◌}
 use mathlib.Core.Bool.{true, false, ◌&&◌, and-false, and-true}
 use mathlib.Core.List.{List}
-use Prim.Native.Nat.{ℕ, ◌-◌, ◌≤◌, ◌<◌, min}
+use Prim.Native.Nat.{ℕ, ◌+◌, ◌-◌, ◌≤◌, ◌<◌, min}
 use native.Mathlib.Omega.{arith}
 use borrow.Author.Tests.{lt-ltb, le-ltb, le-leb, lt-leb, ne_eqb}
 use lib.Dec.{eqb, ltb, leb}
@@ -13,6 +13,7 @@ use Rattle.std.proofs.lemmas.Result.{IfErr-at_err}
 use Rattle.wsgs.specs.declared.Refused.{Refused}
 use Rattle.wsgs.specs.declared.Request.{Request}
 use Rattle.wsgs.specs.declared.RefusalLine.{RefusalLine}
+use Rattle.wsgs.specs.Basics.{pick}
 use Rattle.wsgs.specs.Text.{LF}
 use Rattle.wsgs.specs.Records.{Reading, read_record}
 use Rattle.wsgs.specs.Records
@@ -88,7 +89,7 @@ module _ (k : Progress) (b : List ℕ) (before : SwitchRuns) where
 
   -- A SLOT
   module _ {out out' : List ℕ} (after : SwitchRuns) (r : SlotResult) (k' : Progress) (left count : ℕ) (is : slot_outcome_of r (book_in after) after.turns after.pipeline ≡ run_slot M) where
-    slot_written : TextWritten out 0 (slot_text (slot_outcome_of r (book_in after) after.turns after.pipeline)) count out' → left ≡ slots_after (refusal_in r.outcome).number k.slots_left
+    pub slot_written : TextWritten out 0 (slot_text (slot_outcome_of r (book_in after) after.turns after.pipeline)) count out' → left ≡ slots_after (refusal_in r.outcome).number k.slots_left
         → k' ≡ moved_progress k r.machine left → StepWritten (slot_step S) (state_of k' b after) out 0 count out'
     unfolding slot_step
     slot_written w en ek =
@@ -129,6 +130,14 @@ module _ (k : Progress) (b : List ℕ) (before : SwitchRuns) where
         → StepWritten (next_step block S 0) s out 0 count out'
     unfolding next_step
     step_byte_written l h = step_is (rw (le-ltb 0 k.slots_left l, next_step)) h
+
+-- the bytes taken after a step
+module _ (left taken : ℕ) where
+  pub slot_taken : 0 < left → taken ≡ pick (ltb 0 left) taken (taken + 1)
+  slot_taken l = rw (lt-ltb 0 left l)
+
+  pub byte_taken : left ≤ 0 → taken + 1 ≡ pick (ltb 0 left) taken (taken + 1)
+  byte_taken l = rw (le-ltb 0 left l)
 
 -- WHETHER THERE IS WORK, by the code's tests
 module _ (left bytes buffer room : ℕ) where

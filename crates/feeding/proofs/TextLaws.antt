@@ -1,7 +1,7 @@
 -- A call on the rest of a text takes no more than it has, and leaves less work. Texts that are fed whole are calls of `feed` for all that they
 -- have. Assumes nothing.
 use mathlib.Core.Path.{◌≡◌, refl, sym, ap, ◌∙◌}
-use mathlib.Core.Bool.{Bool, true, false, false≢true}
+use mathlib.Core.Bool.{Bool, true, false, ◌&&◌, false≢true}
 use mathlib.Core.List.{List}
 use Prim.Native.Nat.{ℕ, suc, ◌+◌, ◌-◌, ◌*◌, ◌≤◌, ◌<◌}
 use native.Mathlib.Omega.{arith}
@@ -12,7 +12,7 @@ use Rattle.events.specs.declared.Lent.{Lent}
 use Rattle.events.specs.Feeding.{FeedOutcome, has_work, most_steps, fed}
 use Rattle.events.specs.View.{lent_state, FeedEffect, feed_effect_of, feed_effect}
 use Rattle.events.proofs.Rounds.{fed_within, fed_less}
-use Rattle.feeding.specs.Texts.{TextState, is_left, next_call, calls}
+use Rattle.feeding.specs.Texts.{TextState, is_left, next_call, calls, TextFed}
 
 module _ (text : List ℕ) (t : TextState) (within : t.taken ≤ length text) where
   abbrev block : List ℕ
@@ -72,3 +72,6 @@ module _ (text : List ℕ) (first : TextState) where
     pub so_far_less : {t' : TextState} → t' ≡ next_call text t → is_left text t ≡ true
         → most_steps t'.state.slots_left (length text - t'.taken) < most_steps t.state.slots_left (length text - t.taken)
     so_far_less e l = rw e (next_less text t h.within l)
+
+    pub so_far_all : (w && is_left text t) ≡ false → TextFed text first t w
+    so_far_all l = record { count = h.count; same = h.same; whole = λ e. rw e at l; tried = h.tried }

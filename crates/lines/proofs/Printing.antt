@@ -2,7 +2,8 @@
 use mathlib.Core.Path.{◌≡◌, refl, sym, ◌∙◌}
 use mathlib.Core.Bool.{Bool}
 use mathlib.Core.List.{List, [], ◌∷◌, ◌++◌, map, append_assoc, append-nil}
-use Prim.Native.Nat.{ℕ, zero, suc, ◌+◌, ◌-◌, ◌*◌, ◌/◌, ◌^◌, ◌≤◌, ◌<◌, min}
+use mathlib.Core.Logic.{◌≢◌}
+use Prim.Native.Nat.{ℕ, zero, suc, ◌+◌, ◌-◌, ◌*◌, ◌/◌, ◌%◌, ◌^◌, ◌≤◌, ◌<◌, min}
 use native.Mathlib.Decide.{ℕ_discrete, dec_le}
 use native.Mathlib.Nat.{add-zero, add-suc}
 use native.Mathlib.Numerals.{add-one}
@@ -20,6 +21,10 @@ use Rattle.wsgs.specs.Program.{Refusal, refused_line, refusal_text, match_line, 
 use Rattle.lines.specs.declared.printer.Printer.{Printer}
 use Rattle.lines.specs.Lines.{HasRoom, field_room, line_room, match_room, refusal_room, slot_room, is_set}
 use Rattle.lines.proofs.Decimals.{decimal_short}
+
+-- a comma and a number take the room of a field
+pub field_short : (n : ℕ) → length (comma ∷ decimal n) ≤ field_room
+field_short n = omega (arith, decimal_short n)
 
 -- numbers, each after a comma
 unfoldable pub number_fields : List ℕ → List ℕ
@@ -78,6 +83,17 @@ module _ (r : Refusal) where
       go : Dec (r.number ≡ 0) → length (refusal_text r) ≤ refusal_room
       go (yes e) = rw (← no_refusal e) (omega arith)
       go (no d) = rw (← the_refusal d) (line_short (bytes "refused") r.slot r.input r.output r.number)
+
+-- the pass that a bit of the word tells
+pub pass_of : (w i : ℕ) → 2 - bit_and (w / 2 ^ i) 1 ≡ pick (is_set w i) 1 2
+pass_of w i = rw (and_mask (w / 2 ^ i) 1) (go (ℕ_discrete (w / 2 ^ i % 2) 1))
+  where
+    go : Dec (w / 2 ^ i % 2 ≡ 1) → 2 - w / 2 ^ i % 2 ≡ pick (is_set w i) 1 2
+    go (yes e) = rw (eq-eqb (w / 2 ^ i % 2) 1 e, e)
+    go (no d) = let z : w / 2 ^ i % 2 ≡ 0 = omega arith in rw (ne_eqb (w / 2 ^ i % 2) 1 d, z)
+
+pub bit_small : (x : ℕ) → bit_and x 1 ≤ 2
+bit_small x = rw (and_mask x 1) (omega arith)
 
 -- the line of an input without an output, and with one
 module _ (slot i output : ℕ) (first : Bool) where

@@ -1,3 +1,4 @@
--- Laws of headroom and previews.
+-- Laws of differences, headroom and previews.
+pub mod Differences
 pub mod Headrooms
 pub mod Previews

@@ -34,6 +34,27 @@ module _ (x : ℕ) (xs begun : List ℕ) where
   unfolding fields_from
   field_goes_on e = rw (e, fields_from)
 
+-- a text has a field
+some_field : (t begun : List ℕ) → 1 ≤ length (fields_from t begun)
+unfolding fields_from
+some_field [] begun = omega arith
+some_field (x ∷ xs) begun = go (eqb x comma) refl (some_field xs (x ∷ begun))
+  where
+    go : (b : Bool) → eqb x comma ≡ b → 1 ≤ length (fields_from xs (x ∷ begun)) → 1 ≤ length (fields_from (x ∷ xs) begun)
+    go true e rest = rw (field_ends x xs begun e) (omega arith)
+    go false e rest = rw (field_goes_on x xs begun e) rest
+
+-- how many begin in a text does not hang on what is read of the first
+same_count : (t begun begun' : List ℕ) → length (fields_from t begun) ≡ length (fields_from t begun')
+unfolding fields_from
+same_count [] begun begun' = refl
+same_count (x ∷ xs) begun begun' = go (eqb x comma) refl (same_count xs (x ∷ begun) (x ∷ begun'))
+  where
+    go : (b : Bool) → eqb x comma ≡ b → length (fields_from xs (x ∷ begun)) ≡ length (fields_from xs (x ∷ begun'))
+        → length (fields_from (x ∷ xs) begun) ≡ length (fields_from (x ∷ xs) begun')
+    go true e rest = rw (field_ends x xs begun e, field_ends x xs begun' e)
+    go false e rest = rw (field_goes_on x xs begun e, field_goes_on x xs begun' e) rest
+
 -- a cut gives one part at least
 some_part : (t : List ℕ) → slice_split is_comma t ≡ [] → ⊥
 some_part t e = omega (arith, length-slice_split is_comma t, ap length e)

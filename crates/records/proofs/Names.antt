@@ -17,7 +17,7 @@ use Rattle.wsgs.specs.Text.{bytes}
 use Rattle.wsgs.specs.Records.{Name, names, look_up}
 
 -- texts of different lengths differ
-lengths_differ : (a b : List ℕ) → length a ≢ length b → same a b ≡ false
+pub lengths_differ : (a b : List ℕ) → length a ≢ length b → same a b ≡ false
 unfolding same
 lengths_differ [] [] d = absurd (d refl)
 lengths_differ [] (y ∷ ys) d = refl
@@ -29,7 +29,7 @@ lengths_differ (x ∷ xs) (y ∷ ys) d = go (eqb x y) (lengths_differ xs ys (λ 
     go false e = refl
 
 -- a text looked for in a list of names
-one_more : (r : Name) (rs : List Name) (t : List ℕ) → look_up (r ∷ rs) t ≡ cond (same t (bytes r.name)) (Some r.operation) (look_up rs t)
+pub one_more : (r : Name) (rs : List Name) (t : List ℕ) → look_up (r ∷ rs) t ≡ cond (same t (bytes r.name)) (Some r.operation) (look_up rs t)
 unfolding look_up
 one_more r rs t = go (same t (bytes r.name))
   where
@@ -37,7 +37,7 @@ one_more r rs t = go (same t (bytes r.name))
     go true = refl
     go false = refl
 
-no_more : (t : List ℕ) → look_up [] t ≡ None
+pub no_more : (t : List ℕ) → look_up [] t ≡ None
 unfolding look_up
 no_more t = refl
 

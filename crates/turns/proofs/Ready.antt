@@ -38,6 +38,11 @@ column_two v true false x y d e = rw (d, and_zero_l)
 column_two v false true x y d e = rw (e, and_zero_r)
 column_two v false false x y d e = rw (d, and_zero_l)
 
+-- and by one test, which is also the test twice
+pub column_one : (v : ℕ) (a : Bool) (x : ℕ) → x ≡ pick a v 0 → x ≡ pick (a && a) v 0
+column_one v true x e = e
+column_one v false x e = e
+
 module _ (one two : List ℕ) (row : ℕ) where
   -- no column has been swept
   pub ready_start : 0 ≡ ready_mask one two row 0

@@ -9,7 +9,7 @@ use borrow.Author.Tests.{le-leb, not-true, not-false}
 use lib.Dec.{leb, ltb, leb→le}
 use lib.ListN.{length}
 use Rattle.std.proofs.Math.Facts.{and_yes}
-use Rattle.wsgs.specs.Basics.{pick, in_turn}
+use Rattle.wsgs.specs.Basics.{pick, Port, in_turn}
 use Rattle.std.specs.Prelude.{Option, Some}
 use Rattle.wsgs.specs.declared.Output.{Output}
 use Rattle.wsgs.specs.Words.{word, port_word}
@@ -109,6 +109,14 @@ module _ (n i : ℕ) (queues given : List ℕ) (sent : Turn n i (length queues))
   pub first_takes : (credits : List ℕ) → Turn n i (length credits) → (asked : ℕ) → asked ≡ ready_mask credits queues ((i - 1) * n) n → (free r : ℕ)
       → r ≡ first_output free asked n i credits queues given → r ≡ in_turn (is_open n free credits queues i) n (port_word given i)
   first_takes credits paid asked is free r e = second_takes credits asked is free r (e ∙ rw (is_due n i credits paid))
+
+-- what a turn takes is a port
+pub second_port : (free asked n i : ℕ) (queues given : List ℕ) (r : ℕ) → r ≡ second_output free asked n i queues given → 1 ≤ r → Port n r
+second_port free asked n i queues given r e h = go (has_turn n i (length queues) && leb n (length given)) e
+  where
+    go : (b : Bool) → r ≡ pick b (common_in_turn free asked n (port_word given i)) 0 → Port n r
+    go true d = (in_turn_some _ n (port_word given i) r d h).0
+    go false d = absurd (omega arith)
 
 -- what a search in turn finds, and what a turn of pass two takes, is a port
 module _ (free asked n i : ℕ) (run : List ℕ) (t : Turn n i (length run)) (o : Option Output) where

@@ -4,7 +4,7 @@ use mathlib.Core.Bool.{Bool, true, false, not, and-false}
 use Prim.Native.Nat.{ℕ, zero, suc, ◌+◌, ◌-◌, ◌*◌, ◌^◌, ◌≤◌, ◌<◌}
 use native.Mathlib.Nat.{mul-le-mul_right}
 use native.Mathlib.Omega.{arith}
-use borrow.Author.Tests.{le-leb, not-true, not-false}
+use borrow.Author.Tests.{le-leb, lt-leb, not-true, not-false}
 use lib.Dec.{leb, leb→le}
 use Rattle.std.proofs.Math.Facts.{and_yes}
 use Rattle.wsgs.specs.Basics.{pick, between, Port}
@@ -24,8 +24,22 @@ squared (suc n) =
     let some : 1 ≤ suc n = omega arith in
     omega (arith, mul-le-mul_right (suc n) some)
 
--- A NUMBER x
+-- A NUMBER x, by the tests
 module _ (n x : ℕ) where
+  -- the ports are too many, or it is below them
+  pub many_ports : 32 < n → false ≡ is_port n x
+  unfolding is_port
+  many_ports h = rw (lt-leb n 32 h)
+
+  pub below_ports : x < 1 → false ≡ is_port n x
+  unfolding is_port
+  below_ports h = rw (lt-leb 1 x h, and-false (leb n 32))
+
+  -- else the last port decides
+  pub last_decides : n ≤ 32 → 1 ≤ x → leb x n ≡ is_port n x
+  unfolding is_port
+  last_decides few low = rw (le-leb n 32 few, le-leb 1 x low)
+
   -- a port passes
   pub port_passes : n ≤ 32 → Port n x → is_port n x ≡ true
   unfolding is_port

@@ -14,7 +14,7 @@ use lib.ListN.{get_or, get_or-eq_default}
 use lib.Pow.{pow_mono}
 use Rattle.std.proofs.lemmas.Bool.Decides.{nat_tests}
 use Rattle.wsgs.specs.declared.Clock.{Clock}
-use Rattle.wsgs.specs.Basics.{pick, bit, Port}
+use Rattle.wsgs.specs.Basics.{pick, bit, between, Port}
 use Rattle.wsgs.specs.Steps.{Matching, empty_matching, View, nine_steps, listed, outputs_of, pass_word_of}
 use Rattle.wsgs.specs.Words.{word}
 use Rattle.wsgs.specs.Questions.{Outcome, Effect, refused, clock_can_advance}
@@ -27,6 +27,7 @@ use Rattle.wsgs.specs.Direct
 use Rattle.wsgs.specs.Pipelined
 use Rattle.wsgs.specs.Answers.{StartResult, TickResult, start_effect, tick_effect, start_outcome, tick_outcome, matching_of}
 use Rattle.wsgs.specs.Switch.{Switch, direct, pipelined, start, book, book_rate, release, release_rate, headroom, preview, arrive, tick, apply, direct_runs, pipelined_runs, of_direct, of_pipelined, of_asking, of_book, of_queues}
+use Rattle.wsgs.proofs.Laws.Tests.{range_out}
 use Rattle.wsgs.proofs.Laws.Listed.{listed_length, listed_at}
 use Rattle.wsgs.proofs.Laws.Marked.{marked_lt, marked_bit}
 use Rattle.wsgs.proofs.Laws.Questions.{all_yes, direct_yes}
@@ -36,6 +37,9 @@ use Rattle.wsgs.proofs.Steps.{one_outside, two_outside}
 record Bounded (m : Matching) : Type 0 where
   output : (i : ℕ) → (Port 32 i → ⊥) → m.output i ≡ 0
   first : (i : ℕ) → (Port 32 i → ⊥) → m.first i ≡ false
+
+none_bounded : Bounded empty_matching
+none_bounded = record { output = λ i h. refl; first = λ i h. refl }
 
 -- Such a one is told whole by 32 outputs and a word.
 module _ (m : Matching) (b : Bounded m) where
@@ -91,6 +95,14 @@ module _ (n : ℕ) (few : n ≤ 32) where
         output = λ i h. two_outside n w.queue w.last _ n i (narrow h) ∙ one_outside n credit v.queue v.last n i (narrow h);
         first = λ i h. ap (ltb 0) (one_outside n credit v.queue v.last n i (narrow h));
       }
+
+  -- the test of the ports fails outside them
+  outside : (i : ℕ) → (Port 32 i → ⊥) → between 1 n i ≡ false
+  outside i h = range_out 1 n i (λ p. narrow h (record { low = p.0; high = p.1 }))
+
+  handed_bounded : (flight : List ℕ) (s : ℕ) → Bounded (Pipelined.handed_out n flight s)
+  unfolding Pipelined.handed_out
+  handed_bounded flight s = record { output = λ i h. rw (outside i h); first = λ i h. rw (outside i h) }
 
 -- accepted or refused
 either_bounded : {Runs : Type 0} (r : ℕ) (c : Clock) (w : Runs) (o : Outcome Runs) → (r ≡ 0 → Bounded o.matching)

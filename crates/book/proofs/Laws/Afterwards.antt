@@ -47,7 +47,7 @@ module _ (q : BookingRequest) where
   unfolding bookings booking
   now_few x y = omega arith
 
-  after_few : (x y : ℕ) → a x y ≤ 8589934590
+  pub after_few : (x y : ℕ) → a x y ≤ 8589934590
   unfolding afterwards
   after_few x y = go (eqb x own.input.0 && eqb y own.output.0) (now_few own.input.0 own.output.0) (now_few x y)
     where
@@ -86,6 +86,14 @@ module _ (n : ℕ) (a : ℕ → ℕ → ℕ) where
   pub columns_begin : n ≤ 32 → ColumnSums n 0 a (replicate 32 0)
   unfolding column_sum sum
   columns_begin h = record { long = h; at = λ k l. get_or-replicate 32 k 0 0 (omega arith) }
+
+  -- a row's sum is written down
+  pub row_added : (i : ℕ) (sums : List ℕ) (v : ℕ) → i < n → RowSums n i a sums → v ≡ row_sum n a (i + 1) → RowSums n (i + 1) a (set sums i v)
+  row_added i sums v l h e = record { long = simp length-set h.long; at = λ k p. go k p (ℕ_discrete k i) }
+    where
+      go : (k : ℕ) → k < i + 1 → Dec (k ≡ i) → get_or (set sums i v) k 0 ≡ row_sum n a (k + 1)
+      go k p (yes z) = rw z (get_or-set_same sums i v 0 (omega (arith, h.long)) ∙ e)
+      go k p (no z) = get_or-set_other sums i k v 0 z ∙ h.at k (omega arith)
 
   -- within row i: the columns before j have its booking, the others have not
   pub record InRow (i j : ℕ) (sums : List ℕ) : Type 0 where

@@ -8,7 +8,9 @@ use Rattle.wsgs.specs.declared.Clock.{Clock}
 use Rattle.wsgs.specs.Words.{word}
 use Rattle.wsgs.specs.Bookings.{Book, bookings, row_sum, column_sum}
 use Rattle.wsgs.specs.Basics.{between}
+use Rattle.wsgs.specs.Questions.{rate_in_range}
 use Rattle.wsgs.specs.Book.{rise}
+use Rattle.std.proofs.Math.Facts.{and_yes}
 use Rattle.wsgs.proofs.Laws.Tests.{in_range}
 use Rattle.bookings.specs.Rises.{rise_of}
 use Rattle.bookings.proofs.Laws.{rise_is}
@@ -65,3 +67,9 @@ module _ (n : ℕ) (m : List ℕ) (i j d : ℕ) where
 -- an amount in range
 pub amount_few : (high d : ℕ) → between 1 high d ≡ true → d ≤ high
 amount_few high d e = (in_range 1 high d (rw e tt)).1
+
+-- a line rate and a rate in range
+pub rate_asked : (line rate : ℕ) → (rate_in_range line rate).yes ≡ true → ((1 ≤ line) × (line ≤ 100000000)) × (rate ≤ line)
+rate_asked line rate e =
+    let p = and_yes (between 1 100000000 line) (between 1 line rate) (rw e tt) in
+    (in_range 1 100000000 line p.0, (in_range 1 line rate p.1).1)

@@ -4,13 +4,17 @@ use mathlib.Core.Path.{◌≡◌, refl, sym, ◌∙◌}
 use mathlib.Core.Bool.{Bool, true, false, ◌&&◌}
 use mathlib.Core.List.{[], ◌∷◌}
 use mathlib.Core.Path.{ap}
-use Prim.Native.Nat.{ℕ, zero, suc, ◌+◌}
+use Prim.Native.Nat.{ℕ, zero, suc, ◌+◌, ◌-◌, ◌≤◌}
+use native.Mathlib.Numerals.{add-one}
 use native.Mathlib.Omega.{arith}
-use borrow.Author.Tests.{eq-eqb, ne_eqb}
+use native.Mathlib.Decide.{dec_le}
+use lib.Dec.{T, leb}
+use borrow.Author.Tests.{eq-eqb, ne_eqb, le-leb, lt-leb}
 use Rattle.wsgs.specs.declared.Clock.{Clock}
-use Rattle.wsgs.specs.Basics.{pick, all_of}
+use Rattle.wsgs.specs.Basics.{Port, pick, all_of}
 use Rattle.wsgs.specs.Bookings.{Book, row_sum, column_sum}
 use Rattle.wsgs.specs.Rule.{pair_fits, booked_fits, sharing_fit}
+use Rattle.wsgs.proofs.Laws.Rule.{every_at}
 use Rattle.std.specs.List.{list_all, range_with_len}
 use Rattle.std.proofs.Common.{map}
 use Rattle.std.proofs.lemmas.List.Folds.{list_all-map, list_all-append}
@@ -22,11 +26,40 @@ use Rattle.book.specs.declared.asked.AskedPair.{AskedPair}
 use Rattle.book.specs.Afterwards.{afterwards, fits_along}
 use Rattle.book.specs.Refusals.{sums_refusal, pairs_refusal, rule_refusal}
 
+-- a pair without a booking
+pub unbooked_fits : (f own row column : ℕ) → own ≡ 0 → true ≡ pair_fits f own row column
+unbooked_fits f own row column e = rw (eq-eqb own 0 e)
+
+-- one with a booking, tested without a difference
+pub booked_is : (f own row column : ℕ) → (own ≡ 0 → ⊥) → leb (row + column) (f + own) ≡ pair_fits f own row column
+booked_is f own row column h = rw (ne_eqb own 0 h) (go (dec_le (row + column) (f + own)))
+  where
+    go : Dec (row + column ≤ f + own) → leb (row + column) (f + own) ≡ leb (row + column - own) f
+    go (yes l) = le-leb _ _ l ∙ sym (le-leb (row + column - own) f (omega arith))
+    go (no l) = lt-leb (row + column) (f + own) (omega arith) ∙ sym (lt-leb (row + column - own) f (omega arith))
+
 -- the test of a pair, from its booking and its sums
 pub fits_from : (n f : ℕ) (a : ℕ → ℕ → ℕ) (x y own row column : ℕ) → own ≡ a x y → row ≡ row_sum n a x → column ≡ column_sum n a y
     → pair_fits f own row column ≡ booked_fits n f a x y
 unfolding booked_fits
 fits_from n f a x y own row column e₁ e₂ e₃ = rw (e₁, e₂, e₃)
+
+-- ALL OF A ROW, or of a column
+module _ (p : ℕ → Bool) where
+  pub all_none : true ≡ all_of p 0
+  unfolding all_of
+  all_none = refl
+
+  pub all_more : (k : ℕ) → true ≡ all_of p k → p (k + 1) ≡ true → true ≡ all_of p (k + 1)
+  unfolding all_of
+  all_more k e h = let u : p (suc k) ≡ true = rw (add-one k) at h in rw (add-one k) (rw u e)
+
+  pub one_not : (n x : ℕ) → Port n x → p x ≡ false → false ≡ all_of p n
+  one_not n x q h = go (all_of p n) (λ t. every_at p n x t q)
+    where
+      go : (b : Bool) → (T b → T (p x)) → false ≡ b
+      go true k = absurd (rw h at (k tt))
+      go false k = refl
 
 -- ALL OF A LINE, by the port
 pub all_by_ports : (p : ℕ → Bool) (n : ℕ) → list_all p (range_with_len 1 n) ≡ all_of p n

@@ -1,20 +1,22 @@
 -- Laws of the questions on the sizes and runs of a form: which of them refuses, and what has been asked where none does. Assumes nothing.
-use mathlib.Core.Path.{◌≡◌, sym, ◌∙◌}
-use mathlib.Core.Bool.{true, false}
+use mathlib.Core.Path.{◌≡◌, refl, sym, ◌∙◌, ap, ap₂}
+use mathlib.Core.Bool.{Bool, true, false, not, ◌&&◌}
 use mathlib.Core.List.{List, [], ◌∷◌}
-use Prim.Native.Nat.{ℕ, ◌≤◌, ◌<◌}
+use Prim.Native.Nat.{ℕ, ◌*◌, ◌≤◌, ◌<◌}
 use native.Mathlib.Omega.{arith}
-use lib.Dec.{leb→le}
+use lib.Dec.{leb, leb→le}
+use lib.ListN.{length}
 use borrow.Author.Tests.{le-leb, lt-leb}
 use Rattle.wsgs.specs.declared.Clock.{Clock}
 use Rattle.wsgs.specs.declared.Refused.{Refused}
-use Rattle.wsgs.specs.Questions.{Question, first_no, frame_covers_ports, long_enough, line_in_range, clock_can_advance}
+use Rattle.wsgs.specs.Questions.{Question, first_no, frame_covers_ports, long_enough, line_in_range, clock_can_advance, holds_pairs, holds_book, holds_ports}
+use Rattle.wsgs.specs.Answers.{direct_runs_of}
 use Rattle.wsgs.specs.Told.{number}
 use Rattle.wsgs.specs.Direct
 use Rattle.wsgs.specs.Pipelined
 use Rattle.wsgs.proofs.Laws.Questions.{none_left, asked_no, asked_yes, all_yes, rest_decides, some_no, DirectLong, PipelinedLong, direct_yes, pipelined_yes}
 use Rattle.questions.specs.Refusals.{StartInRange, on_sizes, sizes_refusal, line_refusal, clock_refusal, direct_runs_refusal, pipelined_runs_refusal}
-use Rattle.questions.proofs.Laws.Answers.{number_some}
+use Rattle.questions.proofs.Laws.Answers.{said_no, said_yes, number_some}
 
 -- DIRECT
 module _ (n f : ℕ) (w : Direct.Runs) where
@@ -66,6 +68,36 @@ module _ (c : Clock) (w : Direct.Runs) where
   pub direct_tick_clock : 0 ≡ direct_runs_refusal c.ports c.frame w → clock_refusal c ≡ Direct.tick_refusal c w
   unfolding direct_runs_refusal Direct.tick_refusal clock_refusal
   direct_tick_clock e = rest_decides (Direct.questions c.ports c.frame w []) (clock_can_advance c.slot ∷ []) (omega arith) e
+
+-- the runs of a pipelined switch: those of a direct one, the copy and the words in flight
+module _ (n : ℕ) (w : Pipelined.Runs) where
+  abbrev direct_runs : Direct.Runs
+  direct_runs = direct_runs_of w.book.slots w.book.rates w.credits w.queues w.given
+
+  abbrev last : Bool
+  last = leb (2 * n * n) (length w.flight)
+
+  split : (Direct.runs_suffice n direct_runs && (holds_pairs n w.copy && last)) ≡ Pipelined.runs_suffice n w
+  split = five (holds_book n w.book) (holds_pairs n w.credits) (holds_pairs n w.queues) (holds_ports n w.given) _
+    where
+      five : (a b c d e : Bool) → ((a && (b && (c && d))) && e) ≡ (a && (b && (c && (d && e))))
+      five true true true d e = refl
+      five true true false d e = refl
+      five true false c d e = refl
+      five false b c d e = refl
+
+  -- one of the first five is too short
+  pub short_direct : (b : Bool) → b ≡ Direct.runs_suffice n direct_runs → not b ≡ true → false ≡ Pipelined.runs_suffice n w
+  short_direct b e h = ap (λ x. x && (holds_pairs n w.copy && last)) (sym (said_no e h)) ∙ split
+
+  module _ (b : Bool) (e : b ≡ Direct.runs_suffice n direct_runs) (h : not b ≡ false) (d : Bool) (f : d ≡ holds_pairs n w.copy) where
+    -- the copy is
+    pub short_copy : not d ≡ true → false ≡ Pipelined.runs_suffice n w
+    short_copy g = ap₂ (λ x y. x && (y && last)) (sym (said_yes e h)) (sym (said_no f g)) ∙ split
+
+    -- and else the words in flight decide
+    pub flight_decides : not d ≡ false → last ≡ Pipelined.runs_suffice n w
+    flight_decides g = ap₂ (λ x y. x && (y && last)) (sym (said_yes e h)) (sym (said_yes f g)) ∙ split
 
 -- PIPELINED
 module _ (n f : ℕ) (w : Pipelined.Runs) where
