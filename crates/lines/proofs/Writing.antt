@@ -1,15 +1,16 @@
 -- Texts written one after the other are one text written. Assumes nothing.
 use mathlib.Core.Path.{◌≡◌, refl, sym, ap, ap₂, subst, ◌∙◌}
-use mathlib.Core.List.{List, [], ◌++◌, append_assoc, append-nil}
-use Prim.Native.Nat.{ℕ, ◌+◌, ◌-◌, ◌≤◌, ◌<◌}
+use mathlib.Core.List.{List, [], ◌∷◌, ◌++◌, append_assoc, append-nil}
+use Prim.Native.Nat.{ℕ, suc, ◌+◌, ◌-◌, ◌≤◌, ◌<◌}
 use native.Mathlib.Nat.{add_assoc, zero-add}
+use native.Mathlib.Numerals.{add-one}
 use native.Mathlib.Omega.{arith}
-use lib.ListN.{length, take, drop, length-append, length-drop, drop_of_length-le}
-use lib.Seq.{length-take-le, take_all, take_at, drop-append-add, drop-drop, paste-zero}
+use lib.ListN.{length, take, drop, set, length-append, length-drop, drop_of_length-le}
+use lib.Seq.{length-take-le, take_all, take_at, drop-append-add, drop-drop, set_split, append_snoc, paste-zero}
 use borrow.Author.Tests.{le-leb, lt-leb}
 use Rattle.wsgs.specs.Questions.{Effect, effect}
 use Rattle.lines.specs.declared.printer.Printer.{Printer}
-use Rattle.lines.specs.Lines.{with_text, TextWritten, HasRoom, Printed, with_room, put_effect}
+use Rattle.lines.specs.Lines.{TextWritten, HasRoom, Printed, with_room, put_effect}
 
 module _ (out : List ℕ) (at : ℕ) where
   -- what stands before a text and the text
@@ -19,6 +20,15 @@ module _ (out : List ℕ) (at : ℕ) where
   -- nothing written
   pub wrote_none : at ≤ length out → TextWritten out at [] at out
   wrote_none h = record { fits = omega arith; next_place = omega arith; buffer = paste-zero out at [] }
+
+  -- a byte
+  pub wrote_byte : (b : ℕ) → at < length out → TextWritten out at (b ∷ []) (at + 1) (set out at b)
+  wrote_byte b h =
+      record {
+        fits = omega arith;
+        next_place = refl;
+        buffer = set_split out at b h ∙ sym (append_snoc (take at out) b (drop (suc at) out)) ∙ rw (add-one at);
+      }
 
 -- the same text by another name
 pub wrote_is : {out out' : List ℕ} {at next : ℕ} {t u : List ℕ} → TextWritten out at t next out' → t ≡ u → TextWritten out at u next out'
