@@ -12,19 +12,18 @@ const BLOCK_BYTES: usize = 65_536;
 
 // What a read gave; where it gave nothing, which is the end of the input, what ends the input.
 fn next_text(progress: Progress, read: &[u8]) -> &[u8] {
-    if read.is_empty() { input_end(progress) } else { read }
+    if read.is_empty() {
+        input_end(progress)
+    } else {
+        read
+    }
 }
 
 // Reads the input in blocks, and feeds them and its end. A read or a write that fails ends the run. Nothing says that an input ends, so the
 // blocks are counted up to a number that no run reaches.
-// Stays (d): the end is fed by the call that feeds the blocks, and not by `feed_end`. One call alone is inlined, and `Lent` has its lengths as
-// constants there: with a second call a slot of one port takes a fifth more instructions.
-fn read_input(
-    input: &mut impl Read,
-    rt: &impl Print,
-    block: &mut [u8],
-    lent: &mut Lent<'_>,
-) {
+// Stays (d): the end is fed by the call that feeds the blocks, and not by `feed_end`: two calls would be two copies of the library, of which
+// the compiler inlines neither whole, and an idle tick of one or two ports took 1.4 times the instructions.
+fn read_input(input: &mut impl Read, rt: &impl Print, block: &mut [u8], lent: &mut Lent<'_>) {
     let mut progress = begin();
     for _ in 0..u64::MAX {
         let Ok(count) = input.read(block) else {
@@ -40,6 +39,7 @@ fn read_input(
 }
 
 fn main(rt: HostRuntime) {
+    let block = &mut [0; BLOCK_BYTES];
     let turns = TurnRuns {
         credits: &mut [0; PAIR_WORDS],
         queues: &mut [0; PAIR_WORDS],
@@ -63,6 +63,5 @@ fn main(rt: HostRuntime) {
     if !write_heading(&rt, lent.out) {
         return;
     }
-    let block = &mut [0; BLOCK_BYTES];
     read_input(&mut rt.stdin(), &rt, block, &mut lent);
 }
