@@ -96,6 +96,7 @@ fn append(progress: Progress, byte: u8, buffer: &mut [u8]) -> Progress
 }
 
 // A byte.
+#[inline(always)]
 pub fn take_byte(
     progress: Progress,
     byte: u8,

@@ -85,6 +85,7 @@ pub fn has_work(progress: Progress, bytes: usize, buffer: usize, room: usize) ->
 
 // Feeds the program a block: takes bytes and runs slots while what they may print has room in the output.
 // Stays (d): each step takes and writes what the step before left, so no iterator counts the steps.
+#[inline(always)]
 pub fn feed(progress: Progress, block: &[u8], lent: &mut Lent<'_>) -> FeedResult
     ensures loans { SameLent lent.old lent.new }
     ensures outcome { feed_effect_of result lent.new

@@ -14,6 +14,7 @@ use wsgs::BookRuns;
 // Stays (d): the new progress is the old one with two fields set; no field is copied from another struct by hand.
 //
 // A slot of a tick record: the first slot that is refused ends the record.
+#[inline(always)]
 fn step_slot(progress: Progress, out: &mut [u8], runs: &mut SwitchRuns<'_>) -> FeedResult
     requires some { 1 ≤ progress.slots_left }
     requires room { slot_room ≤ length out.old }
@@ -52,6 +53,7 @@ fn step_slot(progress: Progress, out: &mut [u8], runs: &mut SwitchRuns<'_>) -> F
 // A step: a slot where one is to run, else a byte.
 // Stays (a): `State` of the clause has the whole lent buffer, of any length from 65 on, so each function tells the length that it needs.
 // Stays (d): the two steps take other arguments, and are told apart here alone.
+#[inline(always)]
 pub fn step(
     progress: Progress,
     block: &[u8],

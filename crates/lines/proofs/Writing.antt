@@ -10,7 +10,7 @@ use lib.Seq.{length-take-le, take_all, take_at, drop-append-add, drop-drop, set_
 use borrow.Author.Tests.{le-leb, lt-leb}
 use Rattle.wsgs.specs.Questions.{Effect, effect}
 use Rattle.lines.specs.declared.printer.Printer.{Printer}
-use Rattle.lines.specs.Lines.{with_text, TextWritten, HasRoom, Printed, with_room, put_effect}
+use Rattle.lines.specs.Lines.{TextWritten, HasRoom, Printed, with_room, put_effect}
 
 module _ (out : List ℕ) (at : ℕ) where
   -- what stands before a text and the text

@@ -1,9 +1,9 @@
 // Text put into a lent buffer, from its front on.
-ghost use Rattle.std.specs.Prelude.{◌≡◌, [], ◌∷◌, ◌+◌, length, map};
+ghost use Rattle.std.specs.Prelude.{◌≡◌, [], ◌∷◌, ◌+◌, ◌≤◌, length, map};
 ghost use Rattle.wsgs.specs.Answers.{matching_of};
 ghost use Rattle.wsgs.specs.Text.{decimal, line};
 ghost use Rattle.wsgs.specs.Program.{match_line, match_lines};
-ghost use Rattle.lines.specs.Lines.{Printed, HasRoom, line_room, match_room, slot_room};
+ghost use Rattle.lines.specs.Lines.{TextWritten, Printed, HasRoom, line_room, match_room, slot_room};
 
 use wsgs::Served;
 
@@ -16,8 +16,24 @@ pub struct Printer<'a> {
     pub count: usize,
 }
 
+// A number in decimal, put from a place on, and the place after it. The calls pass the place in a register, where a lent Printer would be
+// stored for each digit.
+fn put_number(out: &mut [u8], at: usize, number: u64) -> usize
+    requires room { at + length (decimal number) ≤ length out.old }
+    ensures text { TextWritten out.old at (decimal number) result out.new }
+{
+    if number < 10 {
+        out[at] = b'0' + number as u8;
+        return at + 1;
+    }
+    let last = put_number(out, at, number / 10);
+    out[last] = b'0' + (number % 10) as u8;
+    last + 1
+}
+
 impl<'a> Printer<'a> {
     // Stays (d): the constructor; a From would not say that the count begins at 0.
+    #[inline(always)]
     pub fn new(out: &'a mut [u8]) -> Printer<'a>
         ensures same_buffer { result.out.ghost_name ≡ out.entry.ghost_name }
         ensures buffer { result.out.now ≡ out.old }
@@ -27,6 +43,7 @@ impl<'a> Printer<'a> {
     }
 
     // A text.
+    #[inline(always)]
     pub fn put(&mut self, text: &[u8])
         requires room { HasRoom self.old (length text.now) }
         ensures text { Printed self.old text.now self.new }
@@ -38,6 +55,7 @@ impl<'a> Printer<'a> {
     }
 
     // A byte.
+    #[inline(always)]
     fn put_byte(&mut self, byte: u8)
         requires room { HasRoom self.old 1 }
         ensures text { Printed self.old (byte ∷ []) self.new }
@@ -48,18 +66,16 @@ impl<'a> Printer<'a> {
 
     // A number in decimal.
     // Stays (c): as above, by `write!` with its Display the goal `returns` stays open.
+    #[inline(always)]
     fn put_number(&mut self, number: u64)
         requires room { HasRoom self.old (length (decimal number)) }
         ensures text { Printed self.old (decimal number) self.new }
     {
-        if number < 10 {
-            return self.put_byte(b'0' + number as u8);
-        }
-        self.put_number(number / 10);
-        self.put_byte(b'0' + (number % 10) as u8);
+        self.count = put_number(self.out, self.count, number);
     }
 
     // A line of its kind and four numbers, of at most 20 digits each.
+    #[inline(always)]
     pub fn put_line(&mut self, kind: &[u8], numbers: [u64; 4])
         requires room { HasRoom self.old (length kind.now + line_room) }
         ensures text { Printed self.old (line (kind.now ∷ map decimal numbers)) self.new }
@@ -74,6 +90,7 @@ impl<'a> Printer<'a> {
 
     // The line of an input, if it has an output; inputs count from 1.
     // Stays (d): a struct of the four numbers of a line would be made for this one call.
+    #[inline(always)]
     fn put_match(&mut self, slot: u64, input: u64, output: u8, is_first: bool)
         requires room { HasRoom self.old match_room }
         ensures text { Printed self.old (match_line slot input output is_first) self.new }
