@@ -13,8 +13,7 @@ ghost use Rattle.words.specs.Runs.{copy_words};
 ghost use Rattle.bookings.specs.Rises.{rise_of, has_rate};
 
 use amounts::booked;
-use words::copy_words;
-use wsgs::{BookRuns, BookedSlots, Clock, MAX_FRAME};
+use wsgs::{BookRuns, BookedSlots, Clock, Credits, MAX_FRAME};
 
 // A pair's booking: its slots, and the slots of its summed rate on the line.
 pub fn booking(clock: Clock, slots: BookedSlots, rate: u32) -> BookedSlots
@@ -55,42 +54,83 @@ fn union_of(words: &[u32]) -> u32
     words.iter().fold(0, |union, word| union | word)
 }
 
-// The first count words of a run become the bookings at these places; where a run has fewer, all stay as they are.
+// What a word is that a run of bookings or of credits holds: slots that are booked, or credits. Each is made from the slots that are booked, and written as its word.
+pub trait BookingWord {
+    fn word(booked: BookedSlots) -> u32
+        requires fits { booked.0 < 2 ^ 32 }
+        ensures word { result ≡ booked.0 };
+}
+
+impl BookingWord for BookedSlots {
+    fn word(booked: BookedSlots) -> u32 {
+        booked.0 as u32
+    }
+}
+
+impl BookingWord for Credits {
+    fn word(booked: BookedSlots) -> u32 {
+        credits_for(booked).0
+    }
+}
+
+// A credit for each booked slot.
+fn credits_for(booked: BookedSlots) -> Credits
+    requires fits { booked.0 < 2 ^ 32 }
+    ensures same { result.0 ≡ booked.0 }
+{
+    Credits(booked.0 as u32)
+}
+
+// The first count words of a run become the bookings at these places, or the credits for them; where a run has fewer, all stay as they are.
 // Stays (b): two ways, since a copy of the slots alone takes 404 ns of a tick of 32 ports where the bookings worked out take 2,657 ns (README, Which form).
 // Inlined, since both forms call it: as a call it made a tick of 8 ports and more 10 % slower.
 #[inline(always)]
-pub fn copy_bookings(clock: Clock, book: BookRuns<'_>, to: &mut [u32], count: usize)
+pub fn copy_bookings<W: BookingWord>(clock: Clock, book: BookRuns<'_>, to: &mut [u32], count: usize)
     ensures to_exit { to.new ≡ copy_words count
         (booking_words clock.frame clock.line book.entry.slots.now book.entry.rates.now) to.old }
 {
     if has_rate(book.rates, count) {
-        copy_worked_out(clock, book, to, count);
+        copy_worked_out::<W>(clock, book, to, count);
     } else {
-        copy_slots(book.slots, to, count);
+        copy_slots::<W>(book.slots, to, count);
     }
 }
 
-// Without a rate the bookings are the slots, which are words.
-fn copy_slots(slots: &[u32], to: &mut [u32], count: usize)
+// The first count words of a run become the slots that are booked at these places of another, or the credits for them; where either has fewer, both stay as
+// they are. Without a rate the bookings are the slots.
+pub fn copy_slots<W: BookingWord>(slots: &[u32], to: &mut [u32], count: usize)
     ensures to_exit { to.new ≡ copy_words count slots.now to.old }
     ensures words { (at : ℕ) → get_or slots.now at 0 < 2 ^ 32 }
 {
-    copy_words(slots, to, count);
+    if count <= slots.len() && count <= to.len() {
+        copy_first_slots::<W>(slots, to, count);
+    }
 }
 
-// That, where there is a rate or a run has fewer words.
-fn copy_worked_out(clock: Clock, book: BookRuns<'_>, to: &mut [u32], count: usize)
+// The first count slots copied, where both runs have them.
+fn copy_first_slots<W: BookingWord>(slots: &[u32], to: &mut [u32], count: usize)
+    requires slots_long { count ≤ length slots.now }
+    requires to_long { count ≤ length to.old }
+    ensures to_exit { to.new ≡ copied count slots.now to.old }
+{
+    for at in 0..count {
+        to[at] = W::word(BookedSlots::from(slots[at]));
+    }
+}
+
+// The bookings copied, where there is a rate or a run has fewer words.
+fn copy_worked_out<W: BookingWord>(clock: Clock, book: BookRuns<'_>, to: &mut [u32], count: usize)
     ensures to_exit { to.new ≡ copy_words count
         (booking_words clock.frame clock.line book.entry.slots.now book.entry.rates.now) to.old }
 {
     let BookRuns { slots, rates } = book;
     if count <= slots.len() && count <= rates.len() && count <= to.len() {
-        copy_first(clock, book, to, count);
+        copy_first::<W>(clock, book, to, count);
     }
 }
 
 // The first count bookings copied, where all runs have them.
-fn copy_first(clock: Clock, book: BookRuns<'_>, to: &mut [u32], count: usize)
+fn copy_first<W: BookingWord>(clock: Clock, book: BookRuns<'_>, to: &mut [u32], count: usize)
     requires slots_long { count ≤ length book.slots.now }
     requires rates_long { count ≤ length book.rates.now }
     requires to_long { count ≤ length to.old }
@@ -99,6 +139,6 @@ fn copy_first(clock: Clock, book: BookRuns<'_>, to: &mut [u32], count: usize)
 {
     // Stays (c): tried with `to.iter_mut()` in the zip; of a run lent so a proof knows no word after the loop.
     for (at, (held, rate)) in book.slots[..count].iter().zip(book.rates).enumerate() {
-        to[at] = booking(clock, BookedSlots::from(*held), *rate).0 as u32;
+        to[at] = W::word(booking(clock, BookedSlots::from(*held), *rate));
     }
 }

@@ -17,7 +17,7 @@ ghost use Rattle.direct.specs.Passes.{QueuesFit, Loading, SlotRun};
 use bookings::copy_bookings;
 use passes::{pass_one, pass_two};
 use questions::check_direct_tick;
-use wsgs::{BookRuns, Clock, Refused, Served, Ticked, TurnRuns};
+use wsgs::{BookRuns, Clock, Credits, Refused, Served, Ticked, TurnRuns};
 
 // Step 1: in the first slot of a frame the credits become the bookings, which are worked out from slots and rates.
 fn reload(clock: Clock, book: BookRuns<'_>, credits: &mut [u32])
@@ -29,7 +29,7 @@ fn reload(clock: Clock, book: BookRuns<'_>, credits: &mut [u32])
     if (clock.slot - 1) % clock.frame == 0 {
         let ports = clock.ports as usize;
         let pairs = ports * ports;
-        copy_bookings(clock, book, credits, pairs);
+        copy_bookings::<Credits>(clock, book, credits, pairs);
     }
 }
 

@@ -16,7 +16,7 @@ use bookings::copy_bookings;
 use flight::hand_out;
 use pipeline_turns::{all_turns, look_ahead};
 use questions::check_pipelined_tick;
-use wsgs::{BookRuns, Clock, PipelineRuns, Refused, Ticked, TurnRuns};
+use wsgs::{BookRuns, BookedSlots, Clock, PipelineRuns, Refused, Ticked, TurnRuns};
 
 // Where slot time + 2N is the first of a frame, so that no slot of its frame comes before it, the frame copy becomes the bookings, which are
 // worked out from slots and rates.
@@ -29,7 +29,7 @@ fn renew_copy(clock: Clock, into: u64, book: BookRuns<'_>, copy: &mut [u32])
     if into == 0 {
         let ports = clock.ports as usize;
         let pairs = ports * ports;
-        copy_bookings(clock, book, copy, pairs);
+        copy_bookings::<BookedSlots>(clock, book, copy, pairs);
     }
 }
 

@@ -6,11 +6,11 @@ ghost use Rattle.wsgs.specs.Told.{SameTurnRuns, SamePipelineRuns};
 ghost use Rattle.wsgs.specs.Pipelined.{slot_one, turn_one, turn_two, reloaded, turns_of, turns};
 ghost use Rattle.pipelined.specs.Turnings.{turn_runs_of, turning_lent, SameLengths, InputOf, TurnFits, RunsFit, Lookahead};
 
+use bookings::copy_slots;
 use super::flight::{free_for, output_of, row_before};
 use turns::{first_requests, first_turn, second_requests, second_turn};
-use words::copy_words;
 use words::places::row_of;
-use wsgs::{Input, PipelineRuns, TurnRuns};
+use wsgs::{Credits, Input, PipelineRuns, TurnRuns};
 
 // Stays (d): pass one asks first and then looks whether the input has an output, pass two the other way, each for speed (docs/DECISIONS.md), and each has its own
 // definition (`turn_one`, `turn_two`); a row stands in the run in flight at a place, as a rule of the project has it.
@@ -95,7 +95,7 @@ fn reload_row(
 {
     if into == input.0 - 1 {
         let row = row_of(ports, input);
-        copy_words(&pipeline.copy[row..], &mut credits[row..], ports);
+        copy_slots::<Credits>(&pipeline.copy[row..], &mut credits[row..], ports);
     }
 }
 

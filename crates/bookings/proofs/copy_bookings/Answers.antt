@@ -5,7 +5,7 @@ use Rattle.bookings.proofs.Laws.{unrated_copy}
 use Rattle.bookings.proofs.copy_bookings.Goals as goal
 
 pub returns-else-has_rate : goal.returns-else-has_rate
-returns-else-has_rate c =
+returns-else-has_rate g c =
     let a = c.args in
     record {
       to_exit = c.copy_slots.ensures.to_exit

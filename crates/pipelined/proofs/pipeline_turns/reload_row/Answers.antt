@@ -13,7 +13,7 @@ returns-then-into-input c =
       reload = λ frame time covers place q g f.
           reloads _ _ _ _ q g f _ _ _ (slot_first _ _ time _ _ i.port covers place c.if-into-input.true)
           (row_loaded _ _ _ _ (omega (arith, c.row_of-row.ensures.within, c.requires.credits_fit)) _ c.args.pipeline.now.copy.now (c.row_of-row.ensures.row ∙ row_is _ _ i.few i.port)
-          (omega (arith, c.row_of-row.ensures.within, c.requires.copy_fits)) c.copy_words.ensures.to_exit);
+          (omega (arith, c.row_of-row.ensures.within, c.requires.copy_fits)) c.copy_slots.ensures.to_exit);
     }
 
 pub returns-else-into-input : goal.returns-else-into-input
