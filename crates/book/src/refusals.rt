@@ -25,6 +25,7 @@ pub fn check_book_pair(clock: Clock, book: BookRuns<'_>, pair: Pair) -> Result<(
 }
 
 // Of an operation: those, whether its amount is in range, and what it is asked last.
+#[inline(always)]
 pub fn check_operation(
     clock: Clock,
     book: BookRuns<'_>,
@@ -48,6 +49,7 @@ pub fn check_operation(
 
 // Whether the amount is in range: question 6.
 // Stays (d): two kinds of amount have two ranges, and each arm is one test of its own amount; closures would hide which.
+#[inline(always)]
 fn amount_in_range(clock: Clock, operation: BookOperation) -> bool
     ensures result { result ≡ (amount_asked operation clock).yes }
 {
@@ -64,6 +66,7 @@ fn amount_in_range(clock: Clock, operation: BookOperation) -> bool
 impl AskedPair<'_> {
     // Of a booking, by the slots that it counts as, what the book's rule asks; of a release, whether as much is held.
     // Stays (d): the operation comes as data, and each arm is one call on its own amount and run; closures would be made by such a match too.
+    #[inline(always)]
     fn check_last(self, operation: BookOperation) -> Result<(), Refused>
         requires amount_in_range { IsTrue (amount_asked operation self.clock).yes }
         ensures refusal { refusal_number result

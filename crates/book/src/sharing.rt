@@ -23,6 +23,7 @@ fn pair_fits(frame: u64, own: BookedSlots, row: u64, column: u64) -> bool
 
 impl BookingRequest<'_> {
     // Whether the line's pair at a port does.
+    #[inline(always)]
     fn fits_at(self, totals: &AllSums, line: Line, port: u64) -> bool
         requires totals { Totals self.asked self.more.0 totals.now }
         requires port_in_range { Port self.asked.clock.ports port }
@@ -40,11 +41,17 @@ impl BookingRequest<'_> {
     }
 
     // Whether each pair of the line does.
+    #[inline(always)]
     pub fn line_fits(self, totals: &AllSums, line: Line) -> bool
         requires totals { Totals self.asked self.more.0 totals.now }
         ensures result { result
             ≡ list_all (fits_along line self.entry.asked self.entry.more.0) (range_with_len 1 self.entry.asked.clock.ports) }
     {
-        (1..self.asked.clock.ports as u64 + 1).all(|port| self.fits_at(totals, line, port))
+        for at in 0..self.asked.clock.ports as u64 {
+            if !self.fits_at(totals, line, at + 1) {
+                return false;
+            }
+        }
+        true
     }
 }

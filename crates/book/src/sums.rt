@@ -18,6 +18,7 @@ pub enum Line {
 
 impl Line {
     // The pair of a pair's line at a port.
+    #[inline(always)]
     pub fn pair_at(self, pair: Pair, port: u64) -> Pair
         ensures result { result ≡ pair_at self pair port }
     {
@@ -36,6 +37,7 @@ impl Line {
 
 impl AskedPair<'_> {
     // What any pair of the ports has booked.
+    #[inline(always)]
     pub fn booked(self, other: Pair) -> BookedSlots
         requires input_in_range { Port self.clock.ports other.input.0 }
         requires output_in_range { Port self.clock.ports other.output.0 }
@@ -49,6 +51,7 @@ impl AskedPair<'_> {
     }
 
     // What the line's pair at a port has.
+    #[inline(always)]
     fn booked_at(self, line: Line, port: u64) -> BookedSlots
         requires port_in_range { Port self.clock.ports port }
         ensures result { result.0 ≡ along line (present self.entry) self.entry.pair port }
@@ -58,12 +61,15 @@ impl AskedPair<'_> {
     }
 
     // The bookings of a line, summed in 64 bits: none of 32 can make them wrap.
+    #[inline(always)]
     pub fn sum(self, line: Line) -> u64
         ensures result { result
             ≡ line_sum line self.entry.clock.ports (present self.entry) self.entry.pair }
     {
-        (1..self.clock.ports as u64 + 1)
-            .map(|port| self.booked_at(line, port).0)
-            .sum()
+        let mut sum = 0;
+        for at in 0..self.clock.ports as u64 {
+            sum += self.booked_at(line, at + 1).0;
+        }
+        sum
     }
 }

@@ -1,11 +1,7 @@
 -- Laws of the sums of bookings over a line: as a sum over a range, and that none can wrap. Assumes nothing.
-use mathlib.Core.Path.{◌≡◌, refl, sym, ◌∙◌, ap, ap₂}
+use mathlib.Core.Path.{◌≡◌, refl, sym, ◌∙◌, ap₂}
 use Prim.Native.Nat.{ℕ, zero, suc, ◌+◌, ◌*◌, ◌^◌, ◌≤◌, ◌<◌}
 use native.Mathlib.Omega.{arith}
-use Rattle.std.specs.List.{sum_by, range_with_len}
-use Rattle.std.proofs.lemmas.List.FromFn.{sum_by-map-range_with_len_more}
-use Rattle.std.proofs.lemmas.List.Sums.{sum-map}
-use Rattle.std.proofs.Common.{map}
 use Rattle.wsgs.specs.declared.Clock.{Clock}
 use Rattle.wsgs.specs.declared.Pair.{Pair}
 use Rattle.wsgs.specs.Basics.{Port, sum}
@@ -19,23 +15,12 @@ use Rattle.book.specs.Lines.{pair_at, along, line_sum}
 pub sum_more : (f : ℕ → ℕ) (k s v : ℕ) → s ≡ sum f k → v ≡ f (k + 1) → s + v ≡ sum f (k + 1)
 sum_more f k s v e d = ap₂ ◌+◌ e d ∙ sym (sum_last f k (k + 1) (omega arith))
 
--- a sum over 1..n
-pub sum_by_ports : (f : ℕ → ℕ) (n : ℕ) → sum_by f (range_with_len 1 n) ≡ sum f n
-unfolding sum
-sum_by_ports f zero = refl
-sum_by_ports f (suc n) =
-    let more : suc n ≡ n + 1 = omega arith in
-    sym (sum-map f (range_with_len 1 (suc n)))
-    ∙ ap (λ (k : ℕ). sum_by (λ x. x) (map f (range_with_len 1 k))) more
-    ∙ sum_by-map-range_with_len_more (λ x. x) f 1 n (suc n) (omega arith)
-    ∙ ap (λ s. s + f (suc n)) (sum-map f (range_with_len 1 n) ∙ sum_by_ports f n)
-
 -- so a line's
 module _ (n : ℕ) (a : ℕ → ℕ → ℕ) (p : Pair) where
-  pub line_by_ports : (l : Line) → sum_by (along l a p) (range_with_len 1 n) ≡ line_sum l n a p
+  pub line_by_ports : (l : Line) → sum (along l a p) n ≡ line_sum l n a p
   unfolding row_sum column_sum
-  line_by_ports Row = sum_by_ports (λ k. a p.input.0 k) n
-  line_by_ports Column = sum_by_ports (λ k. a k p.output.0) n
+  line_by_ports Row = refl
+  line_by_ports Column = refl
 
   -- a port's pair lies in the matrix
   pub ports_at : (l : Line) (k : ℕ) → Port n p.input.0 → Port n p.output.0 → Port n k → Port n (pair_at l p k).input.0 × Port n (pair_at l p k).output.0
