@@ -1,8 +1,10 @@
 -- The bookings that would follow a booking, lists of the sums of their rows and columns, and the tests of the pairs. Assumes nothing.
 use Rattle.std.specs.Prelude.{◌≡◌, Bool, List, ℕ, ◌+◌, ◌≤◌, ◌<◌, length, get_or}
+use Rattle.std.specs.List.{list_all, range_with_len}
 use Rattle.wsgs.specs.Bookings.{row_sum, column_sum}
 use Rattle.wsgs.specs.Rule.{with_more, booked_fits}
 use Rattle.book.specs.declared.sums.Line.{Line}
+use Rattle.book.specs.declared.sums.Line.TheVariants.{Row, Column}
 use Rattle.book.specs.declared.asked.AskedPair.{AskedPair}
 use Rattle.book.specs.declared.all_sums.AllSums.{AllSums}
 use Rattle.book.specs.Asked.{present}
@@ -32,3 +34,10 @@ unfolding booked_fits
 fits_along l p more k =
     let other = pair_at l p.pair k in
     booked_fits p.clock.ports p.clock.frame (afterwards p more) other.input.0 other.output.0
+
+-- it would hold of each pair of the row, and of each of the column
+abbrev pub row_fits : AskedPair → (more : ℕ) → Bool
+row_fits p more = list_all (fits_along Row p more) (range_with_len 1 p.clock.ports)
+
+abbrev pub column_fits : AskedPair → (more : ℕ) → Bool
+column_fits p more = list_all (fits_along Column p more) (range_with_len 1 p.clock.ports)

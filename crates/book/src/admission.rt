@@ -5,7 +5,6 @@ ghost use Rattle.book.specs.Refusals.{sums_refusal, pairs_refusal, rule_refusal,
 
 use crate::afterwards::BookingRequest;
 use crate::pairs::word_of;
-use crate::sums::Line;
 use wsgs::{Pair, Refused};
 
 impl BookingRequest<'_> {
@@ -30,10 +29,10 @@ impl BookingRequest<'_> {
             self.entry.asked.pair.input.0 self.entry.asked.pair.output.0 self.entry.more.0 }
     {
         let limit = self.asked.clock.frame as u64 + 1;
-        if 2 * (self.asked.sum(Line::Row) + self.more.0) > limit {
+        if 2 * (self.asked.row_sum() + self.more.0) > limit {
             return Err(Refused::Row);
         }
-        if 2 * (self.asked.sum(Line::Column) + self.more.0) > limit {
+        if 2 * (self.asked.column_sum() + self.more.0) > limit {
             return Err(Refused::Column);
         }
         Ok(())
@@ -47,7 +46,7 @@ impl BookingRequest<'_> {
             self.entry.asked.pair.input.0 self.entry.asked.pair.output.0 self.entry.more.0 }
     {
         let totals = self.all_sums();
-        if self.line_fits(&totals, Line::Row) && self.line_fits(&totals, Line::Column) {
+        if self.row_fits(&totals) && self.column_fits(&totals) {
             return Ok(());
         }
         Err(Refused::Sharing)

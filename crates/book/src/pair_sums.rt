@@ -9,7 +9,6 @@ ghost use Rattle.book.specs.PairSums.{present_sums};
 use crate::asked::AskedPair;
 use crate::pairs::word_of;
 use crate::refusals::check_book_pair;
-use crate::sums::Line;
 use wsgs::{BookRuns, Clock, Pair, Refused};
 
 // The pair's word of slots and of rates, its booking, and the sums of bookings of its row and of its column.
@@ -42,7 +41,7 @@ pub fn pair_sums(clock: Clock, book: BookRuns<'_>, pair: Pair) -> Result<PairSum
         slots: word_of(ports, book.slots, pair),
         rate: word_of(ports, book.rates, pair),
         booking: asked.booked(pair).0,
-        row: asked.sum(Line::Row),
-        column: asked.sum(Line::Column),
+        row: asked.row_sum(),
+        column: asked.column_sum(),
     })
 }

@@ -3,7 +3,7 @@ ghost use Rattle.std.specs.Prelude.{◌≡◌, ◌^◌, ◌<◌};
 ghost use Rattle.std.specs.List.{list_all, range_with_len};
 ghost use Rattle.wsgs.specs.Basics.{Port};
 ghost use Rattle.wsgs.specs.Rule.{pair_fits};
-ghost use Rattle.book.specs.Afterwards.{Totals, fits_along};
+ghost use Rattle.book.specs.Afterwards.{Totals, fits_along, row_fits, column_fits};
 
 use crate::afterwards::BookingRequest;
 use crate::all_sums::AllSums;
@@ -40,9 +40,25 @@ impl BookingRequest<'_> {
         )
     }
 
+    // Whether each pair of the row does, and each of the column.
+    // Stays (b): a function for each line, with `line_fits` in it, as `row_sum` and `column_sum` in sums.rt.
+    pub fn row_fits(self, totals: &AllSums) -> bool
+        requires totals { Totals self.asked self.more.0 totals.now }
+        ensures result { result ≡ row_fits self.entry.asked self.entry.more.0 }
+    {
+        self.line_fits(totals, Line::Row)
+    }
+
+    pub fn column_fits(self, totals: &AllSums) -> bool
+        requires totals { Totals self.asked self.more.0 totals.now }
+        ensures result { result ≡ column_fits self.entry.asked self.entry.more.0 }
+    {
+        self.line_fits(totals, Line::Column)
+    }
+
     // Whether each pair of the line does.
     #[inline(always)]
-    pub fn line_fits(self, totals: &AllSums, line: Line) -> bool
+    fn line_fits(self, totals: &AllSums, line: Line) -> bool
         requires totals { Totals self.asked self.more.0 totals.now }
         ensures result { result
             ≡ list_all (fits_along line self.entry.asked self.entry.more.0) (range_with_len 1 self.entry.asked.clock.ports) }

@@ -1,6 +1,7 @@
 // What pairs have booked, and the bookings summed over a line of a pair: its input's row, or its output's column.
 ghost use Rattle.std.specs.Prelude.{◌≡◌, ◌^◌, ◌<◌};
 ghost use Rattle.wsgs.specs.Basics.{Port};
+ghost use Rattle.wsgs.specs.Bookings.{row_sum, column_sum};
 ghost use Rattle.book.specs.Lines.{pair_at, along, line_sum};
 ghost use Rattle.book.specs.Asked.{present};
 
@@ -60,9 +61,24 @@ impl AskedPair<'_> {
         self.booked(line.pair_at(self.pair, port))
     }
 
+    // The bookings of the pair's row, and of its column.
+    // Stays (b): a function for each line, with `sum` in it. Were `sum` called with a line known only as it runs, or the two of them part of a larger
+    // function, LLVM would leave the test of the line rate in the loop: 2.5 times the instructions on 32 ports without a line rate.
+    pub fn row_sum(self) -> u64
+        ensures result { result ≡ row_sum self.entry.clock.ports (present self.entry) self.entry.pair.input.0 }
+    {
+        self.sum(Line::Row)
+    }
+
+    pub fn column_sum(self) -> u64
+        ensures result { result ≡ column_sum self.entry.clock.ports (present self.entry) self.entry.pair.output.0 }
+    {
+        self.sum(Line::Column)
+    }
+
     // The bookings of a line, summed in 64 bits: none of 32 can make them wrap.
     #[inline(always)]
-    pub fn sum(self, line: Line) -> u64
+    fn sum(self, line: Line) -> u64
         ensures result { result
             ≡ line_sum line self.entry.clock.ports (present self.entry) self.entry.pair }
     {

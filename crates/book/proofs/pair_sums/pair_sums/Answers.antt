@@ -22,9 +22,9 @@ invariant_of-asked c =
 pub returns-clause-row_fits : goal.returns-clause-row_fits
 returns-clause-row_fits c =
     let r = pair_asked _ _ _ _ c.in_ok-check_book_pair.ensures.refusal in
-    omega (arith, c.sum.ensures.result, line_small c.args.clock (book_lent c.args.book) r.ports.1 Row c.args.pair)
+    omega (arith, c.row_sum.ensures.result, line_small c.args.clock (book_lent c.args.book) r.ports.1 Row c.args.pair)
 
 pub returns-clause-column_fits : goal.returns-clause-column_fits
 returns-clause-column_fits c =
     let r = pair_asked _ _ _ _ c.in_ok-check_book_pair.ensures.refusal in
-    omega (arith, c.sum-2.ensures.result, line_small c.args.clock (book_lent c.args.book) r.ports.1 Column c.args.pair)
+    omega (arith, c.column_sum.ensures.result, line_small c.args.clock (book_lent c.args.book) r.ports.1 Column c.args.pair)

@@ -14,26 +14,26 @@ use Rattle.book.proofs.afterwards.BookingRequest.check_sums.Goals as goal
 small : (p : AskedPair) (l : Line) → line_sum l p.clock.ports (present p) p.pair < 2 ^ 38
 small p l = line_small p.clock (book_lent p.runs) p.reached.ports.1 l p.pair
 
-pub overflow_add-sum : goal.overflow_add-sum
-overflow_add-sum c = omega (arith, c.sum.ensures.result, small c.args.self.asked Row)
+pub overflow_add-row_sum : goal.overflow_add-row_sum
+overflow_add-row_sum c = omega (arith, c.row_sum.ensures.result, small c.args.self.asked Row)
 
-pub overflow_mul-sum : goal.overflow_mul-sum
-overflow_mul-sum c = omega (arith, c.sum.ensures.result, small c.args.self.asked Row)
+pub overflow_mul-row_sum : goal.overflow_mul-row_sum
+overflow_mul-row_sum c = omega (arith, c.row_sum.ensures.result, small c.args.self.asked Row)
 
-pub overflow_add-sum-2 : goal.overflow_add-sum-2
-overflow_add-sum-2 c = omega (arith, c.sum-2.ensures.result, small c.args.self.asked Column)
+pub overflow_add-column_sum : goal.overflow_add-column_sum
+overflow_add-column_sum c = omega (arith, c.column_sum.ensures.result, small c.args.self.asked Column)
 
-pub overflow_mul-sum-2 : goal.overflow_mul-sum-2
-overflow_mul-sum-2 c = omega (arith, c.sum-2.ensures.result, small c.args.self.asked Column)
+pub overflow_mul-column_sum : goal.overflow_mul-column_sum
+overflow_mul-column_sum c = omega (arith, c.column_sum.ensures.result, small c.args.self.asked Column)
 
-pub returns-then-sum-self : goal.returns-then-sum-self
-returns-then-sum-self c =
-    record { refusal = row_full _ _ _ _ _ (omega (arith, c.sum.ensures.result)) }
+pub returns-then-row_sum-self : goal.returns-then-row_sum-self
+returns-then-row_sum-self c =
+    record { refusal = row_full _ _ _ _ _ (omega (arith, c.row_sum.ensures.result)) }
 
-pub returns-then-sum-self-2 : goal.returns-then-sum-self-2
-returns-then-sum-self-2 c =
-    record { refusal = column_full _ _ _ _ _ (omega (arith, c.sum.ensures.result)) (omega (arith, c.sum-2.ensures.result)) }
+pub returns-then-column_sum-self : goal.returns-then-column_sum-self
+returns-then-column_sum-self c =
+    record { refusal = column_full _ _ _ _ _ (omega (arith, c.row_sum.ensures.result)) (omega (arith, c.column_sum.ensures.result)) }
 
 pub returns : goal.returns
 returns c =
-    record { refusal = both_admit _ _ _ _ _ (omega (arith, c.sum.ensures.result)) (omega (arith, c.sum-2.ensures.result)) }
+    record { refusal = both_admit _ _ _ _ _ (omega (arith, c.row_sum.ensures.result)) (omega (arith, c.column_sum.ensures.result)) }
