@@ -22,7 +22,7 @@ fn next_text(progress: Progress, read: &[u8]) -> &[u8] {
 // Reads the input in blocks, and feeds them and its end. A read or a write that fails ends the run. Nothing says that an input ends, so the
 // blocks are counted up to a number that no run reaches.
 // Stays (d): the end is fed by the call that feeds the blocks, and not by `feed_end`: two calls would be two copies of the library, of which
-// the compiler inlines neither whole, and an idle tick of one or two ports took 1.4 times the instructions.
+// the compiler inlines neither whole, and an idle tick of one or two ports took 1.6 times the instructions.
 fn read_input(input: &mut impl Read, rt: &impl Print, block: &mut [u8], lent: &mut Lent<'_>) {
     let mut progress = begin();
     for _ in 0..u64::MAX {
