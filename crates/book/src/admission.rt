@@ -10,6 +10,7 @@ use wsgs::{Pair, Refused};
 impl BookingRequest<'_> {
     // Whether the booking is admitted: what the book asks, which is plain or fine.
     // Stays (a): the kind is a word of any value in the clock that C keeps (`uint32_t clock[5]`, the last), and wsgs reads it so (`is_fine`).
+    #[inline(always)]
     pub fn check_rule(self) -> Result<(), Refused>
         ensures refusal { refusal_number result
             ≡ rule_refusal self.entry.asked.clock (book_lent self.entry.asked.runs)
@@ -23,6 +24,7 @@ impl BookingRequest<'_> {
     }
 
     // On a plain book: whether the sums leave room, questions 8 and 9.
+    #[inline(always)]
     fn check_sums(self) -> Result<(), Refused>
         ensures refusal { refusal_number result
             ≡ sums_refusal self.entry.asked.clock (book_lent self.entry.asked.runs)
@@ -40,6 +42,7 @@ impl BookingRequest<'_> {
 
     // On a fine book: whether each booked pair that shares the input or the output would fit the frame, question 15. One sweep over the pairs takes all sums,
     // then the pairs of the row and those of the column are gone over once.
+    #[inline(never)]
     fn check_sharing(self) -> Result<(), Refused>
         ensures refusal { refusal_number result
             ≡ pairs_refusal self.entry.asked.clock (book_lent self.entry.asked.runs)

@@ -63,11 +63,6 @@ impl BookingRequest<'_> {
         ensures result { result
             ≡ list_all (fits_along line self.entry.asked self.entry.more.0) (range_with_len 1 self.entry.asked.clock.ports) }
     {
-        for at in 0..self.asked.clock.ports as u64 {
-            if !self.fits_at(totals, line, at + 1) {
-                return false;
-            }
-        }
-        true
+        (1..self.asked.clock.ports as u64 + 1).all(|port| self.fits_at(totals, line, port))
     }
 }
