@@ -54,7 +54,7 @@ fn union_of(words: &[u32]) -> u32
     words.iter().fold(0, |union, word| union | word)
 }
 
-// What a word is that a run of bookings or of credits holds: slots that are booked, or credits. Each is made from the slots that are booked, and written as its word.
+// What the words of a run are: slots that are booked, or credits. `word` makes the one or the other of the slots that are booked, and gives its word.
 pub trait BookingWord {
     fn word(booked: BookedSlots) -> u32
         requires fits { booked.0 < 2 ^ 32 }
@@ -113,8 +113,9 @@ fn copy_first_slots<W: BookingWord>(slots: &[u32], to: &mut [u32], count: usize)
     requires to_long { count ≤ length to.old }
     ensures to_exit { to.new ≡ copied count slots.now to.old }
 {
-    for at in 0..count {
-        to[at] = W::word(BookedSlots::from(slots[at]));
+    // Stays (c): as in `copy_first`.
+    for (at, booked) in slots[..count].iter().enumerate() {
+        to[at] = W::word(BookedSlots::from(*booked));
     }
 }
 

@@ -6,8 +6,8 @@ ghost use Rattle.wsgs.specs.Told.{SameTurnRuns, SamePipelineRuns};
 ghost use Rattle.wsgs.specs.Pipelined.{slot_one, turn_one, turn_two, reloaded, turns_of, turns};
 ghost use Rattle.pipelined.specs.Turnings.{turn_runs_of, turning_lent, SameLengths, InputOf, TurnFits, RunsFit, Lookahead};
 
-use bookings::copy_slots;
 use super::flight::{free_for, output_of, row_before};
+use bookings::copy_slots;
 use turns::{first_requests, first_turn, second_requests, second_turn};
 use words::places::row_of;
 use wsgs::{Credits, Input, PipelineRuns, TurnRuns};

@@ -1,4 +1,4 @@
--- The loop's invariant: the words so far are copied.
+-- The loop's invariant: the words so far are the slots.
 use Rattle.std.proofs.Common.{◌≡◌}
 use Rattle.wsgs.specs.Words.{copied}
 use Rattle.bookings.proofs.copy_first_slots.Given as goal
