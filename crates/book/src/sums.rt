@@ -77,6 +77,7 @@ impl AskedPair<'_> {
     }
 
     // The bookings of a line, summed in 64 bits: none of 32 can make them wrap.
+    // Stays (b): as `(1..).map(..).sum()`, of which the compiler made one function for both lines, calls on the book took up to 1.46 times the instructions.
     #[inline(always)]
     fn sum(self, line: Line) -> u64
         ensures result { result
