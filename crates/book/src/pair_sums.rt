@@ -22,6 +22,7 @@ pub struct PairSums {
 }
 
 // Those of a pair that questions 1, 2, 4 and 5 pass.
+#[inline(always)]
 pub fn pair_sums(clock: Clock, book: BookRuns<'_>, pair: Pair) -> Result<PairSums, Refused>
     ensures refusal { refusal_number result
         ≡ pair_refusal clock (holds_book clock.ports (book_lent book.entry)) pair.input.0 pair.output.0 }
