@@ -10,6 +10,7 @@ use wsgs::{Pair, Refused};
 impl BookingRequest<'_> {
     // Whether the booking is admitted: what the book asks, which is plain or fine.
     // Stays (a): the kind is a word of any value in the clock that C keeps (`uint32_t clock[5]`, the last), and wsgs reads it so (`is_fine`).
+    // Inlined, as far as a plain book's sums; a fine book's sweep stays a call, so that a plain one does not pay for its large frame.
     #[inline(always)]
     pub fn check_rule(self) -> Result<(), Refused>
         ensures refusal { refusal_number result

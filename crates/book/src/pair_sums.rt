@@ -22,6 +22,8 @@ pub struct PairSums {
 }
 
 // Those of a pair that questions 1, 2, 4 and 5 pass.
+// Inlined: as a call, with its book and its result in memory, a preview of a release took 1.1 times the instructions of one without structs.
+#[inline(always)]
 pub fn pair_sums(clock: Clock, book: BookRuns<'_>, pair: Pair) -> Result<PairSums, Refused>
     ensures refusal { refusal_number result
         ≡ pair_refusal clock (holds_book clock.ports (book_lent book.entry)) pair.input.0 pair.output.0 }

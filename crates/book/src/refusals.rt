@@ -25,6 +25,7 @@ pub fn check_book_pair(clock: Clock, book: BookRuns<'_>, pair: Pair) -> Result<(
 }
 
 // Of an operation: those, whether its amount is in range, and what it is asked last.
+// Inlined, with what it asks, since each caller names its operation: the matches fold.
 #[inline(always)]
 pub fn check_operation(
     clock: Clock,

@@ -68,6 +68,7 @@ pub fn preview_release_rate(clock: Clock, book: BookRuns<'_>, pair: Pair, rate: 
 }
 
 // What an operation would give. Where its sums are shown the pair has passed its questions, so the present sums are there.
+// Inlined, as `check_operation`: each caller names its operation.
 #[inline(always)]
 fn preview_operation(
     clock: Clock,
