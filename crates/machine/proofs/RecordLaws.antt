@@ -1,6 +1,7 @@
--- A start, and a call on a started switch: what its outcome leaves is what the definition says. Assumes nothing.
-use mathlib.Core.Path.{◌≡◌, ap, ◌∙◌}
-use mathlib.Core.Bool.{true, and-false}
+-- A start, and a call on a started switch: what its outcome leaves is what the definition says. And the form of a machine that is not running.
+-- Assumes nothing.
+use mathlib.Core.Path.{◌≡◌, refl, sym, ap, ◌∙◌}
+use mathlib.Core.Bool.{Bool, true, false, false≢true, and-false}
 use mathlib.Core.Logic.{◌≢◌}
 use Prim.Native.Nat.{ℕ}
 use borrow.Author.Tests.{eq-eqb, ne_eqb}
@@ -8,8 +9,12 @@ use Rattle.std.specs.Prelude.{Result, Ok, Err}
 use Rattle.std.specs.Result.{IsErrAnd}
 use Rattle.wsgs.specs.declared.Refused.{Refused}
 use Rattle.wsgs.specs.declared.Request.{Request}
+use Rattle.wsgs.specs.declared.Operation.TheVariants.{Start, Pipe, Book, Release, Arrive, Tick}
+use Rattle.wsgs.specs.Basics.{pick}
+use Rattle.wsgs.specs.Records
+use Rattle.wsgs.specs.Records.{Reading}
 use Rattle.wsgs.specs.Switch.{Form, Call, start, Outcome, apply, plain}
-use Rattle.wsgs.specs.Program.{RecordOutcome, number_alone, with_switch, refusal_of, run_start, run_call}
+use Rattle.wsgs.specs.Program.{RecordOutcome, number_alone, with_switch, refusal_of, run_start, run_call, obey, run_slot}
 use Rattle.wsgs.specs.Program
 use Rattle.wsgs.proofs.Refusals.{unchanged}
 use Rattle.machine.specs.declared.Machine.{Machine}
@@ -53,3 +58,26 @@ module _ (m : Program.Machine) (x y : ℕ) where
     pub not_called : record { machine = with_switch m given.after; slots = 0; refusal = refusal_of m x y given.refusal } ≡ run_call m call x y
     unfolding run_call
     not_called = rw is
+
+-- ONE THAT IS NOT RUNNING afterwards was not before, and keeps its form: after a record, and after a slot.
+abbrev pub FormStays : (before after : Program.Machine) → Type 0
+FormStays m m' = m'.running ≡ false → (m.running ≡ false) × (m'.form ≡ m.form)
+
+module _ (m : Program.Machine) where
+  started_or : (b : Bool) (n : Program.Machine) → n.running ≡ true → FormStays m (pick b n m)
+  started_or true n s h = absurd (false≢true (sym h ∙ s))
+  started_or false n s h = (h, refl)
+
+  pub form_stays : (r : Reading) → FormStays m (obey m r).machine
+  unfolding obey run_start run_call
+  form_stays (Records.Refused number) h = (h, refl)
+  form_stays (Records.Request Start x y z) h = started_or _ _ refl h
+  form_stays (Records.Request Pipe x y z) h = started_or _ _ refl h
+  form_stays (Records.Request Book x y z) h = (h, refl)
+  form_stays (Records.Request Release x y z) h = (h, refl)
+  form_stays (Records.Request Arrive x y z) h = (h, refl)
+  form_stays (Records.Request Tick x y z) h = (h, refl)
+
+  pub slot_form_stays : FormStays m (run_slot m).machine
+  unfolding run_slot
+  slot_form_stays h = (h, refl)

@@ -36,16 +36,16 @@ slot_is : (M : Program.Machine) {o : Outcome} → o ≡ apply (tick M.form) M.sw
 unfolding run_slot
 slot_is M e = ap (slot_from M) e
 
-module _ (m : Machine) (b : Book) (t t' : TurnRuns) (p p' : PipelineRuns) where
+module _ (m : Machine) (b b' : Book) (t t' : TurnRuns) (p p' : PipelineRuns) where
   abbrev M : Program.Machine
   M = machine_lent m b t p
 
   abbrev left : Result Ticked Refused → Outcome
-  left o = tick_outcome_of m.clock o b t' p'
+  left o = tick_outcome_of m.clock o b' t' p'
 
   pub slot_ran : (o : Ticked) → left (Ok o) ≡ apply (tick M.form) M.switch
       → (pairs : SlotPairs) → pairs.slot ≡ slot_of_tick M.form o.clock.slot → pairs.served ≡ o.served
-      → slot_outcome_of (record { machine = record { running = m.running; form = m.form; clock = o.clock }; outcome = Ok pairs }) b t' p' ≡ run_slot M
+      → slot_outcome_of (record { machine = record { running = m.running; form = m.form; clock = o.clock }; outcome = Ok pairs }) b' t' p' ≡ run_slot M
   slot_ran o e pairs s v =
       ap (λ k. record { machine = with_switch M (left (Ok o)).after; slot = k; matching = pairs_in (Ok pairs); refusal = number_alone 0 }) s
       ∙ ap (λ (v : Served). record { machine = with_switch M (left (Ok o)).after; slot = slot_of_tick M.form o.clock.slot; matching = matching_of v.outputs v.first_pass; refusal = number_alone 0 }) v
@@ -54,7 +54,7 @@ module _ (m : Machine) (b : Book) (t t' : TurnRuns) (p p' : PipelineRuns) where
 
   pub slot_refused : (refused : Refused) → left (Err refused) ≡ apply (tick M.form) M.switch
       → (line : RefusalLine) → refusal_told (Some line) ≡ refusal_of M 0 0 (number refused)
-      → slot_outcome_of (record { machine = m; outcome = Err line }) b t' p' ≡ run_slot M
+      → slot_outcome_of (record { machine = m; outcome = Err line }) b' t' p' ≡ run_slot M
   slot_refused refused e line l =
       ap (λ r. record { machine = with_switch M (left (Err refused)).after; slot = slot_of_tick M.form m.clock.slot; matching = empty_matching; refusal = r }) l
       ∙ ap (λ a. record { machine = with_switch M (left (Err refused)).after; slot = slot_of_tick M.form m.clock.slot; matching = a; refusal = refusal_of M 0 0 (number refused) }) (sym none)

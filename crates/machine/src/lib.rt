@@ -64,7 +64,7 @@ pub struct SlotResult {
 }
 
 // A record: what it does at once. Slots that it asks for are left to run. One that cannot be read is refused by its reader's number, of which 0
-// is none.
+// is none; any other refusal has the number of a `Refused`.
 pub fn obey(
     machine: Machine,
     reading: Result<Request, u32>,
@@ -74,6 +74,7 @@ pub fn obey(
     ensures outcome { record_outcome_of result runs.new
         ≡ obey (machine_of machine runs.old) (reading_of reading) }
     ensures refused { IfErr result.outcome (λ line. 1 ≤ line.number) }
+    ensures known { IfErr reading (λ number. number ≤ 15) → IfErr result.outcome (λ line. line.number ≤ 15) }
 {
     let request = match reading {
         Ok(request) => request,
@@ -114,6 +115,7 @@ pub fn run_slot(
     ensures outcome { slot_outcome_of result (book_lent book.entry) turns.new pipeline.new
         ≡ run_slot (machine_lent machine (book_lent book.entry) turns.old pipeline.old) }
     ensures refused { IfErr result.outcome (λ line. 1 ≤ line.number) }
+    ensures known { IfErr result.outcome (λ line. line.number ≤ 15) }
 {
     match run_tick(machine, book, turns, pipeline) {
         Ok(Ticked { clock, served }) => {

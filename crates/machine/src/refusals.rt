@@ -29,6 +29,7 @@ pub fn refusal_line(machine: Machine, input: u64, output: u64, refused: Refused)
     ensures line { (b : Book) (t : TurnRuns) (p : PipelineRuns) → refusal_told (Some result)
         ≡ refusal_of (machine_lent machine b t p) input output (number refused) }
     ensures refused { 1 ≤ result.number }
+    ensures known { result.number ≤ 15 }
 {
     let number = u32::from(refused);
     if !machine.running {
