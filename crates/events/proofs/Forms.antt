@@ -1,24 +1,14 @@
 -- A machine that is not running after steps and calls of `feed` was not before, and keeps its form. Assumes nothing.
-use mathlib.Core.Path.{◌≡◌, refl, ◌∙◌}
+use mathlib.Core.Path.{◌≡◌, refl}
 use mathlib.Core.Bool.{Bool, true, false, ◌&&◌}
 use mathlib.Core.List.{List, []}
 use Prim.Native.Nat.{ℕ, zero, suc}
 use lib.Dec.{eqb, ltb}
 use lib.ListN.{get_or}
 use Rattle.wsgs.specs.Text.{LF}
-use Rattle.wsgs.specs.Program.{Machine}
-use Rattle.machine.proofs.RecordLaws.{FormStays, form_stays, slot_form_stays}
+use Rattle.machine.proofs.RecordLaws.{FormStays, stays_same, stays_then, form_stays, slot_form_stays}
 use Rattle.events.specs.Feeding.{State, FeedOutcome, kept_reading, slot_step, record_step, record_end, byte_step, next_step, goes_on, step, steps, work, fed}
 use Rattle.events.proofs.Whole.{end_read, end_heading, byte_ends, byte_more}
-
-pub stays_same : (m : Machine) → FormStays m m
-stays_same m h = (h, refl)
-
-pub stays_then : (m m' m'' : Machine) → FormStays m m' → FormStays m' m'' → FormStays m m''
-stays_then m m' m'' f g h =
-    let later = g h in
-    let first = f later.0 in
-    (first.0, later.1 ∙ first.1)
 
 -- THE STEPS: a slot, and a byte
 module _ (s : State) where

@@ -2,8 +2,8 @@
 use mathlib.Core.List.{List}
 use Prim.Native.Nat.{ℕ, zero, suc}
 use lib.ListN.{length, drop}
-use Rattle.machine.proofs.RecordLaws.{FormStays}
-use Rattle.events.proofs.Forms.{stays_same, stays_then, fed_stays}
+use Rattle.machine.proofs.RecordLaws.{FormStays, stays_same, stays_then}
+use Rattle.events.proofs.Forms.{fed_stays}
 use Rattle.feeding.specs.Texts.{TextState, next_call, calls}
 
 module _ (text : List ℕ) (first : TextState) where

@@ -63,21 +63,30 @@ module _ (m : Program.Machine) (x y : ℕ) where
 abbrev pub FormStays : (before after : Program.Machine) → Type 0
 FormStays m m' = m'.running ≡ false → (m.running ≡ false) × (m'.form ≡ m.form)
 
+pub stays_same : (m : Program.Machine) → FormStays m m
+stays_same m h = (h, refl)
+
+pub stays_then : (m m' m'' : Program.Machine) → FormStays m m' → FormStays m' m'' → FormStays m m''
+stays_then m m' m'' f g h =
+    let later = g h in
+    let first = f later.0 in
+    (first.0, later.1 ∙ first.1)
+
 module _ (m : Program.Machine) where
   started_or : (b : Bool) (n : Program.Machine) → n.running ≡ true → FormStays m (pick b n m)
   started_or true n s h = absurd (false≢true (sym h ∙ s))
-  started_or false n s h = (h, refl)
+  started_or false n s h = stays_same m h
 
   pub form_stays : (r : Reading) → FormStays m (obey m r).machine
   unfolding obey run_start run_call
-  form_stays (Records.Refused number) h = (h, refl)
-  form_stays (Records.Request Start x y z) h = started_or _ _ refl h
-  form_stays (Records.Request Pipe x y z) h = started_or _ _ refl h
-  form_stays (Records.Request Book x y z) h = (h, refl)
-  form_stays (Records.Request Release x y z) h = (h, refl)
-  form_stays (Records.Request Arrive x y z) h = (h, refl)
-  form_stays (Records.Request Tick x y z) h = (h, refl)
+  form_stays (Records.Refused number) = stays_same m
+  form_stays (Records.Request Start x y z) = started_or _ _ refl
+  form_stays (Records.Request Pipe x y z) = started_or _ _ refl
+  form_stays (Records.Request Book x y z) = stays_same m
+  form_stays (Records.Request Release x y z) = stays_same m
+  form_stays (Records.Request Arrive x y z) = stays_same m
+  form_stays (Records.Request Tick x y z) = stays_same m
 
   pub slot_form_stays : FormStays m (run_slot m).machine
   unfolding run_slot
-  slot_form_stays h = (h, refl)
+  slot_form_stays = stays_same m

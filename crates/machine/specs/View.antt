@@ -3,6 +3,7 @@ use Rattle.std.specs.Prelude.{◌≡◌, ℕ, Result, Ok, Err}
 use Rattle.std.specs.Result.{result_err, result_unwrap_or}
 use Rattle.wsgs.specs.declared.Clock.{Clock}
 use Rattle.wsgs.specs.declared.Refused.{Refused}
+use Rattle.wsgs.specs.declared.Refused.TheVariants.{Sharing}
 use Rattle.wsgs.specs.declared.RefusalLine.{RefusalLine}
 use Rattle.wsgs.specs.declared.Request.{Request}
 use Rattle.wsgs.specs.declared.Ticked.{Ticked}
@@ -44,6 +45,10 @@ book_in r = book_of r.slots.now r.rates.now
 
 abbrev pub machine_of : Machine → SwitchRuns → Program.Machine
 machine_of m r = machine_lent m (book_in r) r.turns r.pipeline
+
+-- the largest number that a `Refused` has
+abbrev pub last_number : ℕ
+last_number = number Sharing
 
 -- after a call these are still the same loans
 pub record SameSwitchRuns (before after : SwitchRuns) : Type 0 where

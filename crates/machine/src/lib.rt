@@ -8,7 +8,7 @@ mod slots;
 ghost use Rattle.std.specs.Prelude.{◌≡◌, ◌≤◌, IfErr};
 ghost use Rattle.wsgs.specs.Program.{obey, run_slot};
 ghost use Rattle.wsgs.specs.Told.{reading_of, book_lent, SameTurnRuns, SamePipelineRuns};
-ghost use Rattle.machine.specs.View.{machine_lent, machine_of, SameSwitchRuns, record_outcome_of, slot_outcome_of};
+ghost use Rattle.machine.specs.View.{last_number, machine_lent, machine_of, SameSwitchRuns, record_outcome_of, slot_outcome_of};
 
 use calls::obey_request;
 use refusals::{number_alone, refusal_line};
@@ -74,7 +74,7 @@ pub fn obey(
     ensures outcome { record_outcome_of result runs.new
         ≡ obey (machine_of machine runs.old) (reading_of reading) }
     ensures refused { IfErr result.outcome (λ line. 1 ≤ line.number) }
-    ensures known { IfErr reading (λ number. number ≤ 15) → IfErr result.outcome (λ line. line.number ≤ 15) }
+    ensures known { IfErr reading (λ number. number ≤ last_number) → IfErr result.outcome (λ line. line.number ≤ last_number) }
 {
     let request = match reading {
         Ok(request) => request,
@@ -115,7 +115,7 @@ pub fn run_slot(
     ensures outcome { slot_outcome_of result (book_lent book.entry) turns.new pipeline.new
         ≡ run_slot (machine_lent machine (book_lent book.entry) turns.old pipeline.old) }
     ensures refused { IfErr result.outcome (λ line. 1 ≤ line.number) }
-    ensures known { IfErr result.outcome (λ line. line.number ≤ 15) }
+    ensures known { IfErr result.outcome (λ line. line.number ≤ last_number) }
 {
     match run_tick(machine, book, turns, pipeline) {
         Ok(Ticked { clock, served }) => {

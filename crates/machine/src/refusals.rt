@@ -5,7 +5,7 @@ ghost use Rattle.wsgs.specs.declared.PipelineRuns.{PipelineRuns};
 ghost use Rattle.wsgs.specs.Bookings.{Book};
 ghost use Rattle.wsgs.specs.Program.{number_alone, refusal_of};
 ghost use Rattle.wsgs.specs.Told.{number, refusal_told};
-ghost use Rattle.machine.specs.View.{machine_lent};
+ghost use Rattle.machine.specs.View.{last_number, machine_lent};
 
 use crate::Machine;
 use wsgs::{RefusalLine, Refused};
@@ -29,7 +29,7 @@ pub fn refusal_line(machine: Machine, input: u64, output: u64, refused: Refused)
     ensures line { (b : Book) (t : TurnRuns) (p : PipelineRuns) → refusal_told (Some result)
         ≡ refusal_of (machine_lent machine b t p) input output (number refused) }
     ensures refused { 1 ≤ result.number }
-    ensures known { result.number ≤ 15 }
+    ensures known { result.number ≤ last_number }
 {
     let number = u32::from(refused);
     if !machine.running {

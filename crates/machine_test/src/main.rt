@@ -1,6 +1,6 @@
 // Records and slots at the edges of what a machine does, a line for each case: what is left to run or handed out, or the fields of the refusal's line.
-// `stdout` was worked out by hand from the rules, and of readings by other numbers than 12 to 14, and of machines that have not been started, from
-// specs/Program of wsgs.
+// The lines of `stdout` were checked by hand: against the rules, and those of readings by other numbers than 12 to 14 and of machines that have not been
+// started against specs/Program of wsgs.
 #![tactic(auto)]
 
 use machine::{Machine, RecordResult, SlotResult, SwitchRuns, obey, run_slot};
